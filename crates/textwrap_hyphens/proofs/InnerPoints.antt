@@ -4,7 +4,7 @@ use Rattle.textwrap_hyphens.proofs.Common.{arith, drop, length, take, zero, suc,
 use Rattle.textwrap_hyphens.proofs.Common.{get_or, Bool}
 use Rattle.textwrap_hyphens.proofs.Common.{All, All-cons, All-head, All-nil, All-tail, cond, filter}
 use Rattle.textwrap_hyphens.proofs.Common.{length-map, map, range_with_len, subst, sym, ⊤}
-use Rattle.std.specs.Prelude.{IfSome, IsCharBoundary, None, Option, Some, chars, encode_utf8, unwrap_or, not, ◌&&◌}
+use Rattle.std.specs.Prelude.{IfSome, IsCharBoundary, None, Option, Some, chars, encode_utf8, unwrap_or, not, ◌&&◌, ◌==◌}
 use Rattle.std.specs.List.{list_any}
 use Rattle.std.proofs.lemmas.List.{drop-map}
 use Rattle.textwrap_text.proofs.Common.{All-map, All-weaker, IsUtf8, length-drop, length-take}
@@ -24,7 +24,8 @@ use Rattle.textwrap_patterns.specs.Letters.{is_hyphen_character, is_kept, is_let
 use Rattle.textwrap_patterns.specs.Letters.{letter_at, letters_among}
 use Rattle.textwrap_patterns.specs.Letters.{letters_of, run_len}
 use Rattle.textwrap_patterns.specs.Places.{AreInnerPlaces, IsNextPlace}
-use Rattle.textwrap_hyphens.specs.Points.{points_in, hyphenation_points, points_past}
+use Rattle.textwrap_hyphens.specs.Points.{hyphenation_points, is_behind_soft, pattern_points, points_at}
+use Rattle.textwrap_hyphens.specs.Points.{points_in, points_past, soft_places, soft_points}
 use Rattle.textwrap_patterns.specs.declared.letters.Letter.{Letter}
 
 -- ---- places
@@ -290,13 +291,37 @@ past-cuts h text (suc most) (c ∷ cs) low last inner fits le stand =
     ] in
     by refl
 
-pub points-cuts : (h : Hyphenation) (word : List ℕ) → IsUtf8 word → AreInner h.exception
-    → AreInnerCuts word (hyphenation_points h word)
-points-cuts h word utf8 inner =
+pattern-cuts : (h : Hyphenation) (word : List ℕ) → IsUtf8 word → AreInner h.exception
+    → AreInnerCuts word (pattern_points h (letters_of word))
+pattern-cuts h word utf8 inner =
     elim (not h.in_parts && list_any (λ c. is_hyphen_character c.ch) (letters_of word))
     as (λ b. AreInnerCuts word (cond b [] (points_past h 0 (letters_of word)))) [
       | true ↦ tt
       | false ↦ past-cuts h word (length (letters_of word)) (letters_of word) 0 0 inner
           (omega arith)
           (omega arith) (letters-stand word utf8)
+    ]
+
+-- places of letters, which increase, are cuts where the letters begin
+soft-cuts : (h : Hyphenation) (word : List ℕ) → IsUtf8 word
+    → AreInnerCuts word (soft_points h word (letters_of word))
+soft-cuts h word utf8 =
+    let letters = letters_of word in
+    let ats = map (λ (c : Letter). c.at) letters in
+    let size : length ats ≡ length letters = length-map letters (λ (c : Letter). c.at) in
+    elim h.soft_hyphens as (λ b. AreInnerCuts word (cond b (points_at letters (soft_places word letters)) [])) [
+      | true ↦ run-cuts word 0 ats (soft_places word letters) 0 0 (letters-stand word utf8)
+          (places-filter (λ place. is_behind_soft word (get_or ats place 0)) (length ats) 1 (length letters - 1) 0
+          (omega arith) (λ some. omega (arith, size, some))) (omega arith)
+      | false ↦ tt
+    ]
+
+pub points-cuts : (h : Hyphenation) (word : List ℕ) → IsUtf8 word → AreInner h.exception
+    → AreInnerCuts word (hyphenation_points h word)
+points-cuts h word utf8 inner =
+    elim (length (soft_points h word (letters_of word)) == 0)
+    as (λ b. AreInnerCuts word
+    (cond b (pattern_points h (letters_of word)) (soft_points h word (letters_of word)))) [
+      | true ↦ pattern-cuts h word utf8 inner
+      | false ↦ soft-cuts h word utf8
     ]

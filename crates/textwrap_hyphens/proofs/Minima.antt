@@ -23,10 +23,10 @@ first-of true b c is = refl
 first-of false true c is = absurd (false≢true is)
 first-of false false c is = absurd (false≢true is)
 
--- sealed numbers are at least twelve
-pub sealed-long : (words : List ℕ) → is_sealed words ≡ true → 12 ≤ length words
+-- sealed numbers are at least thirteen
+pub sealed-long : (words : List ℕ) → is_sealed words ≡ true → 13 ≤ length words
 sealed-long words is =
-    leb-true 12 (length words) (first-of (nat_le 12 (length words)) (slice_index words 0 == version)
+    leb-true 13 (length words) (first-of (nat_le 13 (length words)) (slice_index words 0 == version)
     (from_end 1 words == sum_of (take (length words - 1) words)) is)
 
 -- the number behind some becomes another
@@ -110,7 +110,7 @@ minima-sealed words l r is =
     let before = front ++ l ∷ r ∷ [] in
     let size = length-take (n - 3) words in
     let begins : slice_index words 0 ≡ version =
-    eqb-true (slice_index words 0) version (second-of (nat_le 12 n) (slice_index words 0 == version)
+    eqb-true (slice_index words 0) version (second-of (nat_le 13 n) (slice_index words 0 == version)
     (from_end 1 words == sum_of (take (n - 1) words)) is) in
     is-sealed before (sum_of before) (omega (arith, length-append front (l ∷ r ∷ []), size, long))
     (get_or_append_left front (l ∷ r ∷ []) 0 0 (omega (arith, size, long))
@@ -132,6 +132,7 @@ same-lists h other d l r a b one two = (
       ∙ sym (ap (λ (h : Hyphenation). h.compound_left) two),
   ap (λ (h : Hyphenation). h.compound_right) one
       ∙ sym (ap (λ (h : Hyphenation). h.compound_right) two),
+  ap (λ (h : Hyphenation). h.changed) one ∙ sym (ap (λ (h : Hyphenation). h.changed) two),
 )
 
 -- numbers that say what is listed, whatever the last three are
@@ -148,8 +149,8 @@ lists-kept front left right sum d says = λ l r.
     (ap (λ w. held_in w false) is ∙ says l r total) (says left right sum)
 
 same-fields : (j k f g : List ℕ → ℕ → ℕ) (m n : ℕ) (p q : List ℕ → Option (List ℕ))
-    (a b c d s t u v : ℕ) (parts : Bool) → j ≡ k → f ≡ g → m ≡ n → p ≡ q → a ≡ b → c ≡ d → s ≡ t
-    → u ≡ v
+    (a b c d s t u v x y : ℕ) (parts : Bool) → j ≡ k → f ≡ g → m ≡ n → p ≡ q → a ≡ b → c ≡ d → s ≡ t
+    → u ≡ v → x ≡ y
     → (let h : Hyphenation = record {
       joint_from = j;
       level_from = f;
@@ -159,7 +160,9 @@ same-fields : (j k f g : List ℕ → ℕ → ℕ) (m n : ℕ) (p q : List ℕ �
       right = c;
       compound_left = s;
       compound_right = u;
+      changed = x;
       in_parts = parts;
+      soft_hyphens = false;
     } in h) ≡ record {
       joint_from = k;
       level_from = g;
@@ -169,10 +172,12 @@ same-fields : (j k f g : List ℕ → ℕ → ℕ) (m n : ℕ) (p q : List ℕ �
       right = d;
       compound_left = t;
       compound_right = v;
+      changed = y;
       in_parts = parts;
+      soft_hyphens = false;
     }
-same-fields j k f g m n p q a b c d s t u v parts nought one two three four five six seven =
-    rw (nought, one, two, three, four, five, six, seven) refl
+same-fields j k f g m n p q a b c d s t u v x y parts nought one two three four five six seven eight =
+    rw (nought, one, two, three, four, five, six, seven, eight) refl
 
 -- so a dictionary has other minima, and is as it was otherwise
 pub minima-held : (words : List ℕ) (l r : ℕ) (parts : Bool) → KeepsLists words
@@ -183,12 +188,12 @@ minima-held words l r parts kept =
     let tail = l ∷ r ∷ sum_of before ∷ [] in
     let ends = append_assoc front (l ∷ r ∷ []) (sum_of before ∷ []) in
     let same = kept l r in
-    same-fields _ _ _ _ _ _ _ _ _ _ _ _ _ _ _ _ parts
+    same-fields _ _ _ _ _ _ _ _ _ _ _ _ _ _ _ _ _ _ parts
     (fun_ext λ text. fun_ext λ place. same.0 text place)
     (fun_ext λ text. fun_ext λ place. same.1 text place) same.2
     (fun_ext λ letters. same.3 letters)
     (ap (from_end 3) ends ∙ from_end-tail front tail 3 (omega arith))
-    (ap (from_end 2) ends ∙ from_end-tail front tail 2 (omega arith)) same.4 same.5
+    (ap (from_end 2) ends ∙ from_end-tail front tail 2 (omega arith)) same.4 same.5 same.6
 
 -- and they may become others again
 pub still-kept : (words : List ℕ) (l r : ℕ) → KeepsLists words → KeepsLists (with_minima l r words)
@@ -207,6 +212,7 @@ still-kept words l r kept = λ left right.
       (λ letters. other.3 letters ∙ sym (one.3 letters)),
       other.4 ∙ sym one.4,
       other.5 ∙ sym one.5,
+      other.6 ∙ sym one.6,
     )
 
 pub minima-length : (words : List ℕ) (l r : ℕ) → is_sealed words ≡ true

@@ -7,7 +7,7 @@ use Rattle.textwrap_hyphens.proofs.Common.{◌≡◌, ◌≤◌}
 use Rattle.textwrap_hyphens.proofs.TableOf.{from_end-tail}
 use Rattle.textwrap_hyphens.specs.Seal.{from_end, is_sealed, sum_of, version}
 
-pub is-sealed : (first : List ℕ) (sum : ℕ) → 11 ≤ length first → slice_index first 0 ≡ version
+pub is-sealed : (first : List ℕ) (sum : ℕ) → 12 ≤ length first → slice_index first 0 ≡ version
     → sum ≡ sum_of first → is_sealed (first ++ sum ∷ []) ≡ true
 is-sealed [] sum long begins is = absurd (omega (arith, long))
 is-sealed (v ∷ rest) sum long begins is =
@@ -18,7 +18,7 @@ is-sealed (v ∷ rest) sum long begins is =
     ∙ take-append_seam (v ∷ rest) (sum ∷ []) in
     let last : from_end 1 words ≡ sum = from_end-tail (v ∷ rest) (sum ∷ []) 1 (omega arith) in
     rw (
-      le-leb 12 (length words) (omega (arith, size, long)),
+      le-leb 13 (length words) (omega (arith, size, long)),
       last,
       before,
       eq-eqb sum (sum_of (v ∷ rest)) is,

@@ -95,8 +95,8 @@ joints-say [] levels text place is = refl
 joints-say (j ∷ js) levels text place is = is
 
 abbrev said : (List ℕ → ℕ → ℕ) → (List ℕ → ℕ → ℕ) → ℕ → (List ℕ → Option (List ℕ)) → ℕ → ℕ → ℕ → ℕ
-    → Hyphenation
-said j f m p left right compound_left compound_right = record {
+    → ℕ → Hyphenation
+said j f m p left right compound_left compound_right changed = record {
   joint_from = j;
   level_from = f;
   longest = m;
@@ -105,14 +105,16 @@ said j f m p left right compound_left compound_right = record {
   right = right;
   compound_left = compound_left;
   compound_right = compound_right;
+  changed = changed;
   in_parts = false;
+  soft_hyphens = false;
 }
 
 same-said : (j k f g : List ℕ → ℕ → ℕ) (m n : ℕ) (p q : List ℕ → Option (List ℕ))
-    (a b c d s t u v : ℕ) → j ≡ k → f ≡ g → m ≡ n → p ≡ q → a ≡ b → c ≡ d → s ≡ t → u ≡ v
-    → said j f m p a c s u ≡ said k g n q b d t v
-same-said j k f g m n p q a b c d s t u v nought one two three four five six seven =
-    rw (nought, one, two, three, four, five, six, seven) refl
+    (a b c d s t u v x y : ℕ) → j ≡ k → f ≡ g → m ≡ n → p ≡ q → a ≡ b → c ≡ d → s ≡ t → u ≡ v → x ≡ y
+    → said j f m p a c s u x ≡ said k g n q b d t v y
+same-said j k f g m n p q a b c d s t u v x y nought one two three four five six seven eight =
+    rw (nought, one, two, three, four, five, six, seven, eight) refl
 
 -- the levels by the trie at a root, behind which other numbers stand
 levels-say : {A : Type 0} (words : List ℕ) (root at longest_at longest_key : ℕ) (es : List (TrieEntry A))
@@ -126,7 +128,7 @@ levels-say words root at longest_at longest_key es here size all levels text pla
     ∙ levels (take longest_key text) place
     ∙ patterns-say longest_key es text place (omega (arith, all))
 
--- numbers behind which these eleven stand
+-- numbers behind which these twelve stand
 pub table-says : {A : Type 0} (body : List ℕ) (n jo jm ex pa m sum : ℕ) (es : Entries A) (mins : Minima)
     → n ≡ length es.joints.items → jm ≡ longest (map pattern_of es.joints.items)
     → m ≡ longest (map pattern_of es.patterns.items)
@@ -137,15 +139,15 @@ pub table-says : {A : Type 0} (body : List ℕ) (n jo jm ex pa m sum : ℕ) (es 
     ≡ greatest_number es.patterns.items text place)
     → ((more key : List ℕ) → trie.numbers_for key (body ++ more) ex
     ≡ entry_for 0 es.exceptions.items key)
-    → held_in (body ++ n ∷ jo ∷ jm ∷ mins.compound_left ∷ mins.compound_right ∷ ex ∷ pa ∷ m ∷ mins.left ∷ mins.right ∷ sum ∷ []) false
+    → held_in (body ++ es.changed ∷ n ∷ jo ∷ jm ∷ mins.compound_left ∷ mins.compound_right ∷ ex ∷ pa ∷ m ∷ mins.left ∷ mins.right ∷ sum ∷ []) false
     ≡ hyphenation_by (entries_view es mins)
 table-says body n jo jm ex pa m sum es mins count joint_size size inner joints levels keys =
-    let tail = n ∷ jo ∷ jm ∷ mins.compound_left ∷ mins.compound_right ∷ ex ∷ pa ∷ m ∷ mins.left ∷ mins.right ∷ sum ∷ [] in
+    let tail = es.changed ∷ n ∷ jo ∷ jm ∷ mins.compound_left ∷ mins.compound_right ∷ ex ∷ pa ∷ m ∷ mins.left ∷ mins.right ∷ sum ∷ [] in
     let words = body ++ tail in
     let js = es.joints.items in
     let all : n ≡ length (map pattern_of js) = count ∙ sym (length-map js pattern_of) in
     let joint_levels = levels_at words (from_end 10 words) (from_end 9 words) in
-    same-said _ _ _ _ _ _ _ _ _ _ _ _ _ _ _ _
+    same-said _ _ _ _ _ _ _ _ _ _ _ _ _ _ _ _ _ _
     (fun_ext λ text. fun_ext λ place.
     ap (λ k. levels_if k joint_levels text place) (from_end-tail body tail 11 (omega arith) ∙ all)
     ∙ joints-say (map pattern_of js) joint_levels text place
@@ -166,3 +168,4 @@ table-says body n jo jm ex pa m sum es mins count joint_size size inner joints l
     (from_end-tail body tail 2 (omega arith))
     (from_end-tail body tail 8 (omega arith))
     (from_end-tail body tail 7 (omega arith))
+    (from_end-tail body tail 12 (omega arith))

@@ -52,7 +52,7 @@ sealed-if false b c is = absurd (false≢true is)
 sealed-last : (words : List ℕ) → is_sealed words ≡ true
     → from_end 1 words ≡ sum_of (take (length words - 1) words)
 sealed-last words is = eqb-true (from_end 1 words) (sum_of (take (length words - 1) words))
-    (sealed-if (nat_le 12 (length words)) (slice_index words 0 == version)
+    (sealed-if (nat_le 13 (length words)) (slice_index words 0 == version)
     (from_end 1 words == sum_of (take (length words - 1) words)) is)
 
 -- what stands before the last of some numbers, and that

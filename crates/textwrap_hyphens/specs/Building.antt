@@ -21,4 +21,5 @@ entries_view entries minima = record {
   right = minima.right;
   compound_left = minima.compound_left;
   compound_right = minima.compound_right;
+  changed = entries.changed;
 }

@@ -10,8 +10,9 @@ use Rattle.textwrap_hyphens.specs.Levels.{dotted, level, pattern_level_from, lon
 -- what a dictionary says: the greatest level that patterns at the beginning of a text have at a place
 -- of it, first those of the joints of compounds, then those of their parts, how many letters these have at
 -- most, the places of an exception with some letters, how many letters stay before the first hyphen and
--- behind the last, and between a joint and a hyphen behind it or before it, and whether the parts of a
--- word with hyphens are hyphenated
+-- behind the last, and between a joint and a hyphen behind it or before it, at how many patterns letters
+-- would change, whether the parts of a word with hyphens are hyphenated, and whether soft hyphens are the
+-- only points of a word that has them
 pub record Hyphenation : Type 0 where
   pub joint_from : List ℕ → ℕ → ℕ
   pub level_from : List ℕ → ℕ → ℕ
@@ -21,7 +22,9 @@ pub record Hyphenation : Type 0 where
   pub right : ℕ
   pub compound_left : ℕ
   pub compound_right : ℕ
+  pub changed : ℕ
   pub in_parts : Bool
+  pub soft_hyphens : Bool
 
 -- the places of the first exception with these letters, if there is one
 abbrev pub exception_for : List ExceptionText → List ℕ → Option (List ℕ)
@@ -40,7 +43,9 @@ hyphenation_by d = record {
   right = d.right;
   compound_left = d.compound_left;
   compound_right = d.compound_right;
+  changed = d.changed;
   in_parts = false;
+  soft_hyphens = false;
 }
 
 -- the level of a place inside a word is odd

@@ -1,8 +1,8 @@
 -- A dictionary in one list of numbers: a version, a trie of patterns, one of exceptions and one of
--- joints, and at the end how many patterns of joints there are, the place of their root, the letters of
--- the longest, the letters between a joint and a hyphen on its two sides, the places of the roots of
--- exceptions and of patterns, the letters of the longest pattern, the letters before and behind a hyphen,
--- and a sum of all before it.
+-- joints, and at the end at how many patterns letters would change, how many patterns of joints there
+-- are, the place of their root, the letters of the longest, the letters between a joint and a hyphen on
+-- its two sides, the places of the roots of exceptions and of patterns, the letters of the longest
+-- pattern, the letters before and behind a hyphen, and a sum of all before it.
 use Rattle.std.specs.Prelude.{◌≡◌, ℕ, zero, suc, Bool, List, false, length, take}
 use Rattle.textwrap_trie.specs.Trie.{level_from, numbers_for}
 use Rattle.textwrap_hyphens.specs.Hyphenation.{Hyphenation}
@@ -30,7 +30,9 @@ held_in words in_parts = record {
   right = from_end 2 words;
   compound_left = from_end 8 words;
   compound_right = from_end 7 words;
+  changed = from_end 12 words;
   in_parts = in_parts;
+  soft_hyphens = false;
 }
 
 -- patterns and exceptions say the same
@@ -41,6 +43,7 @@ ListTheSame h other =
     × (h.longest ≡ other.longest)
     × ((letters : List ℕ) → h.exception letters ≡ other.exception letters)
     × (h.compound_left ≡ other.compound_left) × (h.compound_right ≡ other.compound_right)
+    × (h.changed ≡ other.changed)
 
 -- as they do in these numbers, whatever the minima become
 abbrev pub KeepsLists : List ℕ → Type 0

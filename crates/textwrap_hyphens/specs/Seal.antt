@@ -5,7 +5,7 @@ use Rattle.std.specs.Prelude.{length, nat_le, slice_index, take}
 
 -- "Twh" and a number, which is raised where the layout changes
 abbrev pub version : ℕ
-version = 0x54776803
+version = 0x54776804
 
 -- the nth number from the end
 abbrev pub from_end : ℕ → List ℕ → ℕ
@@ -22,7 +22,7 @@ sum_of words = summed 0 words
 -- the version and the sum are right: they are not any more if one number becomes another
 abbrev pub is_sealed : List ℕ → Bool
 is_sealed words =
-    nat_le 12 (length words) && (slice_index words 0 == version)
+    nat_le 13 (length words) && (slice_index words 0 == version)
     && (from_end 1 words == sum_of (take (length words - 1) words))
 
 -- the numbers with other numbers of letters before and behind a hyphen, and the sum of these

@@ -11,7 +11,11 @@ abbrev pub levels_by : PatternTrie → List ℕ → ℕ → ℕ
 levels_by t = levels_at t.words.now t.root t.longest
 
 abbrev pub held : PatternTable → Hyphenation
-held table = held_in table.words.now table.in_parts
+held table = record (held_in table.words.now table.in_parts) {
+  left = table.left;
+  right = table.right;
+  soft_hyphens = table.soft_hyphens;
+}
 
 abbrev pub patterns_view : {A : Type 0} → Patterns A → Hyphenation
 patterns_view patterns = held_in patterns.words.items patterns.in_parts

@@ -21,6 +21,7 @@ pub(crate) struct Entries<A: Allocator> {
     pub(crate) joints: Vec<TrieEntry<A>, A>,
     pub(crate) patterns: Vec<TrieEntry<A>, A>,
     pub(crate) exceptions: Vec<TrieEntry<A>, A>,
+    pub(crate) changed: usize,
 }
 
 /// How many letters stay before a hyphen and behind it, in a word and between it and a joint.
@@ -117,6 +118,7 @@ pub(crate) fn write_table<A: Allocator + Copy>(
     ensures sealed { IfOk result (λ words. is_sealed words.items ≡ true) }
     ensures kept { IfOk result (λ words. KeepsLists words.items) }
 {
+    let changed = listed.changed;
     let count = listed.joints.len();
     let longest_joint = longest_key(&listed.joints);
     let longest = longest_key(&listed.patterns);
@@ -126,6 +128,7 @@ pub(crate) fn write_table<A: Allocator + Copy>(
     let exceptions = push_entries(alloc, &mut words, listed.exceptions, Rule::First)?;
     let joints = push_entries(alloc, &mut words, listed.joints, Rule::Greatest)?;
     words.extend_from_slice(&[
+        changed,
         count,
         joints,
         longest_joint,

@@ -57,6 +57,7 @@ impl<A: Allocator + Copy> Patterns<A> {
             right,
             compound_left: 0,
             compound_right: 0,
+            changed: 0,
         };
         Patterns::listed(alloc, reading)
     }
@@ -76,6 +77,7 @@ impl<A: Allocator + Copy> Patterns<A> {
             joints: pattern_entries(alloc, reading.joints)?,
             patterns: pattern_entries(alloc, reading.patterns)?,
             exceptions: exception_entries(alloc, reading.exceptions)?,
+            changed: reading.changed,
         };
         let minima = Minima {
             left: reading.left,

@@ -8,7 +8,8 @@ ghost use Rattle.textwrap_patterns.specs.Places.{AreInnerPlaces};
 ghost use Rattle.textwrap_hyphens.specs.Hyphenation.{is_allowed, is_far, is_place, joints_of, part};
 ghost use Rattle.textwrap_hyphens.specs.Hyphenation.{part_places, places_from, places_of};
 ghost use Rattle.textwrap_hyphens.specs.Levels.{levels_of};
-ghost use Rattle.textwrap_hyphens.specs.Points.{points_in, hyphenation_points, points_past};
+ghost use Rattle.textwrap_hyphens.specs.Points.{hyphenation_points, is_behind_soft, pattern_points, points_at};
+ghost use Rattle.textwrap_hyphens.specs.Points.{points_in, points_past, soft_places, soft_points};
 ghost use Rattle.textwrap_hyphens.specs.Table.{held};
 
 use crate::levels::{is_odd, joints, levels};
@@ -24,7 +25,8 @@ use textwrap_patterns::letters::{
 /// Each longest run of letters is a word for itself: of `"(hyphenation),"` the letters between the
 /// parentheses. An apostrophe (U+0027 or U+2019) between letters does not end it. Soft hyphens
 /// (U+00AD) and escape sequences (ECMA-48) are left out, so the letters beside them stand next to
-/// each other. A word with a hyphen (`-` or U+2010) has no points, unless the dictionary is asked
+/// each other; a table may take soft hyphens for the only points, by [`PatternTable::soft_hyphens`]. A
+/// word with a hyphen (`-` or U+2010) has no points, unless the dictionary is asked
 /// for its parts. No point that patterns give stands before a combining mark or beside an
 /// apostrophe.
 ///
@@ -39,11 +41,78 @@ pub fn points<A: Allocator + Copy>(
         ≡ hyphenation_points (held patterns.now) word.now) }
     ensures cuts { IfOk result (λ points. AreInnerCuts word.now points.items) }
 {
+    found_points(alloc, word, patterns)
+}
+
+/// The points of soft hyphens, else those of the patterns.
+fn found_points<A: Allocator + Copy>(
+    alloc: A,
+    word: &str,
+    patterns: &PatternTable<'_>,
+) -> Result<Vec<usize, A>, AllocError>
+    ensures { IfOk result (λ points. points.items ≡ hyphenation_points (held patterns.now) word.now) }
+{
     let letters = letters_of(alloc, word)?;
-    if is_left_whole(&letters, patterns) {
+    let points = soft_points(alloc, word.as_bytes(), &letters, patterns)?;
+    if !points.is_empty() {
+        return Ok(points);
+    }
+    pattern_points(alloc, &letters, patterns)
+}
+
+/// The points that soft hyphens give, if they are asked for.
+fn soft_points<A: Allocator + Copy>(
+    alloc: A,
+    word: &[u8],
+    letters: &[Letter],
+    patterns: &PatternTable<'_>,
+) -> Result<Vec<usize, A>, AllocError>
+    ensures { IfOk result (λ points. points.items ≡ soft_points (held patterns.now) word.now letters.now) }
+{
+    let mut points = Vec::new(alloc);
+    if patterns.has_soft_hyphens() {
+        let places = soft_places(alloc, word, letters)?;
+        push_begins(&mut points, letters, &places)?;
+    }
+    Ok(points)
+}
+
+/// Before which letters but the first a soft hyphen stands.
+fn soft_places<A: Allocator>(
+    alloc: A,
+    word: &[u8],
+    letters: &[Letter],
+) -> Result<Vec<usize, A>, AllocError>
+    ensures { IfOk result (λ places. places.items ≡ soft_places word.now letters.now) }
+{
+    let mut places = Vec::new(alloc);
+    for place in 1..letters.len() {
+        if is_behind_soft(word, letters[place].at) {
+            places.push(place)?;
+        }
+    }
+    Ok(places)
+}
+
+/// Whether the bytes of a soft hyphen stand directly before an offset.
+fn is_behind_soft(word: &[u8], at: usize) -> bool
+    ensures { result ≡ is_behind_soft word.now at }
+{
+    2 <= at && at <= word.len() && word[at - 2] == 0xc2 && word[at - 1] == 0xad
+}
+
+/// The points that the patterns give.
+fn pattern_points<A: Allocator + Copy>(
+    alloc: A,
+    letters: &[Letter],
+    patterns: &PatternTable<'_>,
+) -> Result<Vec<usize, A>, AllocError>
+    ensures { IfOk result (λ points. points.items ≡ pattern_points (held patterns.now) letters.now) }
+{
+    if is_left_whole(letters, patterns) {
         return Ok(Vec::new(alloc));
     }
-    points_of_runs(alloc, &letters, patterns)
+    points_of_runs(alloc, letters, patterns)
 }
 
 /// Whether a word is left whole, as it has a hyphen and its parts are not asked for.
@@ -117,7 +186,7 @@ fn push_begins<A: Allocator>(
 ) -> Result<(), AllocError>
     requires { All (λ place. place < length run.now) places.now }
     ensures { OnOk result (points.new.items ≡ points.old.items
-        ++ map (λ place. slice_index (map (λ c. c.at) run.now) place) places.now) }
+        ++ points_at run.now places.now) }
 {
     for place in places {
         points.push(run[*place].at)?;

@@ -12,7 +12,7 @@ use textwrap_patterns::written::are_inner;
 use textwrap_trie::lookup::{numbers_for, raise_levels};
 
 /// What the first number of a table says: "Twh", and a number that is raised where the layout changes.
-pub(crate) const VERSION: usize = 0x5477_6803;
+pub(crate) const VERSION: usize = 0x5477_6804;
 
 /// A dictionary of hyphenation in numbers that somebody holds. They hold no address of memory, so
 /// they may be copied, and kept in a file.
@@ -20,6 +20,9 @@ pub(crate) const VERSION: usize = 0x5477_6803;
 pub struct PatternTable<'t> {
     words: &'t [usize],
     in_parts: bool,
+    left: usize,
+    right: usize,
+    soft_hyphens: bool,
 }
 
 impl<'t> PatternTable<'t> {
@@ -34,25 +37,56 @@ impl<'t> PatternTable<'t> {
             (λ table. (is_sealed words.now ≡ true) × (held table ≡ held_in words.now in_parts)) }
     {
         if is_sealed(words) {
-            Some(PatternTable { words, in_parts })
+            Some(PatternTable::of_unchecked(words, in_parts))
         } else {
             None
         }
     }
 
     /// The dictionary of these numbers, where the caller knows that they are one of this version. It
-    /// reads none of them. Numbers that are no dictionary give points that mean nothing, but nothing
+    /// tests none of them. Numbers that are no dictionary give points that mean nothing, but nothing
     /// outside of them is read. The call always succeeds.
     pub fn of_unchecked(words: &'t [usize], in_parts: bool) -> PatternTable<'t>
         ensures { held result ≡ held_in words.now in_parts }
     {
-        PatternTable { words, in_parts }
+        PatternTable {
+            words,
+            in_parts,
+            left: from_end(words, 3),
+            right: from_end(words, 2),
+            soft_hyphens: false,
+        }
     }
 
-    /// The numbers of the dictionary, from which [`PatternTable::of`] makes it again. The call always
-    /// succeeds.
+    /// The same dictionary, where a point has at least `left` letters before it and `right` behind
+    /// it, whatever its numbers say. The call always succeeds.
+    pub fn minima(self, left: usize, right: usize) -> PatternTable<'t>
+        ensures { held result ≡ record (held self.entry) { left = left; right = right } }
+    {
+        PatternTable {
+            left,
+            right,
+            ..self
+        }
+    }
+
+    /// The same dictionary, where soft hyphens (U+00AD) are the only points of a word in which a letter
+    /// stands directly behind one, or not. At first they are not. The call always succeeds.
+    pub fn soft_hyphens(self, soft_hyphens: bool) -> PatternTable<'t>
+        ensures { held result ≡ record (held self.entry) { soft_hyphens = soft_hyphens } }
+    {
+        PatternTable {
+            soft_hyphens,
+            ..self
+        }
+    }
+
+    /// The numbers of the dictionary, from which [`PatternTable::of`] makes it again, but for what
+    /// [`PatternTable::minima`] and [`PatternTable::soft_hyphens`] set. The call always succeeds.
     pub fn words(&self) -> &'t [usize]
-        ensures { held self.now ≡ held_in result.now (held self.now).in_parts }
+        ensures { held self.now ≡ record (held_in result.now (held self.now).in_parts) {
+            left = (held self.now).left; right = (held self.now).right;
+            soft_hyphens = (held self.now).soft_hyphens } }
     {
         self.words
     }
@@ -61,14 +95,21 @@ impl<'t> PatternTable<'t> {
     pub fn left(&self) -> usize
         ensures { result ≡ (held self.now).left }
     {
-        from_end(self.words, 3)
+        self.left
     }
 
     /// How many letters stay behind a point. The call always succeeds.
     pub fn right(&self) -> usize
         ensures { result ≡ (held self.now).right }
     {
-        from_end(self.words, 2)
+        self.right
+    }
+
+    /// At how many patterns letters would change, where no point is. The call always succeeds.
+    pub fn changed(&self) -> usize
+        ensures { result ≡ (held self.now).changed }
+    {
+        from_end(self.words, 12)
     }
 
     /// Whether the parts of a word with hyphens are hyphenated.
@@ -76,6 +117,13 @@ impl<'t> PatternTable<'t> {
         ensures { result ≡ (held self.now).in_parts }
     {
         self.in_parts
+    }
+
+    /// Whether soft hyphens are the only points of a word that has them.
+    pub(crate) fn has_soft_hyphens(&self) -> bool
+        ensures { result ≡ (held self.now).soft_hyphens }
+    {
+        self.soft_hyphens
     }
 
     /// The places of the exception with these letters.
@@ -180,7 +228,7 @@ fn from_end(words: &[usize], n: usize) -> usize
 pub fn is_sealed(words: &[usize]) -> bool
     ensures { result ≡ is_sealed words.now }
 {
-    words.len() >= 12
+    words.len() >= 13
         && words[0] == VERSION
         && from_end(words, 1) == sum_of(&words[..words.len() - 1])
 }

@@ -9,12 +9,12 @@ use Rattle.textwrap_patterns.proofs.Common.{◌≡◌, ◌⊎◌, ◌≤◌}
 use Rattle.textwrap_patterns.proofs.FirstWrong.{IsJudged, command-none, judged, of-word, wrong-says}
 use Rattle.textwrap_patterns.proofs.Skipped.{comment-skipped, list-behind, start-said}
 use Rattle.textwrap_patterns.specs.Charsets.{names_charset, plain_name}
-use Rattle.textwrap_patterns.specs.Entries.{Said, Pattern, Exception, Left, Right, CompoundLeft, CompoundRight}
+use Rattle.textwrap_patterns.specs.Entries.{Said, Pattern, Changed, Exception, Left, Right, CompoundLeft, CompoundRight}
 use Rattle.textwrap_patterns.specs.Entries.{NextGroup, Nothing, Wrong, begins, list_said, other_said}
 use Rattle.textwrap_patterns.specs.Faults.{IsFirstWrong, IsWrong, IsWrongLine, begins_word, groups_in}
 use Rattle.textwrap_patterns.specs.Faults.{is_of_line}
 use Rattle.textwrap_patterns.specs.Listed.{Listed}
-use Rattle.textwrap_patterns.specs.Parsing.{Outcome, and_then, count_fault, ended, is_skipped, is_tex, line_said}
+use Rattle.textwrap_patterns.specs.Parsing.{Outcome, and_then, count_fault, counted_on, ended, is_skipped, is_tex, line_said}
 use Rattle.textwrap_patterns.specs.Parsing.{no_patterns, parsed, unmarked, with_all, with_lines}
 use Rattle.textwrap_patterns.specs.declared.entries.Section.TheVariants.{Start, Listing}
 use Rattle.textwrap_patterns.specs.declared.errors.Fault.{Fault}
@@ -23,17 +23,17 @@ use Rattle.textwrap_patterns.specs.declared.errors.ParseError.TheVariants.{Memor
 
 -- ---- errors
 
-abbrev line_told : Outcome → ℕ
+abbrev pub line_told : Outcome → ℕ
 line_told (Ok h) = 0
 line_told (Err (Memory error)) = 0
 line_told (Err (Line n f)) = n
 
-abbrev fault_told : Outcome → Fault
+abbrev pub fault_told : Outcome → Fault
 fault_told (Ok h) = fault.Empty
 fault_told (Err (Memory error)) = fault.Empty
 fault_told (Err (Line n f)) = f
 
-abbrev is_told : Outcome → Bool
+abbrev pub is_told : Outcome → Bool
 is_told (Ok h) = false
 is_told (Err error) = true
 
@@ -43,16 +43,19 @@ is_told (Err error) = true
 abbrev Room : Listed → List (List ℕ) → Type 0
 Room h ls = (groups_in ls ≡ 0) ⊎ ((length h.joints ≡ 0) × (groups_in ls ≤ 1))
 
--- a line is wrong in one way, or it is not and reading goes on
-abbrev IsLine : ℕ → List Said → Listed → List (List ℕ) → (Fault → Type 0) → Type 0
-IsLine m saids h ls W =
+-- a line is wrong in one way, or it is not and reading goes on with this
+abbrev pub IsStep : (Listed → Type 0) → ℕ → List Said → Listed → (Fault → Type 0) → Type 0
+IsStep P m saids h W =
     ((f : Fault) × (with_all m saids h ≡ Err (Line m f)) × W f × ((g : Fault) → W g → g ≡ f))
-    ⊎ ((k : Listed) × (with_all m saids h ≡ Ok k) × Room k ls × ((g : Fault) → ¬ W g))
+    ⊎ ((k : Listed) × (with_all m saids h ≡ Ok k) × P k × ((g : Fault) → ¬ W g))
 
-module _ (m n : ℕ) (f : Fault) (saids : List Said) (h : Listed) (ls : List (List ℕ)) (W : Fault → Type 0)
+abbrev IsLine : ℕ → List Said → Listed → List (List ℕ) → (Fault → Type 0) → Type 0
+IsLine m saids h ls W = IsStep (λ k. Room k ls) m saids h W
+
+module _ (m n : ℕ) (f : Fault) (saids : List Said) (h : Listed) (P : Listed → Type 0) (W : Fault → Type 0)
     (Later : Type 0) (next : Listed → Outcome)
-    (rest : (k : Listed) → Room k ls → (next k ≡ Err (Line n f)) ↔ Later) where
-  line-to : IsLine m saids h ls W → and_then (with_all m saids h) next ≡ Err (Line n f)
+    (rest : (k : Listed) → P k → (next k ≡ Err (Line n f)) ↔ Later) where
+  pub line-to : IsStep P m saids h W → and_then (with_all m saids h) next ≡ Err (Line n f)
       → ((n ≡ m) × W f) ⊎ (((g : Fault) → ¬ W g) × Later)
   line-to (inl (g, is, wrong, one)) told =
       let same = sym (ap (λ o. and_then o next) is) ∙ told in
@@ -60,7 +63,7 @@ module _ (m n : ℕ) (f : Fault) (saids : List Said) (h : Listed) (ls : List (Li
   line-to (inr (k, is, room, none)) told =
       inr (none, (rest k room).0 (sym (ap (λ o. and_then o next) is) ∙ told))
 
-  line-from : IsLine m saids h ls W → ((n ≡ m) × W f) ⊎ (((g : Fault) → ¬ W g) × Later)
+  pub line-from : IsStep P m saids h W → ((n ≡ m) × W f) ⊎ (((g : Fault) → ¬ W g) × Later)
       → and_then (with_all m saids h) next ≡ Err (Line n f)
   line-from (inl (g, is, wrong, one)) (inl (here, own)) = ap (λ o. and_then o next) is
       ∙ ap (λ e. Err (Line m e)) (sym (one f own)) ∙ ap (λ l. Err (Line l f)) (sym here)
@@ -89,8 +92,9 @@ room-kept h k line ls same (inl none) = inl (omega (arith, none, groups-more lin
 room-kept h k line ls same (inr (joints, few)) = inr (same ∙ joints, omega (arith, few, groups-more line ls))
 
 -- it says nothing that is wrong
-abbrev IsRight : Said → Type 0
+abbrev pub IsRight : Said → Type 0
 IsRight (Pattern p) = ⊤
+IsRight (Changed p) = ⊤
 IsRight (Exception e) = ⊤
 IsRight (Left n) = ⊤
 IsRight (Right n) = ⊤
@@ -104,8 +108,9 @@ unright : (line : List ℕ) (said : Said) → list_said Listing line ≡ said �
     → IsWrong g line → ⊥
 unright line said is right g wrong = subst IsRight (sym is ∙ (wrong-says g line wrong).1) right
 
-abbrev fault_said : Said → Fault
+abbrev pub fault_said : Said → Fault
 fault_said (Pattern p) = fault.Empty
+fault_said (Changed p) = fault.Empty
 fault_said (Exception e) = fault.Empty
 fault_said (Left n) = fault.Empty
 fault_said (Right n) = fault.Empty
@@ -139,6 +144,8 @@ said-is : (m : ℕ) (line : List ℕ) (h : Listed) (ls : List (List ℕ)) (said 
     → IsLine m (said ∷ []) h ls (λ f. IsWrong f (trim line))
 said-is m line h ls (Pattern p) judge is room =
     goes-on m line h (record h { patterns = h.patterns ++ p ∷ [] }) ls (Pattern p) refl refl tt is room
+said-is m line h ls (Changed p) judge is room = goes-on m line h
+    (record h { patterns = h.patterns ++ p ∷ []; changed = counted_on h.changed }) ls (Changed p) refl refl tt is room
 said-is m line h ls (Exception e) judge is room =
     goes-on m line h (record h { exceptions = h.exceptions ++ e ∷ [] }) ls (Exception e) refl refl tt is room
 said-is m line h ls (Left n) judge is room =
@@ -264,8 +271,8 @@ lines-iff k (line ∷ ls) h n f room own =
     let rest : (j : Listed) → Room j ls
     → (with_lines m Listing ls j ≡ Err (Line n f)) ↔ IsFirstWrong m ls n f =
     λ j more. lines-iff (suc k) ls j n f more own in (
-      line-to m n f (line_said Listing line) h ls W (IsFirstWrong m ls n f) (with_lines m Listing ls) rest is,
-      line-from m n f (line_said Listing line) h ls W (IsFirstWrong m ls n f) (with_lines m Listing ls) rest is,
+      line-to m n f (line_said Listing line) h (λ j. Room j ls) W (IsFirstWrong m ls n f) (with_lines m Listing ls) rest is,
+      line-from m n f (line_said Listing line) h (λ j. Room j ls) W (IsFirstWrong m ls n f) (with_lines m Listing ls) rest is,
     )
 
 first-iff : (first : List ℕ) (ls : List (List ℕ)) (n : ℕ) (f : Fault) → is_tex first ≡ false
@@ -282,8 +289,8 @@ first-iff first ls n f list few own =
     λ j room. lines-iff 0 ls j n f room own in
     subst (λ s. (and_then (with_all 1 (line_said Start first) no_patterns) (with_lines 1 s ls) ≡ Err (Line n f))
     ↔ IsFirstWrong 0 (first ∷ ls) n f) (sym (list-behind first list)) (
-      line-to 1 n f (line_said Start first) no_patterns ls W (IsFirstWrong 1 ls n f) (with_lines 1 Listing ls) rest is,
-      line-from 1 n f (line_said Start first) no_patterns ls W (IsFirstWrong 1 ls n f) (with_lines 1 Listing ls) rest is,
+      line-to 1 n f (line_said Start first) no_patterns (λ j. Room j ls) W (IsFirstWrong 1 ls n f) (with_lines 1 Listing ls) rest is,
+      line-from 1 n f (line_said Start first) no_patterns (λ j. Room j ls) W (IsFirstWrong 1 ls n f) (with_lines 1 Listing ls) rest is,
     )
 
 pub errors-of-lines : (text first : List ℕ) (more : List (List ℕ)) (n : ℕ) (f : Fault) → is_tex first ≡ false

@@ -3,10 +3,10 @@ use Rattle.std.specs.Prelude.{nat_lt, not, ◌&&◌}
 use Rattle.std.specs.List.{list_any, onto_first, slice_split}
 use Rattle.std.proofs.lemmas.List.Splits.{length-slice_split, slice_split-cons_no, slice_split-cons_yes}
 use Rattle.textwrap_text.proofs.Common.{le-ltb, lt-ltb, ltb-false}
-use Rattle.textwrap_patterns.proofs.Common.{Bool, List, ℕ, [], ap, arith, cases_Bool, drop, false, false≢true, inl, inr}
-use Rattle.textwrap_patterns.proofs.Common.{length, refl, suc, sym, true, ◌+◌, ◌<◌, ◌∙◌, ◌∷◌, ◌≡◌}
+use Rattle.textwrap_patterns.proofs.Common.{Bool, List, ℕ, [], ap, arith, cases_Bool, drop, false, inl, inr}
+use Rattle.textwrap_patterns.proofs.Common.{length, refl, suc, sym, true, ◌+◌, ◌<◌, ◌∙◌, ◌∷◌, ◌≡◌, ◌⊎◌}
 use Rattle.textwrap_patterns.proofs.Said.{hyphen-here, letter-here}
-use Rattle.textwrap_patterns.specs.Entries.{has_hyphen, hyphens_past, is_hyphen_sign, letters_between}
+use Rattle.textwrap_patterns.specs.Entries.{hyphens_past, is_hyphen_sign, letters_between}
 use Rattle.textwrap_patterns.specs.Faults.{has_gap, is_empty}
 use Rattle.textwrap_patterns.specs.Places.{are_places}
 
@@ -69,20 +69,18 @@ gaps (c ∷ cs) = elim (cases_Bool (is_hyphen_sign c)) [
       )
 ]
 
-places-some : (n : ℕ) (cs : List ℕ) → has_hyphen cs ≡ true → 0 < length (hyphens_past n cs)
-places-some n [] is = absurd (false≢true is)
-places-some n (c ∷ cs) is = elim (cases_Bool (is_hyphen_sign c)) [
-  | inl hyphen ↦ omega (arith, ap length (hyphen-here n c cs hyphen).0)
-  | inr letter ↦ omega (
-    arith,
-    ap length (letter-here n c cs letter).0,
-    places-some (suc n) cs (sym (rw letter refl) ∙ is),
-  )
+places-or : (n : ℕ) (cs : List ℕ) → 0 < length cs
+    → (0 < length (hyphens_past n cs)) ⊎ (0 < length (letters_between cs))
+places-or n [] some = absurd (omega (arith, some))
+places-or n (c ∷ cs) some = elim (cases_Bool (is_hyphen_sign c)) [
+  | inl hyphen ↦ inl (omega (arith, ap length (hyphen-here n c cs hyphen).0))
+  | inr letter ↦ inr (omega (arith, ap length (letter-here n c cs letter).1))
 ]
 
-first-place : (len : ℕ) (places : List ℕ) → 0 < length places
+first-place : (len : ℕ) (places : List ℕ) → (0 < length places) ⊎ (0 < len)
     → are_places len 0 places ≡ (nat_lt 0 len && are_places len 0 places)
-first-place len [] some = absurd (omega (arith, some))
+first-place len [] (inl some) = absurd (omega (arith, some))
+first-place len [] (inr some) = rw (lt-ltb 0 len some) refl
 first-place len (place ∷ places) some = elim (cases_Bool (nat_lt 0 len)) [
   | inl above ↦ rw above refl
   | inr none ↦ rw (none, below place len none) (ap (λ b. b && are_places len place places) (and-false (nat_lt 0 place)))
@@ -92,7 +90,7 @@ first-place len (place ∷ places) some = elim (cases_Bool (nat_lt 0 len)) [
     below p l is = le-ltb p l (omega (arith, ltb-false 0 l is))
 
 -- an exception has each hyphen between two letters, if no part between hyphens is empty
-pub exception-gap : (cs : List ℕ) → has_hyphen cs ≡ true
+pub exception-gap : (cs : List ℕ) → 0 < length cs
     → are_places (length (letters_between cs)) 0 (hyphens_past 0 cs) ≡ not (has_gap cs)
-exception-gap cs is = first-place (length (letters_between cs)) (hyphens_past 0 cs) (places-some 0 cs is)
+exception-gap cs some = first-place (length (letters_between cs)) (hyphens_past 0 cs) (places-or 0 cs some)
     ∙ (gaps cs).1 (length (letters_between cs)) 0 (omega arith)

@@ -1,6 +1,8 @@
 pub mod Ascii
+pub mod Changed
 pub mod Common
 pub mod FirstLines
+pub mod FirstTexLines
 pub mod FirstWrong
 pub mod Gaps
 pub mod Said

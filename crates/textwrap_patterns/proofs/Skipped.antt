@@ -5,12 +5,12 @@ use Rattle.std.specs.Str.Lines.{lines}
 use Rattle.textwrap_patterns.proofs.Common.{All, All-head, All-tail, Bool, List, ℕ, [], ap, arith, cases_Bool, false}
 use Rattle.textwrap_patterns.proofs.Common.{inl, inr, length, map, refl, subst, suc, sym, true, false≢true}
 use Rattle.textwrap_patterns.proofs.Common.{◌++◌, ◌∙◌, ◌∷◌, ◌≡◌}
-use Rattle.textwrap_patterns.specs.Entries.{Said, Pattern, Exception, Left, Right, CompoundLeft}
+use Rattle.textwrap_patterns.specs.Entries.{Said, Pattern, Changed, Exception, Left, Right, CompoundLeft}
 use Rattle.textwrap_patterns.specs.Entries.{CompoundRight, NextGroup, Nothing, Wrong}
 use Rattle.textwrap_patterns.specs.Faults.{is_comment}
 use Rattle.textwrap_patterns.specs.Laws.{AreListed, AreTex, uncommented, without_line}
 use Rattle.textwrap_patterns.specs.Listed.{Listed}
-use Rattle.textwrap_patterns.specs.Parsing.{Outcome, after_mark, and_then, closed, comment_in, exceptions_mark, end_fault, ended, is_list}
+use Rattle.textwrap_patterns.specs.Parsing.{Outcome, after_mark, and_then, closed, comment_in, counted_on, exceptions_mark, end_fault, ended, is_list}
 use Rattle.textwrap_patterns.specs.Parsing.{is_closed, is_group, is_minima, is_skipped, is_tex, line_said, listed_said}
 use Rattle.textwrap_patterns.specs.Parsing.{names_minima, opened, patterns_mark, opened_text, parsed, section_after}
 use Rattle.textwrap_patterns.specs.Parsing.{tex_after, tex_said, unmarked, with_all, with_lines, no_patterns}
@@ -28,6 +28,8 @@ all-shifted : (n m : ℕ) (saids : List Said) (h : Listed) (next other : Listed 
 all-shifted n m [] h next other same = same h
 all-shifted n m (Pattern p ∷ more) h next other same =
     all-shifted n m more (record h { patterns = h.patterns ++ p ∷ [] }) next other same
+all-shifted n m (Changed p ∷ more) h next other same =
+    all-shifted n m more (record h { patterns = h.patterns ++ p ∷ []; changed = counted_on h.changed }) next other same
 all-shifted n m (Exception e ∷ more) h next other same =
     all-shifted n m more (record h { exceptions = h.exceptions ++ e ∷ [] }) next other same
 all-shifted n m (Left left ∷ more) h next other same =
@@ -184,7 +186,7 @@ tex-line Exceptions line is none = (refl, refl)
 tex-line Behind line is none = (refl, refl)
 
 -- what lines of TeX say, by what stands before their comments
-abbrev with_bare : ℕ → Section → List (List ℕ) → Listed → Outcome
+abbrev pub with_bare : ℕ → Section → List (List ℕ) → Listed → Outcome
 with_bare n section [] h = ended n (end_fault section (length h.patterns) (length h.exceptions)) h
 with_bare n section (line ∷ more) h =
     and_then (with_all (suc n) (tex_said section line) h) (with_bare (suc n) (tex_after section line) more)
@@ -210,7 +212,7 @@ bare-lines n section (line ∷ more) h is none =
     behind = tex_after section (uncommented line)
 
 -- the first line of a text of TeX is read as one of its header
-bare-text : (ls : List (List ℕ)) → AreTex ls
+pub bare-text : (ls : List (List ℕ)) → AreTex ls
     → with_lines 0 Start ls no_patterns ≡ with_bare 0 Preamble (map uncommented ls) no_patterns
 bare-text [] are = absurd are
 bare-text (first ∷ more) are = rw are.0 (bare-lines 0 Preamble (first ∷ more) no_patterns (refl, refl) are.1)

@@ -162,7 +162,7 @@ pub pattern-is-said : (section : Section) (p : PatternText) → IsPattern p
     → is_exception section (pattern_line p.levels p.letters) ≡ false
     → word_said section (pattern_line p.levels p.letters) ≡ Pattern p
 pattern-is-said section p is none =
-    rw (no-slash line shown, no-sign line shown, none, ap length read.0, le-ltb 255 (length p.letters) is.few)
+    rw (no-sign line shown, no-slash line shown, none, ap length read.0, le-ltb 255 (length p.letters) is.few)
     (ap (λ l. Pattern (record { letters = l; levels = levels_written line })) read.0
     ∙ ap (λ l. Pattern (record { letters = p.letters; levels = l })) read.1)
   where
@@ -302,8 +302,8 @@ pub exception-is-said : (section : Section) (e : ExceptionText) → IsException 
     → is_exception section (hyphened 0 e.places e.letters) ≡ true
     → word_said section (hyphened 0 e.places e.letters) ≡ Exception e
 exception-is-said section e is all = rw (
-  no-slash line shown,
   no-sign line shown,
+  no-slash line shown,
   all,
   read.0,
   read.1,

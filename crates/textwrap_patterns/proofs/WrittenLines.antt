@@ -26,7 +26,8 @@ use Rattle.textwrap_patterns.proofs.Words.{AreShown, Bare, bare, is_shown, shown
 use Rattle.textwrap_patterns.proofs.Skipped.{comment-skipped}
 use Rattle.textwrap_patterns.specs.Dictionaries.{hyphened, is_bare, pattern_line, text_of_lines}
 use Rattle.textwrap_patterns.specs.Entries.{Said, command_said, is_command, is_sign, word_said}
-use Rattle.textwrap_patterns.specs.Parsing.{before, before_comment, is_closed, is_group}
+use Rattle.textwrap_patterns.specs.Changes.{before}
+use Rattle.textwrap_patterns.specs.Parsing.{before_comment, is_closed, is_group}
 use Rattle.textwrap_patterns.specs.Parsing.{line_said, listed_said, section_after, tex_after, tex_said}
 use Rattle.textwrap_patterns.specs.declared.entries.Section.{Section}
 use Rattle.textwrap_patterns.specs.declared.entries.Section.TheVariants.{Listing}

@@ -1,6 +1,6 @@
 -- What the words and the lines of a dictionary say: a pattern, an exception, how many letters stay
 -- before or behind a hyphen, or what is wrong.
-use Rattle.std.specs.Prelude.{ℕ, suc, ◌+◌, ◌-◌, ◌*◌, Bool, true, false, ◌==◌, ◌&&◌, ◌||◌, not}
+use Rattle.std.specs.Prelude.{ℕ, suc, Bool, true, false, ◌==◌, ◌&&◌, ◌||◌, not}
 use Rattle.std.specs.Prelude.{List, [], ◌∷◌, Option, None, Some, chars, codes, drop, filter, length}
 use Rattle.std.specs.Prelude.{if◌then◌else◌, map, nat_eq, nat_lt, unwrap_or}
 use Rattle.std.specs.Char.{is_whitespace}
@@ -9,10 +9,13 @@ use Rattle.std.specs.List.{list_all, list_any, starts_with}
 use Rattle.std.specs.Str.{trim}
 use Rattle.textwrap_patterns.specs.Listed.{ExceptionText, exception_text, exception_view}
 use Rattle.textwrap_patterns.specs.Places.{are_places}
+use Rattle.textwrap_patterns.specs.Changes.{number_of, region_said, text_before, text_behind}
+use Rattle.textwrap_patterns.specs.Changes.{without_changes}
 use Rattle.textwrap_patterns.specs.Charsets.{names_charset, plain_name}
 use Rattle.textwrap_patterns.specs.Letters.{apostrophe, curly_apostrophe, folded, is_hyphen_character}
 use Rattle.textwrap_patterns.specs.Listed.{PatternText, pattern_view}
 use Rattle.textwrap_patterns.specs.Written.{is_digit, letters_written, pattern_written}
+use Rattle.textwrap_patterns.specs.declared.changes.Region.{Region}
 use Rattle.textwrap_patterns.specs.declared.entries.Entry as program
 use Rattle.textwrap_patterns.specs.declared.entries.Entry.TheVariants as entry
 use Rattle.textwrap_patterns.specs.declared.entries.Section.{Section}
@@ -25,6 +28,7 @@ use Rattle.textwrap_patterns.specs.declared.errors.Fault.TheVariants.{Sign, TooL
 
 pub data Said : Type 0 where
   Pattern : PatternText → Said
+  Changed : PatternText → Said
   Exception : ExceptionText → Said
   Left : ℕ → Said
   Right : ℕ → Said
@@ -36,6 +40,7 @@ pub data Said : Type 0 where
 
 abbrev pub entry_view : {A : Type 0} → program.Entry A → Said
 entry_view (entry.Pattern pattern) = Pattern (pattern_view pattern)
+entry_view (entry.Changed pattern) = Changed (pattern_view pattern)
 entry_view (entry.Exception exception) = Exception (exception_view exception)
 entry_view (entry.Left left) = Left left
 entry_view (entry.Right right) = Right right
@@ -108,23 +113,34 @@ is_exception Patterns cs = false
 is_exception Exceptions cs = true
 is_exception Behind cs = has_hyphen cs && not (has_digit cs)
 
+-- a pattern without the hyphens at which letters change
+abbrev pub changed_by : Option Region → PatternText → Said
+changed_by None p = Wrong Replacement
+changed_by (Some region) p =
+    if nat_lt 255 (length p.letters) then Wrong TooLong else Changed (without_changes region p)
+
+-- where its letters change
+abbrev pub changes_at : List ℕ → Option Region
+changes_at cs = region_said (letters_written (text_before 0x2F cs)) (text_behind 0x2F cs)
+
+abbrev pub changed_said : List ℕ → Said
+changed_said cs = changed_by (changes_at cs) (pattern_written (text_before 0x2F cs))
+
+-- a word with a slash, which is no exception
+abbrev pub slashed_said : Section → List ℕ → Said
+slashed_said section cs = if is_exception section cs then Wrong Replacement else changed_said cs
+
+abbrev pub unslashed_said : Section → List ℕ → Said
+unslashed_said section cs = if is_exception section cs then exception_said cs else pattern_said cs
+
 -- a word of a section
 abbrev pub word_said : Section → List ℕ → Said
 word_said section cs =
-    if has_slash cs then Wrong Replacement
-    else if has_sign cs then Wrong Sign
-    else if is_exception section cs then exception_said cs
-    else pattern_said cs
+    if has_sign cs then Wrong Sign
+    else if has_slash cs then slashed_said section cs
+    else unslashed_said section cs
 
 -- ---- lines of a list
-
--- one digit or two
-abbrev pub number_of : List ℕ → Option ℕ
-number_of [] = None
-number_of (one ∷ []) = if is_digit one then Some (one - 0x30) else None
-number_of (ten ∷ one ∷ []) =
-    if is_digit ten && is_digit one then Some (10 * (ten - 0x30) + (one - 0x30)) else None
-number_of (one ∷ other ∷ more ∷ cs) = None
 
 abbrev pub number_or_fault : (ℕ → Said) → Option ℕ → Said
 number_or_fault said None = Wrong Number

@@ -1,12 +1,20 @@
--- What is wrong with a line of a list, said of this line alone.
-use Rattle.std.specs.Prelude.{◌≡◌, ℕ, zero, suc, ◌==◌, ◌&&◌, ◌||◌, not, Bool, true, false, List, [], ◌∷◌, ◌++◌, ◌⊎◌, None}
+-- What is wrong with a line, said of this line alone, and in a text of TeX of where it stands.
+use Rattle.std.specs.Prelude.{◌≡◌, ◌≢◌, ℕ, zero, suc, ◌==◌, ◌&&◌, ◌||◌, not, Bool, true, false, List, [], ◌∷◌, ◌++◌, ◌⊎◌, None, Some}
 use Rattle.std.specs.Prelude.{chars, codes, filter, length, nat_lt}
+use Rattle.std.specs.Char.{is_whitespace}
 use Rattle.std.specs.List.{list_any, slice_split}
 use Rattle.std.specs.Str.{trim}
+use Rattle.textwrap_patterns.specs.Changes.{number_of, text_before}
 use Rattle.textwrap_patterns.specs.Charsets.{names_charset, plain_name}
-use Rattle.textwrap_patterns.specs.Entries.{are_joints, begins, has_digit, has_hyphen}
-use Rattle.textwrap_patterns.specs.Entries.{has_sign, has_slash, is_command, is_hyphen_sign, number_of}
+use Rattle.textwrap_patterns.specs.Entries.{are_joints, begins, changes_at, has_digit, has_hyphen}
+use Rattle.textwrap_patterns.specs.Entries.{has_sign, has_slash, is_command, is_hyphen_sign}
+use Rattle.textwrap_patterns.specs.Parsing.{closed_text, is_group, opened, opened_text, outside_fault}
+use Rattle.textwrap_patterns.specs.Parsing.{tex_after}
 use Rattle.textwrap_patterns.specs.Written.{letters_written}
+use Rattle.textwrap_patterns.specs.declared.entries.Section.{Section}
+use Rattle.textwrap_patterns.specs.declared.entries.Section.TheVariants.{Start, Listing, Preamble}
+use Rattle.textwrap_patterns.specs.declared.entries.Section.TheVariants.{Minima, Patterns, Exceptions}
+use Rattle.textwrap_patterns.specs.declared.entries.Section.TheVariants.{Behind}
 use Rattle.textwrap_patterns.specs.declared.errors.Fault.{Fault}
 use Rattle.textwrap_patterns.specs.declared.errors.Fault.TheVariants as fault
 
@@ -34,13 +42,21 @@ IsOther line = (is_comment line ≡ false) × (begins_word line ≡ false)
 abbrev pub IsItem : List ℕ → Type 0
 IsItem line = (is_comment line ≡ false) × (begins_word line ≡ false) × (is_command line ≡ false)
 
+-- with a slash, and without signs
+abbrev pub IsSlashed : List ℕ → Type 0
+IsSlashed cs = (has_sign cs ≡ false) × (has_slash cs ≡ true)
+
 -- without slashes and signs
 abbrev pub IsClean : List ℕ → Type 0
-IsClean cs = (has_slash cs ≡ false) × (has_sign cs ≡ false)
+IsClean cs = (has_sign cs ≡ false) × (has_slash cs ≡ false)
 
 -- with a hyphen, and without a digit
 abbrev pub is_hyphened : List ℕ → Bool
 is_hyphened cs = has_hyphen cs && not (has_digit cs)
+
+-- with more than 255 letters
+abbrev pub IsLong : List ℕ → Type 0
+IsLong cs = nat_lt 255 (length (letters_written cs)) ≡ true
 
 abbrev pub is_empty : List ℕ → Bool
 is_empty [] = true
@@ -49,6 +65,27 @@ is_empty (c ∷ cs) = false
 -- nothing stands between two hyphens, or beside one at an end
 abbrev pub has_gap : List ℕ → Bool
 has_gap cs = list_any is_empty (slice_split is_hyphen_sign cs)
+
+-- as an exception or as a pattern, a word is wrong in this way
+abbrev pub IsWrongWord : Bool → Fault → List ℕ → Type 0
+IsWrongWord exception fault.Charset cs = ⊥
+IsWrongWord exception fault.NextLevel cs = ⊥
+IsWrongWord exception fault.NoHyphen cs = ⊥
+IsWrongWord exception fault.Word cs = ⊥
+IsWrongWord exception fault.Number cs = ⊥
+IsWrongWord exception fault.Replacement cs =
+    IsSlashed cs × ((exception ≡ true) ⊎ (changes_at cs ≡ None))
+IsWrongWord exception fault.Sign cs = has_sign cs ≡ true
+IsWrongWord exception fault.TooLong cs =
+    (exception ≡ false)
+    × ((IsClean cs × IsLong cs) ⊎ (IsSlashed cs × (changes_at cs ≢ None) × IsLong (text_before 0x2F cs)))
+IsWrongWord exception fault.Hyphens cs = IsClean cs × (exception ≡ true) × (has_gap cs ≡ true)
+IsWrongWord exception fault.Brace cs = ⊥
+IsWrongWord exception fault.Input cs = ⊥
+IsWrongWord exception fault.NoGroup cs = ⊥
+IsWrongWord exception fault.Unclosed cs = ⊥
+IsWrongWord exception fault.Empty cs = ⊥
+IsWrongWord exception fault.TooMany cs = ⊥
 
 -- a line without the blanks on its sides is wrong in this way
 abbrev pub IsWrong : Fault → List ℕ → Type 0
@@ -60,14 +97,13 @@ IsWrong fault.Word line = IsOther line × (is_command line ≡ true)
 IsWrong fault.Number line =
     LacksNumber (codes "LEFTHYPHENMIN") line ⊎ (LacksNumber (codes "RIGHTHYPHENMIN") line
     ⊎ (LacksNumber (codes "COMPOUNDLEFTHYPHENMIN") line ⊎ LacksNumber (codes "COMPOUNDRIGHTHYPHENMIN") line))
-IsWrong fault.Replacement line = IsItem line × (has_slash (chars line) ≡ true)
-IsWrong fault.Sign line = IsItem line × (has_slash (chars line) ≡ false) × (has_sign (chars line) ≡ true)
+IsWrong fault.Replacement line =
+    IsItem line × IsWrongWord (is_hyphened (chars line)) fault.Replacement (chars line)
+IsWrong fault.Sign line = IsItem line × IsWrongWord (is_hyphened (chars line)) fault.Sign (chars line)
 IsWrong fault.TooLong line =
-    IsItem line × IsClean (chars line) × (is_hyphened (chars line) ≡ false)
-    × (nat_lt 255 (length (letters_written (chars line))) ≡ true)
+    IsItem line × IsWrongWord (is_hyphened (chars line)) fault.TooLong (chars line)
 IsWrong fault.Hyphens line =
-    IsItem line × IsClean (chars line) × (is_hyphened (chars line) ≡ true)
-    × (has_gap (chars line) ≡ true)
+    IsItem line × IsWrongWord (is_hyphened (chars line)) fault.Hyphens (chars line)
 IsWrong fault.Brace line = ⊥
 IsWrong fault.Input line = ⊥
 IsWrong fault.NoGroup line = ⊥
@@ -108,3 +144,59 @@ is_of_line fault.NoGroup = false
 is_of_line fault.Unclosed = false
 is_of_line fault.Empty = false
 is_of_line fault.TooMany = false
+
+-- ---- texts of TeX
+
+-- the words between blanks
+abbrev pub words_between : List ℕ → List (List ℕ)
+words_between text = filter (λ word. not (is_empty word)) (slice_split is_whitespace text)
+
+-- of these words the first that is wrong is so in this way
+abbrev pub IsFirstWrongWord : Bool → Fault → List (List ℕ) → Type 0
+IsFirstWrongWord exception fault [] = ⊥
+IsFirstWrongWord exception fault (word ∷ words) =
+    IsWrongWord exception fault word
+    ⊎ (((other : Fault) → ¬ IsWrongWord exception other word) × IsFirstWrongWord exception fault words)
+
+abbrev pub has_exceptions : Section → Bool
+has_exceptions Start = false
+has_exceptions Listing = false
+has_exceptions Preamble = false
+has_exceptions Minima = false
+has_exceptions Patterns = false
+has_exceptions Exceptions = true
+has_exceptions Behind = false
+
+-- a line without its comment is wrong in a word of its group, or outside of groups by itself
+abbrev pub IsWrongTex : Section → Fault → List ℕ → Type 0
+IsWrongTex section fault line =
+    ((is_group (opened section line) ≡ true)
+    × IsFirstWrongWord (has_exceptions (opened section line)) fault
+    (words_between (closed_text (opened_text section line))))
+    ⊎ ((is_group (opened section line) ≡ false) × (outside_fault line ≡ Some fault))
+
+-- of such lines behind so many others, the first of which stands in this section
+abbrev pub IsFirstWrongTex : Section → ℕ → List (List ℕ) → ℕ → Fault → Type 0
+IsFirstWrongTex section before [] n fault = ⊥
+IsFirstWrongTex section before (line ∷ more) n fault =
+    ((n ≡ suc before) × IsWrongTex section fault line)
+    ⊎ (((other : Fault) → ¬ IsWrongTex section other line)
+    × IsFirstWrongTex (tex_after section line) (suc before) more n fault)
+
+-- those of a whole text
+abbrev pub is_of_end : Fault → Bool
+is_of_end fault.Charset = false
+is_of_end fault.NextLevel = false
+is_of_end fault.NoHyphen = false
+is_of_end fault.Word = false
+is_of_end fault.Number = false
+is_of_end fault.Replacement = false
+is_of_end fault.Sign = false
+is_of_end fault.TooLong = false
+is_of_end fault.Hyphens = false
+is_of_end fault.Brace = false
+is_of_end fault.Input = false
+is_of_end fault.NoGroup = true
+is_of_end fault.Unclosed = true
+is_of_end fault.Empty = true
+is_of_end fault.TooMany = true

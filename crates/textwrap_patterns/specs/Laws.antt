@@ -1,15 +1,22 @@
 -- Laws of reading: what the definition of `parsed` has to give, said without it.
 use Rattle.std.specs.Prelude.{◌≡◌, ℕ, true, false, List, [], ◌∷◌, ◌++◌, All}
-use Rattle.std.specs.Prelude.{◌+◌, ◌<◌, ◌≤◌, ◌^◌, ◌↔◌, codes, length}
+use Rattle.std.specs.Prelude.{◌+◌, ◌%◌, ◌<◌, ◌≤◌, ◌^◌, ◌↔◌, ◌⊎◌, codes, length, slice_index}
 use Rattle.std.specs.Prelude.{Option, None, Some, Result, Ok, Err, ⊤, chars, map}
 use Rattle.std.specs.Str.{trim}
 use Rattle.std.specs.Str.Lines.{lines}
+use Rattle.textwrap_patterns.specs.Changes.{text_before}
+use Rattle.textwrap_patterns.specs.Entries.{Changed, changes_at, word_said}
 use Rattle.textwrap_patterns.specs.Dictionaries.{IsException, IsPattern, list_lines, tex_lines}
 use Rattle.textwrap_patterns.specs.Dictionaries.{text_of_lines}
-use Rattle.textwrap_patterns.specs.Faults.{IsFirstWrong, groups_in, is_comment, is_of_line}
+use Rattle.textwrap_patterns.specs.Faults.{IsFirstWrong, IsFirstWrongTex, groups_in, is_comment, is_of_end}
+use Rattle.textwrap_patterns.specs.Faults.{is_of_line}
 use Rattle.textwrap_patterns.specs.Listed.{ExceptionText, Listed, PatternText, listed}
 use Rattle.textwrap_patterns.specs.Parsing.{Outcome, before_comment, comment_in, is_tex, names_minima}
 use Rattle.textwrap_patterns.specs.Parsing.{parsed, unmarked}
+use Rattle.textwrap_patterns.specs.Written.{letters_written, levels_written}
+use Rattle.textwrap_patterns.specs.declared.changes.Region.{Region}
+use Rattle.textwrap_patterns.specs.declared.entries.Section.{Section}
+use Rattle.textwrap_patterns.specs.declared.entries.Section.TheVariants.{Preamble}
 use Rattle.textwrap_patterns.specs.declared.errors.Fault.{Fault}
 use Rattle.textwrap_patterns.specs.declared.errors.ParseError.TheVariants.{Memory, Line}
 
@@ -66,6 +73,29 @@ ErrorsAreOfLines =
     (text first : List ℕ) (more : List (List ℕ)) (n : ℕ) (fault : Fault) → is_tex first ≡ false
     → lines (unmarked text) ≡ first ∷ more → groups_in (first ∷ more) ≤ 1 → is_of_line fault ≡ true
     → (parsed text ≡ Err (Line n fault)) ↔ IsFirstWrong 0 (first ∷ more) n fault
+
+-- and so in a text of TeX in which no comment begins the numbers of letters, each line in its section
+abbrev pub ErrorsOfTexAreOfLines : Type 0
+ErrorsOfTexAreOfLines =
+    (text : List ℕ) (n : ℕ) (fault : Fault) → AreTex (lines (unmarked text)) → is_of_end fault ≡ false
+    → (parsed text ≡ Err (Line n fault))
+    ↔ IsFirstWrongTex Preamble 0 (map uncommented (lines (unmarked text))) n fault
+
+-- ---- letters that change
+
+-- a pattern allows no hyphen before, between or behind the letters that change, and is else what was written
+pub record IsChanged (region : Region) (word : List ℕ) (p : PatternText) : Type 0 where
+  pub letters : p.letters ≡ letters_written word
+  pub inside : (k : ℕ) → region.first ≤ k → k ≤ region.last → slice_index p.levels k % 2 ≡ 0
+  pub outside : (k : ℕ) → (k < region.first) ⊎ (region.last < k)
+      → slice_index p.levels k ≡ slice_index (levels_written word) k
+  pub never_lower : (k : ℕ) → slice_index (levels_written word) k ≤ slice_index p.levels k
+
+-- so it is read, if it is read with a change
+abbrev pub ChangesAllowNoHyphen : Type 0
+ChangesAllowNoHyphen =
+    (section : Section) (cs : List ℕ) (p : PatternText) → word_said section cs ≡ Changed p
+    → (region : Region) × (changes_at cs ≡ Some region) × IsChanged region (text_before 0x2F cs) p
 
 -- ---- written texts
 

@@ -1,3 +1,4 @@
+pub mod Changes
 pub mod Charsets
 pub mod Dictionaries
 pub mod Entries

@@ -24,8 +24,8 @@ abbrev pub exception_view : {A : Type 0} → Exception A → ExceptionText
 exception_view exception = exception_text exception.letters.items exception.places.items
 
 -- what is listed in a dictionary: patterns of joints, which say where compounds are joined, patterns of
--- their parts, exceptions, and how many letters stay on the sides of a hyphen, in a word and between it
--- and a joint
+-- their parts, exceptions, how many letters stay on the sides of a hyphen, in a word and between it and a
+-- joint, and at how many patterns letters would change
 pub record Listed : Type 0 where
   pub joints : List PatternText
   pub patterns : List PatternText
@@ -34,6 +34,7 @@ pub record Listed : Type 0 where
   pub right : ℕ
   pub compound_left : ℕ
   pub compound_right : ℕ
+  pub changed : ℕ
 
 -- what is listed where nothing is said of compounds
 abbrev pub listed : List PatternText → List ExceptionText → ℕ → ℕ → Listed
@@ -45,4 +46,5 @@ listed patterns exceptions left right = record {
   right = right;
   compound_left = 0;
   compound_right = 0;
+  changed = 0;
 }

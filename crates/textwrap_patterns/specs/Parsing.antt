@@ -2,16 +2,17 @@
 use Rattle.std.specs.Prelude.{◌≡◌, ℕ, suc, Bool, true, false, ◌==◌, ◌&&◌, ◌||◌, not, List, [], ◌∷◌}
 use Rattle.std.specs.Prelude.{◌++◌, ⊤, Option, None, Some, Result, Ok, Err, chars, codes, drop}
 use Rattle.std.specs.Prelude.{if◌then◌else◌, length, map, max, nat_eq, nat_lt, slice_index, take}
-use Rattle.std.specs.Prelude.{bytes_eq, unwrap_or}
+use Rattle.std.specs.Prelude.{bytes_eq, min, unwrap_or, ◌+◌, ◌-◌, ◌^◌}
 use Rattle.std.specs.Char.{is_whitespace}
 use Rattle.std.specs.List.{list_any, prefix_len, slice_split, starts_with}
 use Rattle.std.specs.Option.{is_some}
 use Rattle.std.specs.Str.{trim}
 use Rattle.std.specs.Str.Lines.{lines}
+use Rattle.textwrap_patterns.specs.Changes.{before, number_of, text_before}
 use Rattle.textwrap_patterns.specs.Charsets.{decoded}
-use Rattle.textwrap_patterns.specs.Entries.{Said, Pattern, Exception, Left, Right, CompoundLeft}
+use Rattle.textwrap_patterns.specs.Entries.{Said, Pattern, Changed, Exception, Left, Right, CompoundLeft}
 use Rattle.textwrap_patterns.specs.Entries.{CompoundRight, NextGroup, Nothing}
-use Rattle.textwrap_patterns.specs.Entries.{Wrong, begins, is_start, list_said, number_of}
+use Rattle.textwrap_patterns.specs.Entries.{Wrong, begins, is_start, list_said}
 use Rattle.textwrap_patterns.specs.Entries.{number_or_fault, word_said}
 use Rattle.textwrap_patterns.specs.Listed.{Listed, exception_view, listed}
 use Rattle.textwrap_patterns.specs.Listed.{pattern_view}
@@ -35,6 +36,10 @@ abbrev pub and_then : Outcome → (Listed → Outcome) → Outcome
 and_then (Ok h) next = next h
 and_then (Err error) next = Err error
 
+-- one more, up to what 64 bits hold
+abbrev pub counted_on : ℕ → ℕ
+counted_on n = min (n + 1) (2 ^ 64 - 1)
+
 -- a dictionary whose patterns so far are those of joints, as a second group begins: there is no third
 abbrev pub with_group : ℕ → Listed → Outcome
 with_group n h =
@@ -44,6 +49,8 @@ with_group n h =
 -- a dictionary with what a line of this number says
 abbrev pub with_said : ℕ → Said → Listed → Outcome
 with_said n (Pattern p) h = Ok (record h { patterns = h.patterns ++ p ∷ [] })
+with_said n (Changed p) h =
+    Ok (record h { patterns = h.patterns ++ p ∷ []; changed = counted_on h.changed })
 with_said n (Exception e) h = Ok (record h { exceptions = h.exceptions ++ e ∷ [] })
 with_said n (Left left) h = Ok (record h { left = left })
 with_said n (Right right) h = Ok (record h { right = right })
@@ -69,13 +76,9 @@ listed_said section line = if is_skipped line then [] else list_said section lin
 
 -- ---- texts of TeX
 
--- how many characters stand before the first of this one
-abbrev pub before : ℕ → List ℕ → ℕ
-before wanted cs = prefix_len (λ c. not (c == wanted)) cs
-
 -- a line without its comment
 abbrev pub before_comment : List ℕ → List ℕ
-before_comment cs = take (before 0x25 cs) cs
+before_comment cs = text_before 0x25 cs
 
 -- what follows the first place where a mark stands
 abbrev pub after_mark : List ℕ → List ℕ → Option (List ℕ)
@@ -326,6 +329,7 @@ reading_view reading = record {
   right = reading.right;
   compound_left = reading.compound_left;
   compound_right = reading.compound_right;
+  changed = reading.changed;
 }
 
 -- a result has the outcome, or memory ran out

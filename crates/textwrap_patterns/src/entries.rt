@@ -8,10 +8,12 @@ ghost use Rattle.textwrap_patterns.specs.Entries.{command_said, number_or_fault}
 ghost use Rattle.textwrap_patterns.specs.Entries.{entry_view, exception_said, exception_written};
 ghost use Rattle.textwrap_patterns.specs.Entries.{has_hyphen, has_digit, has_sign, has_slash};
 ghost use Rattle.textwrap_patterns.specs.Entries.{is_command, is_exception, is_joint, is_sign, is_start};
-ghost use Rattle.textwrap_patterns.specs.Entries.{list_said, number_of, other_said, pattern_said};
-ghost use Rattle.textwrap_patterns.specs.Entries.{says_levels, word_said};
-ghost use Rattle.textwrap_patterns.specs.Listed.{exception_view};
+ghost use Rattle.textwrap_patterns.specs.Changes.{number_of};
+ghost use Rattle.textwrap_patterns.specs.Entries.{changed_by, list_said, other_said, pattern_said};
+ghost use Rattle.textwrap_patterns.specs.Entries.{says_levels, slashed_said, word_said};
+ghost use Rattle.textwrap_patterns.specs.Listed.{exception_view, pattern_view};
 
+use crate::changes::{Region, region_said, text_before, text_behind, without_changes};
 use crate::charsets::{names_charset, plain_name};
 use crate::errors::Fault;
 use crate::letters::{folded, is_hyphen};
@@ -46,6 +48,8 @@ pub enum Section {
 #[derive(Debug, Drop)]
 pub enum Entry<A: Allocator> {
     Pattern(Pattern<A>),
+    /// A pattern at whose hyphen letters would change, without that hyphen.
+    Changed(Pattern<A>),
     Exception(Exception<A>),
     Left(usize),
     Right(usize),
@@ -239,15 +243,48 @@ pub fn word_entry<A: Allocator + Copy>(
 ) -> Result<Entry<A>, AllocError>
     ensures { IfOk result (λ entry. entry_view entry ≡ word_said section word.now) }
 {
-    if has_slash(word) {
-        Ok(Entry::Wrong(Fault::Replacement))
-    } else if has_sign(word) {
+    if has_sign(word) {
         Ok(Entry::Wrong(Fault::Sign))
+    } else if has_slash(word) {
+        slashed_entry(alloc, section, word)
     } else if is_exception(section, word) {
         exception_entry(alloc, word)
     } else {
         pattern_entry(alloc, word)
     }
+}
+
+/// What a word with a slash says.
+fn slashed_entry<A: Allocator + Copy>(
+    alloc: A,
+    section: Section,
+    word: &[char],
+) -> Result<Entry<A>, AllocError>
+    ensures { IfOk result (λ entry. entry_view entry ≡ slashed_said section word.now) }
+{
+    if is_exception(section, word) {
+        return Ok(Entry::Wrong(Fault::Replacement));
+    }
+    let pattern = pattern_of(alloc, text_before(word, '/'))?;
+    let region = region_said(&pattern.letters, text_behind(word, '/'));
+    changed_entry(alloc, region, pattern)
+}
+
+/// A pattern without the hyphens at which letters change.
+fn changed_entry<A: Allocator + Copy>(
+    alloc: A,
+    region: Option<Region>,
+    pattern: Pattern<A>,
+) -> Result<Entry<A>, AllocError>
+    ensures { IfOk result (λ entry. entry_view entry ≡ changed_by region (pattern_view pattern)) }
+{
+    let Some(region) = region else {
+        return Ok(Entry::Wrong(Fault::Replacement));
+    };
+    if pattern.letters.len() > MOST_LETTERS {
+        return Ok(Entry::Wrong(Fault::TooLong));
+    }
+    Ok(Entry::Changed(without_changes(alloc, pattern, region)?))
 }
 
 /// Whether a word of a section is an exception, and not a pattern.

@@ -20,8 +20,8 @@ pub enum Fault {
     /// A word of libhyphen, or a header of TeX, without a number of one digit or two.
     #[error("a number of one digit or two is missing")]
     Number,
-    /// A `/`, as in a pattern that replaces letters.
-    #[error("replacements are not supported")]
+    /// A `/` in an exception, or without a replacement with `=` behind it, alone or with two numbers.
+    #[error("a slash is in an exception, or no change with an equals sign stands behind it")]
     Replacement,
     /// A blank, a brace, a backslash, a `%` or U+FFFD in a word.
     #[error("a word has a blank, a brace, a backslash, a percent sign or no character in it")]

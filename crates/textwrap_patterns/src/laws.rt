@@ -1,7 +1,7 @@
 //! Laws of the definitions on dictionaries.
-ghost use Rattle.textwrap_patterns.specs.Laws.{BlanksOfListsAreSkipped, CommentsOfListsAreSkipped};
+ghost use Rattle.textwrap_patterns.specs.Laws.{BlanksOfListsAreSkipped, ChangesAllowNoHyphen, CommentsOfListsAreSkipped};
 ghost use Rattle.textwrap_patterns.specs.Laws.{CommentsOfTexAreSkipped};
-ghost use Rattle.textwrap_patterns.specs.Laws.{ErrorsAreOfLines, ListsAreRead, NamedListsAreRead, TexIsRead};
+ghost use Rattle.textwrap_patterns.specs.Laws.{ErrorsAreOfLines, ErrorsOfTexAreOfLines, ListsAreRead, NamedListsAreRead, TexIsRead};
 
 /// A line that is empty or a comment makes no difference behind the first of a list, but to the
 /// numbers of lines in errors. Nor do blanks on the sides of its lines, or comments in a text of TeX in
@@ -12,10 +12,18 @@ pub fn comments_are_skipped()
     ensures tex { CommentsOfTexAreSkipped }
 {}
 
+/// A pattern that is read with a change behind it has its letters, and its levels but for those before,
+/// between and behind the letters that change: these are even, and never lower.
+pub fn changes_allow_no_hyphen()
+    ensures { ChangesAllowNoHyphen }
+{}
+
 /// In a list of at most two groups an error is told of a line exactly where this line is the first that
-/// is wrong by itself, in the way that is told. `Empty` and `TooMany` are errors of the whole text.
+/// is wrong by itself, in the way that is told. `Empty` and `TooMany` are errors of the whole text. So it is
+/// in a text of TeX without minima in its header, where a line is wrong in its group or outside of groups.
 pub fn errors_are_of_lines()
-    ensures { ErrorsAreOfLines }
+    ensures lists { ErrorsAreOfLines }
+    ensures tex { ErrorsOfTexAreOfLines }
 {}
 
 /// A text that is written from any patterns and exceptions is read as these: a list, with the minima

@@ -2,6 +2,7 @@
 //! dictionary says of them.
 #![tactic(auto)]
 
+mod changes;
 mod charsets;
 pub mod entries;
 pub mod errors;

@@ -6,7 +6,7 @@ ghost use Rattle.std.specs.Option.{is_some, option_copied};
 ghost use Rattle.std.specs.Str.Lines.{lines};
 ghost use Rattle.textwrap_patterns.specs.Charsets.{charset_of};
 ghost use Rattle.textwrap_patterns.specs.Entries.{entry_view, is_start};
-ghost use Rattle.textwrap_patterns.specs.Parsing.{Reads, after_mark, before, before_comment, closed};
+ghost use Rattle.textwrap_patterns.specs.Parsing.{Reads, after_mark, before_comment, closed};
 ghost use Rattle.textwrap_patterns.specs.Parsing.{closed_text, comment_in, count_fault, end_fault, ended};
 ghost use Rattle.textwrap_patterns.specs.Parsing.{entered, first_number, has_input, header_after};
 ghost use Rattle.textwrap_patterns.specs.Parsing.{has_opening, header_said, is_group, is_list, is_minima, is_preamble};
@@ -19,6 +19,7 @@ ghost use Rattle.textwrap_patterns.specs.Parsing.{with_group, with_said};
 ghost use Rattle.textwrap_patterns.specs.Written.{is_digit};
 ghost use Rattle.textwrap_patterns.specs.declared.errors.ParseError.TheVariants.{Line};
 
+use crate::changes::{find, text_before};
 use crate::charsets::{charset_of, decoded};
 use crate::entries::{
     Entry, Section, is_start, left_or_fault, list_entry, number_of, right_or_fault, word_entry,
@@ -70,6 +71,9 @@ pub struct Reading<A: Allocator> {
     pub compound_left: usize,
     /// How many letters stay between a hyphen and a joint behind it.
     pub compound_right: usize,
+    /// At how many patterns letters would change, which allow no hyphen there. It stops at what a
+    /// `usize` holds.
+    pub changed: usize,
 }
 
 /// All that bytes say: those of UTF-8 as [`read`] has it, whatever charset their first line names, and
@@ -156,6 +160,7 @@ impl<A: Allocator + Copy> Reading<A> {
             right: 3,
             compound_left: 0,
             compound_right: 0,
+            changed: 0,
         }
     }
 
@@ -289,6 +294,10 @@ impl<A: Allocator + Copy> Reading<A> {
     {
         match entry {
             Entry::Pattern(pattern) => self.patterns.push(pattern)?,
+            Entry::Changed(pattern) => {
+                self.patterns.push(pattern)?;
+                self.changed = self.changed.saturating_add(1);
+            }
             Entry::Exception(exception) => self.exceptions.push(exception)?,
             Entry::Left(left) => self.left = left,
             Entry::Right(right) => self.right = right,
@@ -483,20 +492,7 @@ fn is_skipped(line: &str) -> bool
 fn before_comment(line: &[char]) -> &[char]
     ensures { result.now ≡ before_comment line.now }
 {
-    &line[..find(line, '%')]
-}
-
-/// Where a character stands first, else the length.
-fn find(characters: &[char], wanted: char) -> usize
-    ensures at { result ≡ before wanted characters.now }
-    ensures within { result ≤ length characters.now }
-{
-    for (i, ch) in characters.iter().enumerate() {
-        if *ch == wanted {
-            return i;
-        }
-    }
-    characters.len()
+    text_before(line, '%')
 }
 
 /// The section once a line opened a group, and the text of the line in the group.

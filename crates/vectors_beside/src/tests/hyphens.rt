@@ -107,6 +107,17 @@ const WORDS: [(&str, &str, &[usize]); 22] = [
     ("an empty word has no points", "", &[]),
 ];
 
+/// A word, and its points where soft hyphens are points. Each row has the rule that it shows.
+#[rattlefmt::skip]
+const SOFT: &[(&str, &str, &[usize])] = &[
+    ("a soft hyphen is a point", "hyphena\u{ad}tion", &[9]),
+    ("each is, whatever the minima", "h\u{ad}yphenatio\u{ad}n", &[3, 14]),
+    ("in a word with a hyphen too", "re-hyphen\u{ad}ation", &[11]),
+    ("a word without one has those of the patterns", "hyphenation", &[2, 6]),
+    ("so has one where it stands at an end", "\u{ad}hyphenation\u{ad}", &[4, 8]),
+    ("and one where no letter stands directly behind it", "hyphen\u{ad}\u{1b}[1mation", &[2, 12]),
+];
+
 /// A text that is read as a dictionary, a word, and its points by that. Each row has the rule that it
 /// shows.
 #[rattlefmt::skip]
@@ -151,6 +162,12 @@ const TEXTS: &[(&str, &str, &str, &[usize])] = &[
     ("an apostrophe may join", "UTF-8\n1'1\n1\u{2019}1\nNEXTLEVEL\n.a1b\nb1c", "ll'abcd", &[4, 5]),
     ("an exception is one of the whole", "UTF-8\ns1a\nhau-sabend\nNEXTLEVEL\nb1e", "hausabend", &[3]),
     ("a second group may stand behind none", "NEXTLEVEL\nb1c", "abcdef", &[2]),
+    ("no point is where letters would change", "UTF-8\nc1k/k=k\nu1c", "zucker", &[2]),
+    ("nor by other patterns of that level", "UTF-8\nc1k\nc1k/k=k", "zucker", &[]),
+    ("but by greater ones", "UTF-8\nc1k/k=k\nc3k", "zucker", &[3]),
+    ("from which letter on, and how many change", "UTF-8\na1bb1c1d/bb=,2,2", "abbcdef", &[4]),
+    ("a dot counts for none", "UTF-8\nLEFTHYPHENMIN 1\n.a1bb1c1d/bb=,3,1", "abbcdef", &[1, 4]),
+    ("in TeX too", "\\patterns{c1k/k=k\nc2k u1c}", "zucker", &[2]),
 ];
 
 /// Bytes that are read as a dictionary, a word, and its points by that. Each row has the rule that it
@@ -194,6 +211,7 @@ const READ: &[((&str, &str, &str, &[usize]), usize)] = &[
     (("groups of TeX, with many letters at one place", UNORDERED, "lebamale", &[3, 5]), 278),
     (("patterns of the same letters", "1bl\n2bl\n1bl2\n", "tablets", &[]), 32),
     (("a charset", "iso 8859-1\nhe2n\nb1c", "abcd", &[2]), 36),
+    (("letters that change", "a1bb1c1d/bb=,2,2", "abbcdefg", &[4]), 0),
     (("two groups", "UTF-8\nb1c\nNEXTLEVEL\nc1d\nb2c", "abcdef", &[2, 3]), 54),
 ];
 
@@ -217,7 +235,13 @@ const FAULTS: &[(&str, usize, Fault)] = &[
     ("UTF-8\nLEFTHYPHENMIN", 2, Fault::Number),
     ("LEFTHYPHENMIN 100", 1, Fault::Number),
     ("RIGHTHYPHENMIN two", 1, Fault::Number),
-    ("UTF-8\nc1k/k=k", 2, Fault::Replacement),
+    ("UTF-8\nc1k/kk", 2, Fault::Replacement),
+    ("c1k/k=k,1", 1, Fault::Replacement),
+    ("c1k/k=k,1,100", 1, Fault::Replacement),
+    ("c1k/k=k,1,1,1", 1, Fault::Replacement),
+    ("ta-ble/t=b", 1, Fault::Replacement),
+    ("\\patterns{1b}\n\\hyphenation{c1k/k=k}", 2, Fault::Replacement),
+    ("c1k/k = k", 1, Fault::Sign),
     ("a1b c1d", 1, Fault::Sign),
     ("a1b\na1b % why", 2, Fault::Sign),
     ("\\patterns{\\'e1b}", 1, Fault::Sign),
@@ -308,6 +332,26 @@ fn words_have_their_points(rt: HostRuntime) -> Result<(), AllocError> {
     let patterns = dictionary(rt.alloc())?;
     for (rule, word, wanted) in WORDS {
         assert_found(&rt, rule, has_points(rt.alloc(), word, &patterns, wanted));
+    }
+    Ok(())
+}
+
+/// Whether a word has these points where soft hyphens are points.
+fn has_soft_points(
+    alloc: Global,
+    word: &str,
+    patterns: &Patterns,
+    wanted: &[usize],
+) -> Result<bool, AllocError> {
+    let table = patterns.table().soft_hyphens(true);
+    Ok(points(alloc, word, &table)?.as_slice() == wanted)
+}
+
+#[test]
+fn soft_hyphens_are_points_if_asked(rt: HostRuntime) -> Result<(), AllocError> {
+    let patterns = dictionary(rt.alloc())?;
+    for (rule, word, wanted) in SOFT {
+        assert_found(&rt, rule, has_soft_points(rt.alloc(), word, &patterns, wanted));
     }
     Ok(())
 }
@@ -472,6 +516,14 @@ fn dictionaries_are_read(rt: HostRuntime) {
     for (rule, text, word, wanted) in TEXTS {
         assert_found(&rt, rule, has_points_by(rt.alloc(), text, word, wanted));
     }
+}
+
+#[test]
+fn patterns_that_change_letters_are_counted(rt: HostRuntime) -> Result<(), ParseError> {
+    let text = "1b\nc1k/k=k\nNEXTLEVEL\nd1d/d=d,1,2\nb1d";
+    let patterns = Patterns::parse(rt.alloc(), text)?;
+    assert_count(&rt, "in both groups", patterns.table().changed(), 2);
+    Ok(())
 }
 
 /// Whether a word has these points by the dictionary that bytes say.

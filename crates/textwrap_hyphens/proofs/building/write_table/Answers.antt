@@ -24,13 +24,13 @@ returns g c =
     let ex = c.in_ok-exceptions.exceptions in
     let jo = c.in_ok-joints.joints in
     let sum = c.sum_of-sum.result in
-    let before = n ∷ jo ∷ jm ∷ mins.compound_left ∷ mins.compound_right ∷ ex ∷ pa ∷ m ∷ [] in
-    let ten = n ∷ jo ∷ jm ∷ mins.compound_left ∷ mins.compound_right ∷ ex ∷ pa ∷ m ∷ mins.left ∷ mins.right ∷ [] in
+    let before = es.changed ∷ n ∷ jo ∷ jm ∷ mins.compound_left ∷ mins.compound_right ∷ ex ∷ pa ∷ m ∷ [] in
+    let eleven = es.changed ∷ n ∷ jo ∷ jm ∷ mins.compound_left ∷ mins.compound_right ∷ ex ∷ pa ∷ m ∷ mins.left ∷ mins.right ∷ [] in
     let first = c.extend_from_slice.new.self.items in
     let whole : c.push-2.new.self.items ≡ (body ++ before) ++ mins.left ∷ mins.right ∷ sum ∷ [] =
     c.in_ok-push-2.ensures.items
     ∙ ap (λ l. l ++ sum ∷ []) c.in_ok-extend_from_slice.ensures.items
-    ∙ append_assoc body ten (sum ∷ [])
+    ∙ append_assoc body eleven (sum ∷ [])
     ∙ sym (append_assoc body before (mins.left ∷ mins.right ∷ sum ∷ [])) in
     let (added_first, grown_first) = c.in_ok-patterns.ensures.grown in
     let (added_second, grown_second) = c.in_ok-exceptions.ensures.grown in
@@ -47,13 +47,13 @@ returns g c =
     ap (λ w. level_from text w pa place) (behind_one more)
     ∙ c.in_ok-patterns.ensures.greatest refl (added_second ++ (added ++ more)) text place in
     let front = (added_first ++ added_second) ++ added in
-    let shape : first ≡ version ∷ front ++ ten =
+    let shape : first ≡ version ∷ front ++ eleven =
     c.in_ok-extend_from_slice.ensures.items
-    ∙ ap (λ l. l ++ ten) (grown ∙ ap (λ l. l ++ added) (grown_second
+    ∙ ap (λ l. l ++ eleven) (grown ∙ ap (λ l. l ++ added) (grown_second
     ∙ ap (λ l. l ++ added_second) (grown_first
     ∙ ap (λ l. l ++ added_first) (c.in_ok-push.ensures.items
     ∙ ap (λ l. l ++ version ∷ []) c.new-words.ensures.items)))) in
-    let size = length-append front ten in
+    let size = length-append front eleven in
     let told : n ≡ es.joints.len = c.len-count.ensures in
     let count : n ≡ length es.joints.items = omega (arith, told, es.joints.ok.0) in
     let says = λ (l r s : ℕ).

@@ -1,6 +1,6 @@
 use Rattle.textwrap_patterns.proofs.Common.{◌≡◌, ◌+◌, drop}
-use Rattle.textwrap_patterns.specs.Parsing.{before}
-use Rattle.textwrap_patterns.proofs.parsing.find.Given as goal
+use Rattle.textwrap_patterns.specs.Changes.{before}
+use Rattle.textwrap_patterns.proofs.changes.find.Given as goal
 
 abbrev pub invariant-loop-i : goal.invariant-loop-i
 invariant-loop-i l =

@@ -785,11 +785,6 @@ static void words_have_points(void) {
     d = whole;
     d.is_checked = 2;
     CHECK(textwrap_hyphen_points(&d, bytes("\xff"), 1, points, 3, &count) == TEXTWRAP_UNKNOWN_OPTIONS);
-    for (size_t i = 0; i < 2; i++) {
-        d = whole;
-        d.reserved_sizes[i] = 1;
-        CHECK(textwrap_hyphen_points(&d, word, 11, points, 3, &count) == TEXTWRAP_UNKNOWN_OPTIONS);
-    }
     d = textwrap_dictionary_new(table, 0);
     CHECK(textwrap_hyphen_points(&d, bytes("\xff"), 1, points, 3, &count) == TEXTWRAP_NOT_UTF8);
     d = textwrap_dictionary_new(table, len - 1);
@@ -808,6 +803,14 @@ static void words_have_points(void) {
     d.in_parts = 1;
     CHECK(textwrap_hyphen_points(&d, parts, 14, points, 3, &count) == TEXTWRAP_DONE);
     CHECK(count == 2 && points[0] == 5 && points[1] == 9);
+    d = whole;
+    d.left = 3;
+    CHECK(textwrap_hyphen_points(&d, word, 11, points, 3, &count) == TEXTWRAP_DONE);
+    CHECK(count == 1 && points[0] == 6);
+    d = whole;
+    d.right = 6;
+    CHECK(textwrap_hyphen_points(&d, word, 11, points, 3, &count) == TEXTWRAP_DONE);
+    CHECK(count == 1 && points[0] == 2);
 }
 
 static void a_dictionary_may_be_checked(void) {
@@ -856,11 +859,11 @@ static void texts_are_hyphenated(void) {
     CHECK(textwrap_wrap_hyphenated(text, 15, &o, &d, lines, 2, &count, room, 17, &len)
           == TEXTWRAP_UNKNOWN_OPTIONS);
     o.unicode_breaks = 0;
-    d.reserved_sizes[1] = 1;
+    d.in_parts = 2;
     CHECK(textwrap_fill_hyphenated(text, 15, &o, &d, room, 17, &len) == TEXTWRAP_UNKNOWN_OPTIONS);
     CHECK(textwrap_wrap_hyphenated(text, 15, &o, &d, lines, 2, &count, room, 17, &len)
           == TEXTWRAP_UNKNOWN_OPTIONS);
-    d.reserved_sizes[1] = 0;
+    d.in_parts = 0;
     CHECK(textwrap_fill_hyphenated(bytes("\xff"), 1, &o, &damaged, room, 17, &len)
           == TEXTWRAP_NOT_UTF8);
     CHECK(textwrap_wrap_hyphenated(bytes("\xff"), 1, &o, &damaged, lines, 2, &count, room, 17, &len)

@@ -525,7 +525,8 @@ typedef struct {
                                * Of damaged numbers that are not tested a word has points that mean
                                * nothing, and nothing worse: they increase inside the word all the same,
                                * and no other memory is read */
-    size_t reserved_sizes[2]; /* 0; any other number is TEXTWRAP_UNKNOWN_OPTIONS */
+    size_t left;              /* how many letters stay before a point; 0: as many as the numbers say */
+    size_t right;             /* how many stay behind a point; 0: as many as the numbers say */
 } textwrap_dictionary;
 
 /* A dictionary of these numbers, which each call tests, and which gives a word with a hyphen no points.

@@ -36,6 +36,8 @@ use core::fmt;
 pub struct Patterns {
     numbers: Shared,
     in_parts: bool,
+    left: usize,
+    right: usize,
 }
 
 /// Why a text gives no patterns.
@@ -55,12 +57,14 @@ impl fmt::Display for PatternsError {
 
 impl Error for PatternsError {}
 
-/// How many numbers they are, and whether parts are hyphenated.
+/// How many numbers they are, whether parts are hyphenated, and the minima that were set.
 impl fmt::Debug for Patterns {
     fn fmt(&self, f: &mut fmt::Formatter<'_>) -> fmt::Result {
         f.debug_struct("Patterns")
             .field("numbers", &self.numbers.len())
             .field("in_parts", &self.in_parts)
+            .field("left", &self.left)
+            .field("right", &self.right)
             .finish()
     }
 }
@@ -114,7 +118,7 @@ impl Patterns {
 
     /// The patterns of these numbers, which are whole.
     fn of(numbers: Vec<usize>) -> Result<Patterns, OutOfMemory> {
-        Ok(Patterns { numbers: Shared::of(numbers)?, in_parts: false })
+        Ok(Patterns { numbers: Shared::of(numbers)?, in_parts: false, left: 0, right: 0 })
     }
 
     /// The patterns as numbers, which [`from_numbers`](Patterns::from_numbers) takes in place of the
@@ -141,7 +145,8 @@ impl Patterns {
     }
 
     /// The patterns of these numbers, which [`as_numbers`](Patterns::as_numbers) gave. They do not tell
-    /// whether words are hyphenated [in parts](Patterns::in_parts); at first they are not.
+    /// whether words are hyphenated [in parts](Patterns::in_parts), which at first they are not, nor what
+    /// [`minima`](Patterns::minima) set.
     ///
     /// It is `None` if the numbers are those of another version, or if a sum of all of them tells that
     /// they were damaged. Where it does not tell, words have other points, but none outside of a word.
@@ -198,6 +203,26 @@ impl Patterns {
         self
     }
 
+    /// Sets how many letters stay before the first hyphen of a word and behind the last, whatever the
+    /// text said. 0 stands for what it said.
+    ///
+    /// # Examples
+    ///
+    /// ```
+    /// use textwrap_proved::hyphens::Patterns;
+    ///
+    /// let patterns = Patterns::parse("1b\n1l\n")?;
+    /// assert_eq!(patterns.points("table"), [2]);
+    /// assert_eq!(patterns.minima(3, 2).points("table"), [3]);
+    /// # Ok::<(), textwrap_proved::hyphens::PatternsError>(())
+    /// ```
+    #[must_use]
+    pub fn minima(mut self, left: usize, right: usize) -> Patterns {
+        self.left = left;
+        self.right = right;
+        self
+    }
+
     /// The offsets in bytes at which a word has a hyphen. They increase, and are character boundaries
     /// inside the word.
     ///
@@ -249,7 +274,8 @@ impl Patterns {
             numbers_len: self.numbers.len(),
             in_parts: self.in_parts.into(),
             is_checked: 1,
-            reserved_sizes: [0; 2],
+            left: self.left,
+            right: self.right,
         }
     }
 

@@ -125,7 +125,8 @@ pub struct Dictionary {
     pub numbers_len: usize,
     pub in_parts: u32,
     pub is_checked: u32,
-    pub reserved_sizes: [usize; 2],
+    pub left: usize,
+    pub right: usize,
 }
 
 #[repr(C)]

@@ -1,7 +1,7 @@
 //! A dictionary, as C hands it over.
 ghost use Rattle.std.specs.Prelude.{◌≡◌, ◌↔◌, true, MatchOption};
 ghost use Rattle.textwrap_more_calls.specs.Dictionaries.{IsDamaged, IsKnownDictionary};
-ghost use Rattle.textwrap_more_calls.specs.Dictionaries.{hyphenation_of};
+ghost use Rattle.textwrap_more_calls.specs.Dictionaries.{hyphenation_of, with_letters};
 ghost use Rattle.textwrap_hyphens.specs.Table.{held};
 
 use textwrap_hyphens::table::PatternTable;
@@ -18,15 +18,17 @@ pub struct TextwrapDictionary<'a> {
     /// `textwrap_patterns_check` told. Then they are not tested, which would read all numbers. Numbers
     /// of which this is not so have points too, inside the word, which mean nothing.
     pub is_checked: u32,
-    /// 0 each, until a later number takes one, for which 0 will change nothing.
-    pub reserved_sizes: [usize; 2],
+    /// How many letters stay before a point. 0: as many as the numbers say.
+    pub left: usize,
+    /// How many letters stay behind a point. 0: as many as the numbers say.
+    pub right: usize,
 }
 
 /// Whether each number beside those of the dictionary means something.
 pub(crate) fn is_known(given: &TextwrapDictionary<'_>) -> bool
     ensures { result ≡ true ↔ IsKnownDictionary given.now }
 {
-    given.in_parts <= 1 && given.is_checked <= 1 && given.reserved_sizes == [0; 2]
+    given.in_parts <= 1 && given.is_checked <= 1
 }
 
 /// The dictionary of these numbers. `None` if they are to be tested, and are damaged.
@@ -35,9 +37,21 @@ pub(crate) fn read_dictionary<'a>(given: &TextwrapDictionary<'a>) -> Option<Patt
         (λ table. ¬ IsDamaged given.now × (held table ≡ hyphenation_of given.now)) }
 {
     let in_parts = given.in_parts != 0;
-    if given.is_checked == 0 {
-        PatternTable::of(given.numbers, in_parts)
-    } else {
-        Some(PatternTable::of_unchecked(given.numbers, in_parts))
+    if given.is_checked != 0 {
+        let table = PatternTable::of_unchecked(given.numbers, in_parts);
+        return Some(with_letters(table, given.left, given.right));
     }
+    match PatternTable::of(given.numbers, in_parts) {
+        Some(table) => Some(with_letters(table, given.left, given.right)),
+        None => None,
+    }
+}
+
+/// The dictionary with these numbers of letters before and behind a point, of which 0 changes none.
+fn with_letters(table: PatternTable<'_>, left: usize, right: usize) -> PatternTable<'_>
+    ensures { held result ≡ with_letters left right (held table.entry) }
+{
+    let left = if left == 0 { table.left() } else { left };
+    let right = if right == 0 { table.right() } else { right };
+    table.minima(left, right)
 }

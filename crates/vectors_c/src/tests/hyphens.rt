@@ -27,7 +27,7 @@ use textwrap_more_calls::hyphens::texts::{
 const PATTERNS: &[u8] = b"hy3ph\nhe2n\nhena4\nhen5at\n1na\nn2at\n1tio\n2io\no2n\n";
 
 /// How many numbers their dictionary has.
-const NUMBERS: usize = 178;
+const NUMBERS: usize = 179;
 
 /// How much room for numbers the longest row has.
 const MOST: usize = 200;
@@ -56,7 +56,8 @@ pub(super) struct Hyphens {
     numbers: Numbers,
     in_parts: u32,
     is_checked: u32,
-    reserved_sizes: [usize; 2],
+    left: usize,
+    right: usize,
 }
 
 /// The whole dictionary.
@@ -64,7 +65,8 @@ pub(super) const WHOLE: Hyphens = Hyphens {
     numbers: Numbers::Whole,
     in_parts: 0,
     is_checked: 0,
-    reserved_sizes: [0; 2],
+    left: 0,
+    right: 0,
 };
 
 /// The same, which hyphenates the parts of words too.
@@ -90,14 +92,14 @@ const UNKNOWN_CHECK: Hyphens = Hyphens {
     ..WHOLE
 };
 
-/// A number in reserve that is not 0.
-const RESERVED: Hyphens = Hyphens {
-    reserved_sizes: [1, 0],
+/// With more letters before a point, and behind it, than the numbers say.
+const FAR: Hyphens = Hyphens {
+    left: 3,
     ..WHOLE
 };
 
-const LATER_RESERVED: Hyphens = Hyphens {
-    reserved_sizes: [0, 1],
+const FAR_BEHIND: Hyphens = Hyphens {
+    right: 6,
     ..CHECKED
 };
 
@@ -156,12 +158,12 @@ fn hand_over(alloc: Global, numbers: Numbers, room: &mut [usize; MOST]) -> usize
 
 /// The dictionary of these numbers, as it is handed over.
 fn dictionary<'a>(hyphens: Hyphens, numbers: &'a [usize]) -> TextwrapDictionary<'a> {
-    let reserved_sizes = hyphens.reserved_sizes;
     TextwrapDictionary {
         numbers,
         in_parts: hyphens.in_parts,
         is_checked: hyphens.is_checked,
-        reserved_sizes,
+        left: hyphens.left,
+        right: hyphens.right,
     }
 }
 
@@ -367,8 +369,8 @@ const POINTS: &[PointsRow] = &[
     (b"", WHOLE, (DONE, 0), &[]),
     (b"\xff", UNKNOWN, (UNKNOWN_OPTIONS, BEFORE), &[NO_OFFSET]),
     (b"\xff", UNKNOWN_CHECK, (UNKNOWN_OPTIONS, BEFORE), &[NO_OFFSET]),
-    (b"hyphenation", RESERVED, (UNKNOWN_OPTIONS, BEFORE), &[NO_OFFSET]),
-    (b"hyphenation", LATER_RESERVED, (UNKNOWN_OPTIONS, BEFORE), &[NO_OFFSET]),
+    (b"hyphenation", FAR, (DONE, 1), &[6]),
+    (b"hyphenation", FAR_BEHIND, (DONE, 1), &[2]),
     (b"\xff", SHORT, (NOT_UTF8, BEFORE), &[NO_OFFSET]),
     (b"hyphenation", CHANGED, (DAMAGED_TABLE, BEFORE), &[NO_OFFSET]),
     (b"hyphenation", EXCHANGED, (DAMAGED_TABLE, BEFORE), &[NO_OFFSET]),
@@ -403,6 +405,7 @@ pub(super) const AT_11: TextwrapOptions<'_> = TextwrapOptions {
 const FILLED: &[TextRow] = &[
     ((TextCall::FillHyphenated(AT_11, WHOLE), b"the hyphenation"), (DONE, 17, b"the hyphen-\nation__")),
     ((TextCall::FillHyphenated(AT_6, WHOLE), b"hyphenation"), (DONE, 15, b"hy-\nphen-\nation__")),
+    ((TextCall::FillHyphenated(AT_6, FAR), b"hyphenation"), (DONE, 13, b"hyphen-\nation__")),
     ((TextCall::FillHyphenated(AT_11, WHOLE), b"the re-hyphenation"), (DONE, 19, b"the re-\nhyphenation__")),
     ((TextCall::FillHyphenated(AT_6, IN_PARTS), b"re-hyphenation"), (DONE, 18, b"re-hy-\nphen-\nation__")),
     // At blanks this is one word.
@@ -447,7 +450,7 @@ const REFUSED_TEXTS: &[RefusedTexts] = &[
     (UNKNOWN_OPTIONS, &[
         (TextCall::FillHyphenated(AT_11, UNKNOWN), b"\xff"),
         (TextCall::FillHyphenated(AT_UNKNOWN, WHOLE), b"a"),
-        (TextCall::FillHyphenated(AT_11, LATER_RESERVED), b"a"),
+        (TextCall::FillHyphenated(AT_11, UNKNOWN_CHECK), b"a"),
         (TextCall::RefillHyphenated(AT_UNKNOWN, WHOLE), b"\xff"),
         (TextCall::RefillHyphenated(AT_11, UNKNOWN_CHECK), b"a"),
     ]),
@@ -471,7 +474,7 @@ const REFUSED_LINES: &[RefusedLines] = &[
         (LinesCall::WrapHyphenated(AT_UNKNOWN, WHOLE), b"a"),
         (LinesCall::ColumnsHyphenated(0, AT_15, BAR, WHOLE), b"\xff"),
         (LinesCall::ColumnsHyphenated(1, AT_15, UNKNOWN_GAPS, WHOLE), b"a"),
-        (LinesCall::ColumnsHyphenated(1, AT_15, NO_TEXT_GAPS, RESERVED), b"a"),
+        (LinesCall::ColumnsHyphenated(1, AT_15, NO_TEXT_GAPS, UNKNOWN), b"a"),
     ]),
     (NOT_UTF8, &[
         (LinesCall::WrapHyphenated(AT_11, SHORT), b"\xff"),

@@ -1,24 +1,18 @@
 -- Words that are cut between their characters: the reader that finds where.
-use Rattle.textwrap_text.proofs.Common.{IsCharBoundary, get_or, []}
-use Rattle.textwrap_text.proofs.Common.{encode_utf8_all, encodes-chars, text_width}
-use Rattle.textwrap_text.proofs.Common.{take_while}
-use Rattle.textwrap_text.proofs.Common.{sum_by-cons, cases_Bool, visible_in, next_of, not}
-use Rattle.textwrap_text.proofs.Common.{chars-nil, columns, length, sum_by, IsUtf8, shows}
-use Rattle.textwrap_text.proofs.Common.{cases_lt, arith, false, subst}
-use Rattle.textwrap_text.proofs.Common.{Bool, List, drop, refl, take, true, ◌++◌}
-use Rattle.textwrap_text.proofs.Common.{eqb, inl, inr, sym, ◌+◌, ◌<◌, ◌∙◌, ◌∷◌, ◌≡◌, ◌≢◌, ◌≤◌, ◌⊎◌, ap, ℕ}
+use Rattle.textwrap_text.proofs.Common.{IsCharBoundary, encode_utf8_all, encodes-chars, sum_by-cons}
+use Rattle.textwrap_text.proofs.Common.{cases_Bool, false≢true, take_while, text_width, units_width}
+use Rattle.textwrap_text.proofs.Common.{IsUtf8, cases_lt, chars-nil, columns, next_of, visible_in}
+use Rattle.textwrap_text.proofs.Common.{arith, false, get_or, length, ne_eqb, shows, subst, sum_by}
+use Rattle.textwrap_text.proofs.Common.{Bool, List, drop, eqb, inl, inr, refl, take, true, [], ◌++◌}
+use Rattle.textwrap_text.proofs.Common.{ap, not, sym, ℕ, ◌+◌, ◌<◌, ◌∙◌, ◌∷◌, ◌≡◌, ◌≢◌, ◌≤◌, ◌⊎◌}
 use Rattle.std.specs.Prelude.{chars}
-use Rattle.textwrap_text.proofs.Common.{ne_eqb, units_width}
 use Rattle.std.proofs.lemmas.List.Sums.{take_while-cons}
-use Rattle.textwrap_display.proofs.Common.{encode_utf8, is_blank, added}
-use Rattle.textwrap_display.proofs.Common.{State, units}
-use Rattle.textwrap_display.specs.Shortening.{CanCut, IsCut}
-use Rattle.textwrap_display.specs.Shortening.{word_width}
+use Rattle.textwrap_display.proofs.Common.{State, added, encode_utf8, is_blank, units}
+use Rattle.textwrap_display.specs.Shortening.{CanCut, IsCut, word_width}
 use Rattle.textwrap_text.specs.Characters.{characters_from, characters_of}
 use Rattle.textwrap_text.specs.declared.characters.Character.{Character}
 use Rattle.textwrap_text.proofs.Units.Reading.{read-ahead, visible-step}
 use Rattle.textwrap_words.proofs.Word.Ahead.{character-within}
-use Rattle.textwrap_text.proofs.Common.{false≢true}
 use Rattle.textwrap_text.specs.declared.escapes.State.TheVariants.{Command, Control, Escape, Text}
 use Rattle.textwrap_display.proofs.KeptWords.{read_to-start, read_to-step, IsReadTo}
 use Rattle.textwrap_display.proofs.KeptWords.{read-width, read-more, read-le}

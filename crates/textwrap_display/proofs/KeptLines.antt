@@ -1,17 +1,16 @@
 -- The longest beginning of a line that may be kept, and the first lines as they are.
-use Rattle.textwrap_text.proofs.Common.{take-append-drop, length-take-le, append_assoc, length-map}
-use Rattle.textwrap_text.proofs.Common.{string_bytes, map-append, text_width, drop_more, take_more}
-use Rattle.textwrap_text.proofs.Common.{cases_lt, eqb-true, IsUtf8, get_or, length, rules, arith, ℕ}
-use Rattle.textwrap_text.proofs.Common.{false, subst, Bool, List, drop, refl, take, true, ◌++◌, Bor}
-use Rattle.textwrap_text.proofs.Common.{eqb, inl, inr, map, sym, ◌+◌, ◌<◌, ◌∙◌, ◌∷◌, ◌≡◌, ◌≢◌, ◌≤◌}
-use Rattle.textwrap_text.proofs.Common.{◌⊎◌, [], ap}
+use Rattle.textwrap_text.proofs.Common.{append_assoc, cases_Bool, length-take-le, take-append-drop}
+use Rattle.textwrap_text.proofs.Common.{drop_more, length-map, map-append, string_bytes, text_width}
+use Rattle.textwrap_text.proofs.Common.{Bool, IsUtf8, cases_lt, eqb-true, get_or, length, take_more}
+use Rattle.textwrap_text.proofs.Common.{List, arith, drop, false, refl, rules, subst, take, true, ℕ}
+use Rattle.textwrap_text.proofs.Common.{Bor, eqb, inl, inr, map, sym, ◌++◌, ◌+◌, ◌<◌, ◌∙◌, ◌∷◌, ◌≡◌}
+use Rattle.textwrap_text.proofs.Common.{ap, [], ◌≢◌, ◌≤◌, ◌⊎◌}
 use Rattle.textwrap_display.proofs.Common.{line_bytes-line_view, cow_str_bytes, AreShortened, Built}
 use Rattle.textwrap_display.proofs.Common.{IsShortened, encode_utf8, line_bytes, line_view, can_end}
 use Rattle.textwrap_display.proofs.Common.{read-all, texts_of, CowStr, String, Slice, State, Line}
 use Rattle.textwrap_display.specs.Shortening.{CanEnd, IsKeptBeginning}
 use Rattle.textwrap_layout.specs.Text.{HasWholeSequences}
 use Rattle.textwrap_text.specs.declared.escapes.State.TheVariants.{Text}
-use Rattle.textwrap_text.proofs.Common.{cases_Bool}
 use Rattle.textwrap_display.proofs.WholeBeginnings.{read-whole, whole-read}
 use Rattle.textwrap_styles.proofs.SequenceTexts.{nil-whole}
 use Rattle.textwrap_display.proofs.KeptWords.{may_end-boundary, is_after_blank, may_end-blanks}

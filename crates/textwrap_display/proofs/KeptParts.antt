@@ -1,16 +1,13 @@
 -- What is kept of a line: whole words, and of the next word, which is a text by itself, what has
 -- room.
-use Rattle.textwrap_text.proofs.Common.{IsCharBoundary, []}
-use Rattle.textwrap_text.proofs.Common.{text_width}
-use Rattle.textwrap_text.proofs.Common.{IsUtf8-take, IsUtf8-drop, length-prefix_len}
-use Rattle.textwrap_text.proofs.Common.{IsCharBoundary-from_take, drop-drop, length-drop}
-use Rattle.textwrap_text.proofs.Common.{cases_Bool}
-use Rattle.textwrap_text.proofs.Common.{All-append, length, IsUtf8}
-use Rattle.textwrap_text.proofs.Common.{cases_lt, take-add, arith, subst}
-use Rattle.textwrap_text.proofs.Common.{Bool, List, drop, refl, take, true, ◌++◌, ◌&&◌, ◌-◌, All}
-use Rattle.textwrap_text.proofs.Common.{inl, inr, sym, ◌+◌, ◌<◌, ◌∙◌, ◌≡◌, ◌≢◌, ◌≤◌, ◌⊎◌, ap, ℕ}
+use Rattle.textwrap_text.proofs.Common.{IsCharBoundary-from_drop, IsCharBoundary-from_take, IsUtf8}
+use Rattle.textwrap_text.proofs.Common.{IsCharBoundary, IsUtf8-from_ascii, arith, length-prefix_len}
+use Rattle.textwrap_text.proofs.Common.{IsUtf8-drop, IsUtf8-take, length, length-drop, units_width}
+use Rattle.textwrap_text.proofs.Common.{All-append, and_parts, cases_Bool, drop-drop, text_width, ℕ}
+use Rattle.textwrap_text.proofs.Common.{Bool, List, cases_lt, ltb-false, ltb-true, subst, take-add}
+use Rattle.textwrap_text.proofs.Common.{All, drop, inl, inr, refl, sym, take, true, ◌&&◌, ◌++◌, ◌+◌}
+use Rattle.textwrap_text.proofs.Common.{ap, [], ◌-◌, ◌<◌, ◌∙◌, ◌≡◌, ◌≢◌, ◌≤◌, ◌⊎◌}
 use Rattle.std.specs.Prelude.{chars}
-use Rattle.textwrap_text.proofs.Common.{and_parts, ltb-false, ltb-true, units_width}
 use Rattle.std.proofs.lemmas.Str.{IsCharBoundary-from_rest}
 use Rattle.textwrap_display.proofs.Common.{text_width-append, is_blank, IsWhole}
 use Rattle.textwrap_display.proofs.Common.{indent_len, IsWholeText, units}
@@ -20,7 +17,6 @@ use Rattle.textwrap_layout.specs.Text.{HasWholeSequences}
 use Rattle.textwrap_text.proofs.Lists.Parts.{all-right}
 use Rattle.textwrap_lines.proofs.Text.Printed.{blanks-printable, blanks-whole}
 use Rattle.textwrap_text.proofs.Units.Reading.{printable-ascii}
-use Rattle.textwrap_text.proofs.Common.{IsUtf8-from_ascii, IsCharBoundary-from_drop}
 use Rattle.std.proofs.lemmas.List.Sums.{prefix_len-le-length}
 use Rattle.textwrap_display.proofs.KeptWords.{may_end-boundary}
 use Rattle.textwrap_display.proofs.KeptLines.{none-kept}

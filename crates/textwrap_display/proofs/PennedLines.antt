@@ -1,38 +1,32 @@
 -- Rows of texts that stand alone, lines that are aligned and lines that are justified, by the pen.
-use Rattle.textwrap_text.proofs.Common.{All, All-head, All-tail, append-nil, append_assoc, arith}
-use Rattle.textwrap_text.proofs.Common.{cases_Bool, inl, inr, List, refl, subst, sym}
-use Rattle.textwrap_text.proofs.Common.{◌++◌, ◌-◌, ◌==◌, ◌∙◌, ◌∷◌, ◌≡◌, [], ap, ℕ}
+use Rattle.textwrap_text.proofs.Common.{append-nil, append_assoc, flat_map-append, take-append-drop}
+use Rattle.textwrap_text.proofs.Common.{All-head, All-tail, arith, cases_Bool, chars-nil, join_with}
+use Rattle.textwrap_text.proofs.Common.{IsUtf8, List, drop, eqb-true, flat_map, fold, refl, subst}
+use Rattle.textwrap_text.proofs.Common.{All, inl, inr, min, not, take, true, zero, ◌++◌, ◌==◌, ◌||◌}
+use Rattle.textwrap_text.proofs.Common.{ap, suc, sym, ℕ, [], ◌+◌, ◌-◌, ◌/◌, ◌∙◌, ◌∷◌, ◌≡◌}
 use Rattle.std.specs.Str.{chars}
 use Rattle.textwrap_text.specs.Units.{Visible}
-use Rattle.textwrap_text.proofs.Common.{join_with}
 use Rattle.textwrap_display.proofs.Common.{blanks, line_bytes, text_width, units}
-use Rattle.textwrap_display.proofs.Widths.{blanks-are}
+use Rattle.textwrap_display.proofs.Common.{blank, sequence_of, sequences}
+use Rattle.textwrap_display.proofs.Common.{AreBlanks, chunks, gaps, indent_len, is_blank, justified}
+use Rattle.textwrap_display.proofs.Common.{line_words, tiled, widened_words, WordText, ◌%◌}
+use Rattle.textwrap_display.proofs.Widths.{blanks-are, indent-blanks, rest-utf8}
 use Rattle.textwrap_layout.proofs.Paragraph.LeftOff.{blanks-utf8}
 use Rattle.textwrap_lines.proofs.Text.Printed.{blanks-whole}
 use Rattle.textwrap_display.specs.Alignment.{aligned, blanks_before}
-use Rattle.textwrap_display.specs.Laws.{IsBeside, row_of, shown_apart, StandsAlone}
+use Rattle.textwrap_display.specs.Laws.{IsBeside, StandsAlone, row_of, shown_apart, without_blanks}
 use Rattle.std.proofs.lemmas.List.Sums.{fold-append}
-use Rattle.textwrap_display.proofs.Common.{blank, sequence_of, sequences}
-use Rattle.textwrap_styles.proofs.SequenceTexts.{nil-whole}
-use Rattle.textwrap_styles.specs.Penned.{rendition_of, with_sequence}
-use Rattle.textwrap_text.proofs.Common.{chars-nil, flat_map, flat_map-append, fold, suc, zero}
-use Rattle.textwrap_text.proofs.Common.{drop, eqb-true, IsUtf8, min, not, take, take-append-drop}
-use Rattle.textwrap_text.proofs.Common.{true, ◌+◌, ◌/◌, ◌||◌}
+use Rattle.textwrap_styles.proofs.SequenceTexts.{nil-whole, text_units-append, whole_text-append}
+use Rattle.textwrap_styles.proofs.SequenceTexts.{penned-append}
+use Rattle.textwrap_styles.specs.Penned.{penned_units, plain_rendition, rendition_of, with_sequence}
+use Rattle.textwrap_styles.specs.Penned.{Rendition, penned_text}
 use Rattle.std.proofs.lemmas.List.Elements.{filter-append}
-use Rattle.textwrap_display.proofs.Common.{AreBlanks, chunks, gaps, indent_len, is_blank, justified}
-use Rattle.textwrap_display.proofs.Common.{line_words, tiled, widened_words, WordText, ◌%◌}
-use Rattle.textwrap_display.proofs.Widths.{indent-blanks, rest-utf8}
-use Rattle.textwrap_display.specs.Laws.{without_blanks}
 use Rattle.textwrap_layout.specs.Text.{HasWholeSequences}
-use Rattle.textwrap_styles.specs.Penned.{Rendition}
 use Rattle.textwrap_text.proofs.Units.Chunks.{chunks-utf8}
 use Rattle.textwrap_words.proofs.Word.Words.{IsMeasured, tiled-words_of, words-measured}
 use lib.Utf8.{encode}
 use Rattle.textwrap_display.specs.Tables.{RowGaps}
 use Rattle.textwrap_display.specs.declared.alignment.Alignment.{Alignment}
-use Rattle.textwrap_styles.proofs.SequenceTexts.{penned-append, text_units-append}
-use Rattle.textwrap_styles.proofs.SequenceTexts.{whole_text-append}
-use Rattle.textwrap_styles.specs.Penned.{penned_text, penned_units, plain_rendition}
 
 -- what follows such a text shows what it shows by itself
 apart : (front text : List ℕ) → StandsAlone front

@@ -1,25 +1,22 @@
 -- Lines that were cut: what is kept and what closes it, what they show, and their widths; and that
 -- only one number of bytes may be kept.
-use Rattle.textwrap_text.proofs.Common.{take-append-drop, flat_map-append, append-nil}
-use Rattle.textwrap_text.proofs.Common.{text_width, cases_Bool, length}
-use Rattle.textwrap_text.proofs.Common.{take_at, IsUtf8, subst, arith, Bool, List, drop, take}
-use Rattle.textwrap_text.proofs.Common.{false, true, refl, ◌++◌, ◌&&◌, inl, inr, sym, ◌+◌, ◌∙◌, ◌≡◌, ◌≤◌, [], ap, ℕ}
+use Rattle.textwrap_text.proofs.Common.{append-nil, cases_Bool, flat_map-append, take-append-drop}
+use Rattle.textwrap_text.proofs.Common.{IsUtf8, arith, false, length, subst, take_at, text_width, ℕ}
+use Rattle.textwrap_text.proofs.Common.{All, Bool, List, drop, inl, refl, take, true, ◌&&◌, ◌++◌}
+use Rattle.textwrap_text.proofs.Common.{ap, inr, sym, ◌+◌, ◌∙◌, ◌≡◌, ◌≤◌}
 use Rattle.std.specs.Prelude.{chars}
-use Rattle.textwrap_text.proofs.Common.{All}
-use Rattle.textwrap_display.proofs.Common.{IsShortened, IsWholeText}
-use Rattle.textwrap_display.proofs.Common.{text_width-append, line_bytes}
-use Rattle.textwrap_display.proofs.Common.{indent_len, sequences, closing, concat, units, Line}
+use Rattle.textwrap_display.proofs.Common.{IsShortened, IsWholeText, indent_len, text_width-append}
+use Rattle.textwrap_display.proofs.Common.{Line, closing, concat, line_bytes, sequences, units}
 use Rattle.textwrap_display.specs.Shortening.{is_too_wide, IsCut, IsKeptLength, IsKeptBeginning}
 use Rattle.textwrap_styles.proofs.PenStyles.{ended}
 use Rattle.textwrap_styles.specs.Penned.{penned_text, penned_units, plain_rendition, rendition_of}
 use Rattle.textwrap_styles.specs.Styled.{EndsPlain}
 use Rattle.textwrap_display.proofs.CutWords.{no_columns}
 use Rattle.textwrap_display.proofs.KeptParts.{kept-whole, kept-room}
-use Rattle.textwrap_styles.proofs.SequenceTexts.{closing-sequences, closing_sequences, closing-is}
-use Rattle.textwrap_styles.proofs.SequenceTexts.{text_units-append, whole_text-append, units-again}
-use Rattle.textwrap_styles.proofs.SequenceTexts.{IsSequence, none-visible, penned-append}
-use Rattle.textwrap_styles.proofs.SequenceTexts.{sequence_units, sequences-show}
-use Rattle.textwrap_styles.proofs.SequenceTexts.{concat-units, concat-whole}
+use Rattle.textwrap_styles.proofs.SequenceTexts.{closing-sequences, closing_sequences, concat-units}
+use Rattle.textwrap_styles.proofs.SequenceTexts.{concat-whole, text_units-append, whole_text-append}
+use Rattle.textwrap_styles.proofs.SequenceTexts.{penned-append, sequence_units, sequences-show}
+use Rattle.textwrap_styles.proofs.SequenceTexts.{IsSequence, closing-is, none-visible, units-again}
 
 -- ---- a text of whole sequences, and what closes it
 

@@ -3,18 +3,18 @@ use Rattle.textwrap_text.proofs.Common.{take-append-drop, nil_from_length, lengt
 use Rattle.textwrap_text.proofs.Common.{append_assoc, IsUtf8-drop, starts_with, All-append, All-nil}
 use Rattle.textwrap_text.proofs.Common.{All-weaker, append-nil, cases_Bool, map-append}
 use Rattle.textwrap_text.proofs.Common.{drop_more, nat_tests, All-cons, All-drop, All-head, drop_at}
-use Rattle.textwrap_text.proofs.Common.{All-tail, flat_map, fold, take_at, IsUtf8, filter, get_or, length}
+use Rattle.textwrap_text.proofs.Common.{All-tail, flat_map, fold, take_at, IsUtf8, get_or, length}
 use Rattle.textwrap_text.proofs.Common.{nat_eq, sum_by, arith, subst, List, cond, drop, refl, take}
-use Rattle.textwrap_text.proofs.Common.{◌++◌, ◌==◌, All, inl, inr, map, sym, ◌+◌, ◌-◌, ◌<◌, []}
+use Rattle.textwrap_text.proofs.Common.{◌++◌, ◌==◌, All, inl, inr, map, sym, ◌+◌, ◌<◌, []}
 use Rattle.textwrap_text.proofs.Common.{◌∙◌, ◌∷◌, ◌≡◌, ◌≤◌, Bool, ap, false, true, ℕ}
-use Rattle.textwrap_styles.proofs.Common.{line_bytes-line_view, starts_with-rest}
-use Rattle.textwrap_styles.proofs.Common.{concat-append, cow_str_bytes, IsWholeText}
-use Rattle.textwrap_styles.proofs.Common.{open_styles, sequence_of, has_target, Built}
-use Rattle.textwrap_styles.proofs.Common.{line_bytes, text_width, line_view, open_link, sequences}
-use Rattle.textwrap_styles.proofs.Common.{texts_of, IsWhole, is_link}
-use Rattle.textwrap_styles.proofs.Common.{CowStr, concat, Slice, units, Line}
+use Rattle.textwrap_styles.proofs.Common.{concat-append, line_bytes-line_view, starts_with-rest}
+use Rattle.textwrap_styles.proofs.Common.{IsWholeText, cow_str_bytes, open_styles, sequence_of}
+use Rattle.textwrap_styles.proofs.Common.{line_bytes, line_view, open_link, sequences, text_width}
+use Rattle.textwrap_styles.proofs.Common.{Built, CowStr, IsWhole, Slice, concat, is_link, texts_of}
+use Rattle.textwrap_styles.proofs.Common.{Line, units}
 use Rattle.textwrap_styles.specs.Indents.{after_indent, before_text, indent_end}
 use Rattle.textwrap_styles.specs.Styles.{carried_line, link_end, style_end}
+use Rattle.textwrap_styles.specs.Styles.{carried_lines, closing, opening}
 use Rattle.std.proofs.lemmas.List.Folds.{flat_map-map}
 use Rattle.textwrap_styles.proofs.SequenceTexts.{closing-sequences, closing_sequences, IsSequence}
 use Rattle.textwrap_styles.proofs.SequenceTexts.{text_units-append, parts-sequences, parts-visible}
@@ -29,7 +29,6 @@ use Rattle.textwrap_text.specs.Units.{columns}
 use Rattle.textwrap_styles.specs.Styled.{EachWithIndent, EndsPlain, MayCarry}
 use Rattle.textwrap_styles.specs.Penned.{Rendition, penned_lines, penned_text, penned_units}
 use Rattle.textwrap_styles.specs.Penned.{plain_rendition, rendition_of, with_sequence}
-use Rattle.textwrap_styles.specs.Styles.{carried_lines, closing, opening}
 use Rattle.std.specs.Str.{chars}
 use Rattle.textwrap_text.proofs.Texts.{StartsWith-boundary}
 

@@ -1,31 +1,26 @@
 -- How many settings are open, and how many bytes set them anew.
-use Rattle.textwrap_text.proofs.Common.{All-append, All-cons, All-head, All-nil, All-tail}
-use Rattle.textwrap_text.proofs.Common.{arith, cases_Bool, cond, drop, eqb, false, filter, flat_map}
-use Rattle.textwrap_text.proofs.Common.{length, length-append, length-map, list_any, map, nat_tests}
-use Rattle.textwrap_text.proofs.Common.{not, refl}
-use Rattle.textwrap_text.proofs.Common.{subst, suc, sym, true, true≢false, zero, ◌*◌, ◌+◌, ◌-◌, ◌<◌}
-use Rattle.textwrap_text.proofs.Common.{◌==◌}
-use Rattle.textwrap_text.proofs.Common.{◌∙◌, ◌∷◌, ◌≡◌, ◌≤◌, [], All, Bool, List, ℕ}
+use Rattle.textwrap_text.proofs.Common.{All-append, All-cons, All-weaker, cases_Bool, length-append}
+use Rattle.textwrap_text.proofs.Common.{All-head, All-tail, Bool, length-map, nat_tests, true≢false}
+use Rattle.textwrap_text.proofs.Common.{All-nil, arith, codes, filter, flat_map, length, list_any}
+use Rattle.textwrap_text.proofs.Common.{All, List, cond, drop, false, refl, subst, true, zero, ◌==◌}
+use Rattle.textwrap_text.proofs.Common.{eqb, inl, inr, map, not, suc, sym, ◌*◌, ◌+◌, ◌-◌, ◌<◌, ◌∙◌}
+use Rattle.textwrap_text.proofs.Common.{ℕ, [], ◌∷◌, ◌≡◌, ◌≤◌}
 use Rattle.std.proofs.lemmas.List.Elements.{All-filter}
 use Rattle.std.proofs.lemmas.Map.Steps.{length-le_from_distinct_below}
 use Rattle.std.specs.List.{after_last, AllByRecursion, IsDistinct}
 use Rattle.std.proofs.Math.Nat.{mul-le-mul_left}
 use Rattle.std.proofs.lemmas.List.{length-take}
-use Rattle.textwrap_text.proofs.Common.{All-weaker, codes, inl, inr}
 use Rattle.textwrap_styles.proofs.CarriedLines.{carried-len}
-use Rattle.textwrap_styles.proofs.Common.{concat, has_target, is_link, is_style}
-use Rattle.textwrap_styles.proofs.Common.{line_bytes, link_end, open_link, style_end}
-use Rattle.textwrap_styles.proofs.Common.{style_parameters}
+use Rattle.textwrap_styles.proofs.Common.{has_target, line_bytes, open_link, style_parameters}
+use Rattle.textwrap_styles.proofs.Common.{concat, is_link, is_style, link_end, style_end}
 use Rattle.textwrap_styles.proofs.LaterSettings.{known-below}
-use Rattle.textwrap_styles.proofs.OpenSettings.{Sets, all-latest, all-open, all-set}
-use Rattle.textwrap_styles.proofs.OpenSettings.{latest-in_effect}
-use Rattle.textwrap_styles.proofs.OpenSettings.{none-latest, resets}
+use Rattle.textwrap_styles.proofs.OpenSettings.{all-latest, all-open, latest-in_effect, none-latest}
+use Rattle.textwrap_styles.proofs.OpenSettings.{Sets, all-set, resets}
 use Rattle.textwrap_styles.proofs.SettingTexts.{first-len}
 use Rattle.textwrap_styles.specs.Laws.{known_settings, unknown_settings}
 use Rattle.textwrap_styles.specs.Styles.{carried_line, open_styles, settings_of, written}
-use Rattle.textwrap_styles.specs.Settings.{first_setting, is_unknown, kind_of, latest, number}
-use Rattle.textwrap_styles.specs.Settings.{open_settings, replaces, settings, settings_past}
-use Rattle.textwrap_styles.specs.Settings.{takes_back}
+use Rattle.textwrap_styles.specs.Settings.{first_setting, is_unknown, open_settings, settings_past}
+use Rattle.textwrap_styles.specs.Settings.{kind_of, latest, number, replaces, settings, takes_back}
 
 -- ---- no two that the table knows are of one kind
 

@@ -1,8 +1,7 @@
 -- Which settings a later one takes back, by their kinds.
-use Rattle.textwrap_text.proofs.Common.{arith, cases_Bool, cond, false, inl, inr, list_any}
-use Rattle.textwrap_text.proofs.Common.{nat_tests, not, refl, sym}
-use Rattle.textwrap_text.proofs.Common.{true, true≢false, ◌&&◌, ◌<◌, ◌==◌, ◌||◌, ◌∙◌, ◌∷◌, ◌≡◌, []}
-use Rattle.textwrap_text.proofs.Common.{Bool, List, ap, ℕ}
+use Rattle.textwrap_text.proofs.Common.{arith, cases_Bool, false, list_any, nat_tests, true≢false}
+use Rattle.textwrap_text.proofs.Common.{Bool, List, cond, inl, inr, refl, true, ℕ, ◌&&◌, ◌==◌, ◌||◌}
+use Rattle.textwrap_text.proofs.Common.{ap, not, sym, [], ◌<◌, ◌∙◌, ◌∷◌, ◌≡◌}
 use Rattle.std.proofs.lemmas.Slice.Eq.{bytes_eq-Decides}
 use Rattle.std.specs.Str.{bytes_eq}
 use Rattle.textwrap_styles.specs.Settings.{is_unknown, kind_of, number, replaces, takes_back}

@@ -1,13 +1,11 @@
 -- The link that is open after some sequences, and after one more.
-use Rattle.textwrap_text.proofs.Common.{All, All-drop, All-weaker, append-nil, arith, Bool, cases_Bool}
-use Rattle.textwrap_text.proofs.Common.{cond, drop, false, filter, length, List, nat_tests, true, ◌++◌, ◌-◌}
-use Rattle.textwrap_text.proofs.Common.{◌==◌, ◌∷◌, ◌≡◌, [], ℕ}
+use Rattle.textwrap_text.proofs.Common.{All, All-drop, All-weaker, append-nil, arith, cases_Bool}
+use Rattle.textwrap_text.proofs.Common.{cond, drop, false, filter, length, List, true, ◌++◌, ◌-◌}
+use Rattle.textwrap_text.proofs.Common.{◌∷◌, ◌≡◌, [], ℕ}
 use Rattle.std.proofs.lemmas.List.Elements.{All-filter, filter-append, filter_passes}
-use Rattle.textwrap_styles.proofs.Common.{after_first, has_target, is_link, is_style, link_fields}
-use Rattle.textwrap_styles.proofs.Common.{open_link}
+use Rattle.textwrap_styles.proofs.Common.{has_target, is_link, is_style, open_link}
 use Rattle.textwrap_styles.proofs.Sequences.{link-no_style}
 use Rattle.textwrap_text.proofs.Lists.Parts.{last_one-push}
-use Rattle.textwrap_styles.specs.Styles.{link_target}
 
 -- the link after one more sequence
 abbrev pub next_link : List (List ℕ) → List ℕ → List (List ℕ)

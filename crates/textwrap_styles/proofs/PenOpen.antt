@@ -10,8 +10,7 @@ use Rattle.std.specs.List.{after_last, starts_with}
 use Rattle.std.proofs.lemmas.Slice.Eq.{bytes_eq-Decides}
 use Rattle.textwrap_text.proofs.Lists.Parts.{after_last-push}
 use Rattle.textwrap_styles.proofs.LaterSettings.{known-below, unknown-number}
-use Rattle.textwrap_styles.proofs.OpenSettings.{after-more}
-use Rattle.textwrap_styles.proofs.OpenSettings.{Sets, all-latest, none-latest, resets}
+use Rattle.textwrap_styles.proofs.OpenSettings.{Sets, after-more, all-latest, none-latest, resets}
 use Rattle.textwrap_styles.proofs.PenCodes.{touches}
 use Rattle.textwrap_styles.proofs.PenKnown.{all-known, kind-code}
 use Rattle.textwrap_styles.proofs.PenMixes.{mix, mix-again, mix-swap, mix-within}

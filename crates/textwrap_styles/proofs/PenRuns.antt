@@ -1,9 +1,8 @@
 -- Pens after many settings: whatever a setting is, it sets some fields to values of its own and
 -- leaves the others, so one that a later one replaces can be left out.
-use Rattle.textwrap_text.proofs.Common.{cases_Bool, cond, drop, false, length, map}
-use Rattle.textwrap_text.proofs.Common.{refl, sym, true, fold, subst}
-use Rattle.textwrap_text.proofs.Common.{◌==◌, ◌∙◌, ◌∷◌, ◌≡◌, [], Bool, List, ap, ℕ, ◌++◌, not}
-use Rattle.textwrap_text.proofs.Common.{◌||◌, inl, inr, eqb-true}
+use Rattle.textwrap_text.proofs.Common.{Bool, List, cases_Bool, eqb-true, false, inl, length, subst}
+use Rattle.textwrap_text.proofs.Common.{cond, drop, fold, inr, map, refl, true, ℕ, ◌++◌, ◌==◌, ◌||◌}
+use Rattle.textwrap_text.proofs.Common.{ap, not, sym, [], ◌∙◌, ◌∷◌, ◌≡◌}
 use Rattle.textwrap_styles.proofs.PenCodes.{Row, row, touches}
 use Rattle.textwrap_styles.proofs.PenSettings.{among}
 use Rattle.textwrap_styles.specs.Settings.{is_color_code, kind_of_code}

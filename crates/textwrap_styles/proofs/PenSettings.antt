@@ -9,15 +9,13 @@ use Rattle.std.specs.Prelude.{min}
 use Rattle.textwrap_styles.proofs.PenCodes.{Row, row, touches}
 use Rattle.textwrap_styles.specs.declared.settings.Kind.{Kind}
 use Rattle.textwrap_styles.specs.declared.settings.Kind.TheVariants.{Reset}
-use Rattle.textwrap_styles.proofs.PenFields.{fields-few}
-use Rattle.textwrap_styles.proofs.PenFields.{first_field, first_text, between-some}
+use Rattle.textwrap_styles.proofs.PenFields.{between-some, fields-few, first_field, first_text}
 use Rattle.textwrap_styles.proofs.PenMixes.{mix}
 use Rattle.textwrap_styles.proofs.SettingTexts.{IsSetting}
 use Rattle.textwrap_styles.specs.Pen.{Pen, Reading, apply, between, color_of, first_of, numbers_of, plain_pen, read}
 use Rattle.textwrap_styles.specs.Pen.{is_whole_color, with_code, with_color, with_field, with_parts, Color}
-use Rattle.textwrap_styles.specs.Settings.{fields, first_setting, is_color_code}
-use Rattle.textwrap_styles.specs.Settings.{is_end, is_ending_code, kind_of, kind_of_code, number}
-use Rattle.textwrap_styles.specs.Settings.{taken_fields}
+use Rattle.textwrap_styles.specs.Settings.{first_setting, is_color_code, is_ending_code, kind_of}
+use Rattle.textwrap_styles.specs.Settings.{fields, is_end, kind_of_code, number, taken_fields}
 
 -- ---- one field
 

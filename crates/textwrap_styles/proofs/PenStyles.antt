@@ -1,7 +1,7 @@
 -- What is open gives, set anew, the pen and the link of all sequences, and what ends it gives a plain
 -- pen and no link.
-use Rattle.textwrap_text.proofs.Common.{All, All-head, All-tail, append_assoc, arith, cases_Bool, cond}
-use Rattle.textwrap_text.proofs.Common.{eqb-true, false, filter, flat_map, fold, length, ltb-false}
+use Rattle.textwrap_text.proofs.Common.{All, All-head, All-tail, arith, cases_Bool, cond}
+use Rattle.textwrap_text.proofs.Common.{eqb-true, false, flat_map, fold, length, ltb-false}
 use Rattle.textwrap_text.proofs.Common.{nil_from_length, refl, sym, true, ◌++◌, ◌==◌, ◌∙◌, ◌∷◌, ◌≡◌}
 use Rattle.textwrap_text.proofs.Common.{[], Bool, List, ap, ℕ}
 use Rattle.std.proofs.lemmas.List.Sums.{fold-append}

@@ -1,11 +1,10 @@
 -- Texts of whole sequences and texts between them: their units, and what they show.
-use Rattle.textwrap_text.proofs.Common.{chars_from_encodes, encode_utf8_all, flat_map-append, arith}
-use Rattle.textwrap_text.proofs.Common.{nil_from_length, IsUtf8-append, encodes-chars, append_assoc}
-use Rattle.textwrap_text.proofs.Common.{chars-append, All-append, IsUtf8-nil, append-nil, chars-nil}
-use Rattle.textwrap_text.proofs.Common.{cases_Bool, All-cons, All-head, All-tail, eqb-true, All-nil}
-use Rattle.textwrap_text.proofs.Common.{flat_map, IsUtf8, length, codes, false, subst, Bool, List}
-use Rattle.textwrap_text.proofs.Common.{cond, fold, refl, take, true, ◌++◌, ◌==◌, All, inl, map, []}
-use Rattle.textwrap_text.proofs.Common.{sym, ◌∙◌, ◌∷◌, ◌≡◌, ap, ℕ}
+use Rattle.textwrap_text.proofs.Common.{arith, chars_from_encodes, encode_utf8_all, flat_map-append}
+use Rattle.textwrap_text.proofs.Common.{All, All-append, IsUtf8-append, chars-append, encodes-chars}
+use Rattle.textwrap_text.proofs.Common.{All-cons, IsUtf8-nil, append-nil, cases_Bool, chars-nil, []}
+use Rattle.textwrap_text.proofs.Common.{All-head, All-nil, All-tail, Bool, IsUtf8, flat_map, length}
+use Rattle.textwrap_text.proofs.Common.{List, ap, codes, cond, false, fold, refl, subst, take, true}
+use Rattle.textwrap_text.proofs.Common.{inl, map, sym, ℕ, ◌++◌, ◌==◌, ◌∙◌, ◌∷◌, ◌≡◌}
 use Rattle.std.specs.Str.{chars}
 use Rattle.textwrap_text.specs.Units.{characters, visible_of, Sequence, TextUnit, Visible, visible}
 use Rattle.textwrap_styles.proofs.Common.{agree_below_at, units-append, IsWholeText, open_styles}
@@ -15,7 +14,6 @@ use Rattle.textwrap_styles.specs.Styles.{closing}
 use Rattle.textwrap_text.proofs.Texts.{utf8-front, utf8-back}
 use Rattle.textwrap_text.proofs.Units.Texts.{units_unique, units-tile}
 use lib.Utf8.{encode}
-use Rattle.std.proofs.lemmas.List.Sums.{fold-append}
 use Rattle.textwrap_styles.specs.Penned.{Rendition, penned_text, penned_units, plain_rendition}
 use Rattle.textwrap_styles.specs.Penned.{rendition_of, with_sequence}
 

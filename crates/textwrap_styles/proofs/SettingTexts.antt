@@ -1,21 +1,18 @@
 -- The texts of settings: what the first fields of parameters keep, and that a setting is its own
 -- first one.
-use Rattle.textwrap_text.proofs.Common.{arith, cases_Bool, codes, cond, drop, false, length}
-use Rattle.textwrap_text.proofs.Common.{list_all}
-use Rattle.textwrap_text.proofs.Common.{nat_eq, nat_tests, refl, starts_with, sym, take, true}
-use Rattle.textwrap_text.proofs.Common.{◌+◌, ◌-◌, ◌<◌, ◌==◌, ◌∙◌, ◌∷◌, ◌≡◌, ◌≤◌, [], Bool, List, ap}
-use Rattle.textwrap_text.proofs.Common.{ℕ}
-use Rattle.textwrap_text.proofs.Common.{suc, zero, All, All-cons, All-nil, and_parts, subst}
-use Rattle.textwrap_text.proofs.Common.{take_all, ◌≢◌}
+use Rattle.textwrap_text.proofs.Common.{All-cons, and_parts, cases_Bool, nat_tests, starts_with, []}
+use Rattle.textwrap_text.proofs.Common.{All-nil, arith, codes, length, list_all, nat_eq, take_all}
+use Rattle.textwrap_text.proofs.Common.{All, Bool, List, cond, drop, false, refl, subst, take, true}
+use Rattle.textwrap_text.proofs.Common.{ap, suc, sym, zero, ◌+◌, ◌-◌, ◌<◌, ◌==◌, ◌∙◌, ◌∷◌, ◌≡◌, ◌≢◌}
+use Rattle.textwrap_text.proofs.Common.{ℕ, ◌≤◌}
 use Rattle.std.proofs.lemmas.List.Sums.{take_while-cons}
 use Rattle.std.specs.Char.{is_ascii_digit}
 use Rattle.std.specs.Prelude.{min, nat_le}
 use Rattle.std.specs.Str.Parse.{digits_value}
 use Rattle.std.specs.List.{prefix_len, take_while}
 use Rattle.textwrap_styles.proofs.Common.{is_in_range}
-use Rattle.textwrap_styles.specs.Settings.{code, color_fields, details, fields, first_setting}
-use Rattle.textwrap_styles.specs.Settings.{settings}
-use Rattle.textwrap_styles.specs.Settings.{settings_past, taken_fields}
+use Rattle.textwrap_styles.specs.Settings.{color_fields, first_setting, settings_past, taken_fields}
+use Rattle.textwrap_styles.specs.Settings.{code, details, fields, settings}
 
 -- ---- the first fields of parameters
 

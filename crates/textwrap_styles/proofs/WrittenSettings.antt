@@ -1,14 +1,12 @@
 -- Settings that are open, each written as a sequence: what the sequences set, and that each is a text
 -- by itself.
-use Rattle.textwrap_text.proofs.Common.{All-append, All-cons, All-head, All-nil, All-tail}
-use Rattle.textwrap_text.proofs.Common.{append-nil, arith, cases_Bool, codes, cond, false, flat_map}
-use Rattle.textwrap_text.proofs.Common.{flat_map-append, length, list_all, map, nil_from_length}
-use Rattle.textwrap_text.proofs.Common.{refl}
-use Rattle.textwrap_text.proofs.Common.{sym, true, ◌++◌, ◌==◌, ◌∙◌, ◌∷◌, ◌≡◌, [], All, Bool, List}
-use Rattle.textwrap_text.proofs.Common.{ap, ℕ}
-use Rattle.textwrap_text.proofs.Common.{nat_tests, subst}
-use Rattle.textwrap_styles.proofs.Common.{is_in_range, is_link, is_style, link_end, open_link}
-use Rattle.textwrap_styles.proofs.Common.{open_styles, style_end, style_parameters}
+use Rattle.textwrap_text.proofs.Common.{All-append, All-cons, append-nil, cases_Bool, length-append}
+use Rattle.textwrap_text.proofs.Common.{All-head, All-nil, All-tail, and_parts, flat_map, nat_tests}
+use Rattle.textwrap_text.proofs.Common.{Bool, List, arith, cond, false, length, list_all, subst, []}
+use Rattle.textwrap_text.proofs.Common.{All, inl, map, refl, suc, sym, take, true, zero, ◌++◌}
+use Rattle.textwrap_text.proofs.Common.{ap, ℕ, ◌<◌, ◌∙◌, ◌∷◌, ◌≡◌}
+use Rattle.textwrap_styles.proofs.Common.{is_in_range, is_style, open_styles, style_parameters}
+use Rattle.textwrap_styles.proofs.Common.{IsWhole, ends, is_link, units}
 use Rattle.textwrap_styles.proofs.OpenSettings.{all-open, settings-again}
 use Rattle.textwrap_styles.proofs.SequenceTexts.{IsSequence}
 use Rattle.textwrap_styles.proofs.Sequences.{style-is, style-no_link, style_parameters-is}
@@ -16,17 +14,12 @@ use Rattle.textwrap_styles.proofs.SettingTexts.{are-settings, IsSetting, setting
 use Rattle.textwrap_styles.specs.Styles.{settings_of, written}
 use Rattle.textwrap_styles.specs.Settings.{open_settings, settings}
 use Rattle.std.proofs.lemmas.List.{take-append-le}
-use Rattle.textwrap_text.proofs.Common.{All-drop, and_parts, drop, filter, not, suc, suffix_len}
-use Rattle.textwrap_text.proofs.Common.{take}
-use Rattle.textwrap_text.proofs.Common.{zero, ◌-◌, ◌<◌}
 use Rattle.textwrap_text.proofs.Lists.Parts.{last-append}
 use Rattle.textwrap_text.specs.Lists.{last}
 use Rattle.textwrap_text.specs.Units.{is_control_end, Sequence}
 use Rattle.std.proofs.lemmas.Str.{IsUtf8-from_ascii, chars-IsAscii}
 use Rattle.std.proofs.lemmas.Str.Ascii.{IsAscii-from_all}
 use Rattle.std.specs.Str.{IsAscii, chars}
-use Rattle.textwrap_styles.proofs.Common.{IsWhole, ends, units}
-use Rattle.textwrap_text.proofs.Common.{eqb-true, inl, length-append}
 use Rattle.textwrap_text.proofs.Units.Texts.{units_unique}
 
 -- ---- a setting that is written as a sequence

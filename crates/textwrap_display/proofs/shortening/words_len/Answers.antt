@@ -1,10 +1,9 @@
 use Rattle.textwrap_display.proofs.shortening.words_len.Goals as goal
-use Rattle.textwrap_text.proofs.Common.{char_indices_offset, length, arith, refl, eqb, inl, inr}
-use Rattle.textwrap_text.proofs.Common.{sym, ◌+◌, ◌∙◌, ◌≡◌}
+use Rattle.textwrap_text.proofs.Common.{arith, char_indices_offset, eqb, false≢true, length, refl}
+use Rattle.textwrap_text.proofs.Common.{inl, inr, sym, ◌+◌, ◌∙◌, ◌≡◌}
 use Rattle.textwrap_display.proofs.Common.{char_indices_rest, added}
-use Rattle.textwrap_display.proofs.KeptLines.{found-blank, found-whole, found-here, found-kept}
-use Rattle.textwrap_display.proofs.KeptLines.{found-open}
-use Rattle.textwrap_display.proofs.KeptLines.{found-none, found-past, found-on, IsFound}
+use Rattle.textwrap_display.proofs.KeptLines.{found-blank, found-here, found-kept, found-whole}
+use Rattle.textwrap_display.proofs.KeptLines.{IsFound, found-none, found-on, found-open, found-past}
 use Rattle.textwrap_display.proofs.KeptWords.{read_to-start, read_to-step, IsReadTo, read-le}
 use Rattle.textwrap_display.proofs.shortening.words_len.Goals.{Joined-is_visible, else-is_visible}
 use Rattle.textwrap_display.proofs.shortening.words_len.Goals.{then-ch-eq32+then-not-after_blank+then-outside}
@@ -13,7 +12,6 @@ use Rattle.textwrap_display.proofs.shortening.words_len.Goals.{else-ch-eq32-via-
 use Rattle.textwrap_display.proofs.shortening.words_len.Goals.{else-ch-eq32-via-else-ch-eq32}
 use Rattle.textwrap_display.proofs.shortening.words_len.Goals.{then-is_visible, Joined-ch-eq32}
 use Rattle.textwrap_display.proofs.shortening.words_len.Goals.{else-ch-eq32}
-use Rattle.textwrap_text.proofs.Common.{false≢true}
 
 pub loop-at-init : goal.loop-at-init
 loop-at-init c =

@@ -4,13 +4,11 @@ use Rattle.textwrap_text.proofs.Common.{◌++◌, sym, ◌∙◌, ◌∷◌, ◌
 use Rattle.std.specs.List.{after_last}
 use Rattle.textwrap_styles.proofs.OpenSettings.{effect-again, resets}
 use Rattle.textwrap_styles.specs.Styles.{settings_of}
-use Rattle.textwrap_styles.specs.OpenStyles.{IsKeptAfter}
-use Rattle.textwrap_styles.proofs.Common.{open_link}
+use Rattle.textwrap_styles.specs.OpenStyles.{IsKeptAfter, IsReadTo}
+use Rattle.textwrap_styles.proofs.Common.{open_link, sequences}
 use Rattle.textwrap_styles.specs.Settings.{in_effect, latest, open_settings}
 use Rattle.textwrap_layout.proofs.Text.Sinks.{on_ok_both}
 use Rattle.textwrap_styles.specs.declared.styles.OpenStyles.{OpenStyles}
-use Rattle.textwrap_styles.proofs.Common.{sequences}
-use Rattle.textwrap_styles.specs.OpenStyles.{IsReadTo}
 
 -- what is kept where a line begins is read up to there
 kept-read : {Z : Type 0} (before : List (List ℕ)) (state : OpenStyles Z)

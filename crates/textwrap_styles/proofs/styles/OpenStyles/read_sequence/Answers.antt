@@ -1,7 +1,6 @@
 use Rattle.textwrap_styles.proofs.styles.OpenStyles.read_sequence.Goals as goal
 use Rattle.textwrap_text.proofs.Common.{append-nil, arith, cases_Bool, flat_map, flat_map-append}
-use Rattle.textwrap_text.proofs.Common.{sym, subst}
-use Rattle.textwrap_text.proofs.Common.{◌++◌, ◌∷◌, ◌≡◌, []}
+use Rattle.textwrap_text.proofs.Common.{subst, sym, [], ◌++◌, ◌∷◌, ◌≡◌}
 use Rattle.textwrap_styles.proofs.OpenLinks.{open_link-push}
 use Rattle.textwrap_styles.proofs.Sequences.{style-no_link}
 use Rattle.textwrap_styles.specs.Styles.{settings_of}

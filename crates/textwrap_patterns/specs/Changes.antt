@@ -44,13 +44,14 @@ region_at dots (Some from) None = None
 region_at dots None count = None
 
 -- a change is what is printed in place of letters, with a `=` where the line ends; behind it two numbers
--- say from which letter on, counted from 1, and how many letters change: without them all do
+-- say from which letter on, counted from 1, and how many letters change: without them all do, and what
+-- stands behind a third comma says nothing
 abbrev pub region_said : List ℕ → List ℕ → Option Region
 region_said letters change =
     if not (has_equals (text_before 0x2C change)) then None
     else if has_comma change
     then region_at (dots letters) (number_of (text_before 0x2C (text_behind 0x2C change)))
-    (number_of (text_behind 0x2C (text_behind 0x2C change)))
+    (number_of (text_before 0x2C (text_behind 0x2C (text_behind 0x2C change))))
     else Some (record { first = 0; last = length letters })
 
 -- in a region a digit that allows a hyphen becomes the next number, which allows none

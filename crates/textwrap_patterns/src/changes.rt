@@ -29,7 +29,8 @@ pub(crate) fn region_said(letters: &[char], change: &[char]) -> Option<Region>
     if has_comma(change) {
         let numbers = text_behind(change, ',');
         let from = number_of(text_before(numbers, ','));
-        return region_at(dots(letters), from, number_of(text_behind(numbers, ',')));
+        let count = number_of(text_before(text_behind(numbers, ','), ','));
+        return region_at(dots(letters), from, count);
     }
     Some(Region {
         first: 0,

@@ -166,6 +166,7 @@ const TEXTS: &[(&str, &str, &str, &[usize])] = &[
     ("nor by other patterns of that level", "UTF-8\nc1k\nc1k/k=k", "zucker", &[]),
     ("but by greater ones", "UTF-8\nc1k/k=k\nc3k", "zucker", &[3]),
     ("from which letter on, and how many change", "UTF-8\na1bb1c1d/bb=,2,2", "abbcdef", &[4]),
+    ("what stands behind a third comma says nothing", "UTF-8\na1bb1c1d/bb=,2,2,14", "abbcdef", &[4]),
     ("a dot counts for none", "UTF-8\nLEFTHYPHENMIN 1\n.a1bb1c1d/bb=,3,1", "abbcdef", &[1, 4]),
     ("in TeX too", "\\patterns{c1k/k=k\nc2k u1c}", "zucker", &[2]),
 ];
@@ -238,7 +239,7 @@ const FAULTS: &[(&str, usize, Fault)] = &[
     ("UTF-8\nc1k/kk", 2, Fault::Replacement),
     ("c1k/k=k,1", 1, Fault::Replacement),
     ("c1k/k=k,1,100", 1, Fault::Replacement),
-    ("c1k/k=k,1,1,1", 1, Fault::Replacement),
+    ("c1k/k=k,1,,1", 1, Fault::Replacement),
     ("ta-ble/t=b", 1, Fault::Replacement),
     ("\\patterns{1b}\n\\hyphenation{c1k/k=k}", 2, Fault::Replacement),
     ("c1k/k = k", 1, Fault::Sign),

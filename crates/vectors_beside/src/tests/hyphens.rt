@@ -212,7 +212,7 @@ const READ: &[((&str, &str, &str, &[usize]), usize)] = &[
     (("groups of TeX, with many letters at one place", UNORDERED, "lebamale", &[3, 5]), 278),
     (("patterns of the same letters", "1bl\n2bl\n1bl2\n", "tablets", &[]), 32),
     (("a charset", "iso 8859-1\nhe2n\nb1c", "abcd", &[2]), 36),
-    (("letters that change", "a1bb1c1d/bb=,2,2", "abbcdefg", &[4]), 0),
+    (("letters that change", "a1bb1c1d/bb=,2,2", "abbcdefg", &[4]), 38),
     (("two groups", "UTF-8\nb1c\nNEXTLEVEL\nc1d\nb2c", "abcdef", &[2, 3]), 54),
 ];
 

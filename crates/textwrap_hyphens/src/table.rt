@@ -85,8 +85,10 @@ impl<'t> PatternTable<'t> {
     /// [`PatternTable::minima`] and [`PatternTable::soft_hyphens`] set. The call always succeeds.
     pub fn words(&self) -> &'t [usize]
         ensures { held self.now ≡ record (held_in result.now (held self.now).in_parts) {
-            left = (held self.now).left; right = (held self.now).right;
-            soft_hyphens = (held self.now).soft_hyphens } }
+          left = (held self.now).left;
+          right = (held self.now).right;
+          soft_hyphens = (held self.now).soft_hyphens;
+        } }
     {
         self.words
     }

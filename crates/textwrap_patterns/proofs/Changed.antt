@@ -66,9 +66,9 @@ outside-same region place level (inr behind) = grind (arith, behind)
 never-lower : (region : Region) (place level : ℕ) → level ≤ barred_at region place level
 never-lower region place level =
     elim (cases_Bool (is_in_range region.first region.last place && nat_lt level 10)) [
-  | inl is ↦ rw is (omega arith)
-  | inr is ↦ rw is (omega arith)
-]
+      | inl is ↦ rw is (omega arith)
+      | inr is ↦ rw is (omega arith)
+    ]
 
 at-start : (region : Region) (levels : List ℕ) (k : ℕ)
     → get_or (barred_from region 0 levels) k 0 ≡ barred_at region k (get_or levels k 0)
@@ -82,8 +82,11 @@ is-changed region word = record {
       ∙ inside-even region k (get_or (levels_written word) k 0) (low word k) from to;
   outside = λ k is. at-start region (levels_written word) k
       ∙ outside-same region k (get_or (levels_written word) k 0) is;
-  never_lower = λ k. omega (arith, at-start region (levels_written word) k,
-      never-lower region k (get_or (levels_written word) k 0));
+  never_lower = λ k. omega (
+    arith,
+    at-start region (levels_written word) k,
+    never-lower region k (get_or (levels_written word) k 0),
+  );
 }
 
 -- what is no change, which is told apart from one

@@ -352,7 +352,11 @@ fn has_soft_points(
 fn soft_hyphens_are_points_if_asked(rt: HostRuntime) -> Result<(), AllocError> {
     let patterns = dictionary(rt.alloc())?;
     for (rule, word, wanted) in SOFT {
-        assert_found(&rt, rule, has_soft_points(rt.alloc(), word, &patterns, wanted));
+        assert_found(
+            &rt,
+            rule,
+            has_soft_points(rt.alloc(), word, &patterns, wanted),
+        );
     }
     Ok(())
 }

@@ -93,10 +93,7 @@ const UNKNOWN_CHECK: Hyphens = Hyphens {
 };
 
 /// With more letters before a point, and behind it, than the numbers say.
-const FAR: Hyphens = Hyphens {
-    left: 3,
-    ..WHOLE
-};
+const FAR: Hyphens = Hyphens { left: 3, ..WHOLE };
 
 const FAR_BEHIND: Hyphens = Hyphens {
     right: 6,

@@ -171,10 +171,17 @@ fn clones_share_what_was_read() {
 fn what_is_printed_of_patterns_is_short() {
     let shown = format!("{:?}", in_parts());
     let len = patterns().as_numbers().len();
-    assert_eq!(shown, format!("Patterns(Patterns {{ numbers: {len}, in_parts: true }})"));
+    assert_eq!(shown, format!("Patterns(Patterns {{ numbers: {len}, in_parts: true, left: 0, right: 0 }})"));
 }
 
 // ---- The points of words
+
+#[test]
+fn minima_are_those_that_are_set() {
+    assert_eq!(patterns().minima(3, 0).points("hyphenation"), [6]);
+    assert_eq!(patterns().minima(0, 6).points("hyphenation"), [2]);
+    assert_eq!(patterns().minima(0, 0).points("hyphenation"), [2, 6]);
+}
 
 #[test]
 fn words_have_points() {

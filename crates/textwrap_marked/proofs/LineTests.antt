@@ -14,7 +14,8 @@ use Rattle.std.specs.Prelude.{nat_le}
 use Rattle.std.specs.Str.{chars}
 use Rattle.textwrap_marked.proofs.FreeLines.{IsOpen}
 use Rattle.textwrap_marked.proofs.OpenBehind.{behind_text}
-use Rattle.textwrap_marks.specs.Columns.{depth_of, DepthText, is_deeper}
+use Rattle.textwrap_marked.specs.Lines.{begins_code}
+use Rattle.textwrap_marks.specs.Columns.{depth_of, DepthText, is_deeper, marks_of}
 use Rattle.textwrap_marks.specs.Signs.{is_rule, is_rule_characters}
 use Rattle.textwrap_marks.specs.Words.{is_letter_or_digit}
 
@@ -83,10 +84,22 @@ open-behind options in_block hanging words = record {
   prompt = refl;
 }
   where
+    none : (a b : Bool) → (a && b && not true) ≡ false
+    none true true = refl
+    none true false = refl
+    none false b = refl
+
     deep : (b : Bool)
-        → cond b false (is_deeper (deeper_by words) (depth_of hanging) (depth_of hanging)) ≡ false
+        → cond b false (is_deeper (deeper_by words) (depth_of hanging) (depth_of hanging)
+        || (options.markdown && begins_code (depth_of hanging)
+        && not (bytes_eq (marks_of hanging) (marks_of hanging)))) ≡ false
     deep true = refl
-    deep false = never-deeper (deeper_by words) (depth_of hanging) (depth-some words)
+    deep false =
+        rw (
+          never-deeper (deeper_by words) (depth_of hanging) (depth-some words),
+          (bytes_eq-Decides (marks_of hanging) (marks_of hanging)).1 refl,
+        )
+        (none options.markdown (begins_code (depth_of hanging)))
 
 pub behind-same : (in_block : Bool) (hanging : List ℕ) (words others : List SpacedText)
     → (in_block && closes_block words) ≡ (in_block && closes_block others)

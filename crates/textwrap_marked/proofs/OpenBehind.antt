@@ -17,7 +17,7 @@ use Rattle.textwrap_marks.specs.Columns.{depth_of, marks_of}
 use Rattle.textwrap_marks.specs.Fences.{has_pre_end, opened, opened_by, opens_formula, run_of}
 use Rattle.textwrap_marked.specs.Lines.{is_before, is_in_block, is_prompted, new_before, new_by}
 use Rattle.textwrap_marks.specs.Signs.{is_comment_behind, is_directive, is_gap, is_sign, is_sign_byte}
-use Rattle.textwrap_marks.specs.Signs.{any_contains, opens_code}
+use Rattle.textwrap_marks.specs.Signs.{any_contains, is_for_tools, opens_code}
 use Rattle.textwrap_marks.specs.declared.fences.FenceKind.TheVariants.{Code, Formula, Pre}
 
 -- ---- the first word of a text
@@ -71,7 +71,7 @@ no-code : (word : List ℕ) → is_sign word ≡ false
     → (starts_with nat_eq word (codes "$$") ≡ false) × (opens_code word ≡ false)
 no-code word none =
     last-parts (starts_with nat_eq word (codes "[!")) (starts_with nat_eq word (codes "[TOC]"))
-    (starts_with nat_eq word (codes ":::")) (starts_with nat_eq word (codes "+build"))
+    (starts_with nat_eq word (codes ":::")) (is_for_tools word)
     (starts_with nat_eq word (codes "$$")) (opens_code word) (sign-parts word none).2
 
 no-formula : (words : List SpacedText) → is_sign (first_word words) ≡ false

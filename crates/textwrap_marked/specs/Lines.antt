@@ -12,7 +12,8 @@ use Rattle.textwrap_marks.specs.Prefixes.{prefix_ends}
 use Rattle.textwrap_marked.specs.Hanging.{hanging_margin, hanging_prefix, has_opening}
 use Rattle.textwrap_marks.specs.Signs.{begins_text, closes_block, closes_early, first_word}
 use Rattle.textwrap_marks.specs.Signs.{has_columns, is_key, is_rule, last_white, last_word}
-use Rattle.textwrap_marks.specs.Words.{has_byte, spaced_text, SpacedText, spaced_view, spaced_words}
+use Rattle.textwrap_marks.specs.Words.{has_byte, has_bytes, spaced_text, SpacedText, spaced_view}
+use Rattle.textwrap_marks.specs.Words.{spaced_words}
 use Rattle.textwrap_marked.specs.declared.line.MarkedLine.{MarkedLine}
 use Rattle.textwrap_marks.specs.declared.options.ReflowOptions.{ReflowOptions}
 use Rattle.textwrap_marks.specs.declared.prefixes.PrefixEnds.{PrefixEnds}
@@ -146,13 +147,21 @@ passed state line =
 
 -- ---- what is read of a line
 
+-- where no text of Markdown stands before behind the same marks, code is four columns behind the
+-- beginning of the line, or behind the marks of a quote and one blank
+abbrev pub begins_code : DepthText → Bool
+begins_code own = if has_bytes own.marks then nat_lt 4 own.behind else nat_lt 3 own.lead
+
 abbrev pub is_deep : ReflowOptions → StateText → List ℕ → Bool
 is_deep options state margin =
     if options.indented then false else deeper state.before
   where
     deeper : Option DepthText → Bool
-    deeper None = false
-    deeper (Some before) = is_deeper state.by before (depth_of margin)
+    deeper None = options.markdown && begins_code (depth_of margin)
+    deeper (Some before) =
+        is_deeper state.by before (depth_of margin)
+        || (options.markdown && begins_code (depth_of margin)
+        && not (bytes_eq before.marks (marks_of margin)))
 
 -- by its words alone
 abbrev pub stands_apart : Bool → Bool → Bool → Bool → List SpacedText → Bool

@@ -1,7 +1,8 @@
 //! What is read of a line.
 ghost use Rattle.std.specs.Prelude.{◌≡◌, ◌≤◌, ◌&&◌, drop, length, map, nat_eq, not, true, IfOk};
 ghost use Rattle.std.specs.List.{list_any, starts_with};
-ghost use Rattle.textwrap_marked.specs.Lines.{is_chosen, is_deep, is_ended, is_title, line_from_words};
+ghost use Rattle.textwrap_marks.specs.Columns.{depth_view};
+ghost use Rattle.textwrap_marked.specs.Lines.{begins_code, is_chosen, is_deep, is_ended, is_title, line_from_words};
 ghost use Rattle.textwrap_marked.specs.Lines.{line_as_read, is_return, marked_line_view, stands_apart};
 ghost use Rattle.textwrap_marked.specs.Lines.{state_view, without_returns};
 ghost use Rattle.textwrap_marks.specs.Signs.{ArePlain, closes_block};
@@ -11,7 +12,7 @@ use crate::hanging::{hanging_margin, has_opening, push_hanging_bullets, spaced_t
 pub use crate::line::MarkedLine;
 use crate::states::ReadState;
 use std::alloc::{AllocError, Global};
-use textwrap_marks::columns::{depth_of, is_deeper};
+use textwrap_marks::columns::{Depth, depth_of, is_deeper};
 use textwrap_marks::options::ReflowOptions;
 use textwrap_marks::prefixes::{PrefixEnds, prefix_ends};
 use textwrap_marks::signs::{
@@ -128,6 +129,17 @@ fn line_from<'t>(
     })
 }
 
+/// Whether text of Markdown so deep is code where no text stands before it behind the same marks.
+fn begins_code(own: &Depth) -> bool
+    ensures { result ≡ begins_code (depth_view own.now) }
+{
+    if own.marks.is_empty() {
+        own.lead > 3
+    } else {
+        own.behind > 4
+    }
+}
+
 /// Whether a margin is deeper than the text before.
 fn is_deep(
     alloc: Global,
@@ -140,12 +152,14 @@ fn is_deep(
     if options.indented {
         return Ok(false);
     }
+    let own = depth_of(alloc, margin)?;
+    let begins = options.markdown && begins_code(&own);
     match &state.before {
         Some(before) => {
-            let own = depth_of(alloc, margin)?;
-            Ok(is_deeper(state.by, before, &own))
+            let other = before.marks.as_str() != own.marks.as_str();
+            Ok(is_deeper(state.by, before, &own) || begins && other)
         }
-        None => Ok(false),
+        None => Ok(begins),
     }
 }
 

@@ -1,7 +1,7 @@
 -- Plain words: each word that no paragraph contains has one of a few bytes, and they have none.
 use Rattle.textwrap_marks.proofs.Common.{◌≡◌, ℕ, ◌==◌, ◌&&◌, ◌||◌, Bool, true, false, List, [], ◌∷◌}
-use Rattle.textwrap_marks.proofs.Common.{ap, sym, All-cons, All-head, All-nil, All-tail, All-weaker}
-use Rattle.textwrap_marks.proofs.Common.{arith, bytes_eq, codes, cond, contains, has_byte}
+use Rattle.textwrap_marks.proofs.Common.{ap, cases_Bool, sym, All-cons, All-head, All-nil, All-tail, All-weaker}
+use Rattle.textwrap_marks.proofs.Common.{arith, bytes_eq, codes, cond, contains, has_byte, nat_eq, starts_with}
 use Rattle.textwrap_marks.proofs.Common.{is_column_word, is_white, list_any, nat_tests, not, refl}
 use Rattle.textwrap_marks.proofs.Common.{spaced_words, SpacedText, ◌∙◌}
 use Rattle.textwrap_marks.proofs.ContainedTexts.{contains-lacks}
@@ -38,19 +38,36 @@ differs (c ∷ cs) b bs none = split (c == b) refl none
     split true is none = let no : true ≡ false = none in cc
     split false is none = ap (λ t. t && bytes_eq cs bs) is
 
+turned : (c k : ℕ) → (c == k) ≡ false → (k == c) ≡ false
+turned c k is = grind (arith, nat_tests, cases_Bool, is)
+
+-- nor does it begin with that one
+begins-other : (word : List ℕ) (b : ℕ) (bs : List ℕ) → has_byte b word ≡ false
+    → starts_with nat_eq word (b ∷ bs) ≡ false
+begins-other [] b bs none = refl
+begins-other (c ∷ cs) b bs none = split (c == b) refl none
+  where
+    split : (t : Bool) → (c == b) ≡ t → (t || has_byte b cs) ≡ false
+        → starts_with nat_eq (c ∷ cs) (b ∷ bs) ≡ false
+    split true is none = let no : true ≡ false = none in cc
+    split false is none = ap (λ t. t && starts_with nat_eq cs bs) (turned c b is)
+
 plain-word : (word : List ℕ) → list_any is_column_byte word ≡ false → is_column_word word ≡ false
 plain-word word none =
     let not_bar = differs word 124 [] (lacks 124 word refl none) in
-    let not_lines = differs word 47 (47 ∷ []) (lacks 47 word refl none) in
-    let not_opening = differs word 47 (42 ∷ []) (lacks 47 word refl none) in
+    let not_lines = begins-other word 47 (47 ∷ []) (lacks 47 word refl none) in
+    let not_opening = begins-other word 47 (42 ∷ []) (lacks 47 word refl none) in
     let not_hash = differs word 35 [] (lacks 35 word refl none) in
     let not_percent = differs word 37 [] (lacks 37 word refl none) in
+    let not_percents = differs word 37 (37 ∷ []) (lacks 37 word refl none) in
     let not_dashes = differs word 45 (45 ∷ []) (lacks 45 word refl none) in
     let not_semicolon = differs word 59 [] (lacks 59 word refl none) in
+    let not_two = differs word 59 (59 ∷ []) (lacks 59 word refl none) in
+    let not_three = differs word 59 (59 ∷ 59 ∷ []) (lacks 59 word refl none) in
     let not_return = lacks 13 word refl none in
     let not_label = contains-lacks (codes "]:") word (omega arith) (lacks 93 word refl none) in
     let not_pre = contains-lacks (codes "<pre") word (omega arith) (lacks 60 word refl none) in
-    rw (not_bar, not_lines, not_opening, not_hash, not_percent, not_dashes, not_semicolon, not_return, not_label, not_pre) refl
+    rw (not_bar, not_lines, not_opening, not_hash, not_percent, not_percents, not_dashes, not_semicolon, not_two, not_three, not_return, not_label, not_pre) refl
 
 pub plain-none : (words : List SpacedText) → ArePlain words
     → list_any (λ w. is_column_word w.word) words ≡ false

@@ -33,6 +33,17 @@ is_short_number text = list_all is_ascii_digit text && nat_lt 0 (length text) &&
 abbrev pub is_one_letter : List ℕ → Bool
 is_one_letter text = length text == 1 && list_all is_ascii_alphabetic text
 
+-- two to four of the letters i, v and x
+abbrev pub is_roman_digit : ℕ → Bool
+is_roman_digit c = c == 105 || c == 118 || c == 120 || c == 73 || c == 86 || c == 88
+
+abbrev pub is_roman : List ℕ → Bool
+is_roman text = list_all is_roman_digit text && nat_lt 1 (length text) && nat_lt (length text) 5
+
+-- what the items of a list are counted by
+abbrev pub is_counter : List ℕ → Bool
+is_counter text = is_short_number text || is_one_letter text || is_roman text
+
 -- what is a label in brackets, or before a closing one
 abbrev pub label_inside : List ℕ → List ℕ
 label_inside word =
@@ -45,16 +56,15 @@ label_inside word =
 
 abbrev pub is_label : List ℕ → Bool
 is_label word =
-    let inside = label_inside word in
-    if slice_index word (length word - 1) == 46 then is_short_number (take (length word - 1) word)
-    else is_short_number inside || is_one_letter inside
+    is_counter (if slice_index word (length word - 1) == 46 then take (length word - 1) word
+    else label_inside word)
 
 abbrev pub is_bullet_sign : List ℕ → Bool
 is_bullet_sign word =
     bytes_eq word (codes "-") || bytes_eq word (codes "+") || bytes_eq word (codes "*")
     || bytes_eq word (0xE2 ∷ 0x80 ∷ 0xA2 ∷ [])
 
--- `-` `+` `*` `•`, or a label: `1.` `1)` `(1)` `[1]` `a)` `(a)` `[a]`
+-- `-` `+` `*` `•`, or a label: `1.` `1)` `(1)` `[1]`, and so `a.` or `ii.`
 abbrev pub is_bullet : List ℕ → Bool
 is_bullet word = is_bullet_sign word || is_label word
 

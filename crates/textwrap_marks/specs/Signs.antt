@@ -61,12 +61,30 @@ ends_code word =
     || starts_with nat_eq word (codes "@endverbatim")
     || starts_with nat_eq word (codes "\\endverbatim")
 
+-- what begins a comment that a linter, a formatter or an editor reads
+abbrev pub is_tool_word : List ℕ → Bool
+is_tool_word word =
+    bytes_eq word (codes "clang-format") || bytes_eq word (codes "shellcheck")
+    || bytes_eq word (codes "noqa") || bytes_eq word (codes "noqa:")
+    || bytes_eq word (codes "nolint") || bytes_eq word (codes "pylint:")
+    || bytes_eq word (codes "type:") || bytes_eq word (codes "fmt:")
+    || bytes_eq word (codes "isort:") || bytes_eq word (codes "eslint-disable")
+    || bytes_eq word (codes "eslint-enable") || bytes_eq word (codes "eslint-disable-next-line")
+    || bytes_eq word (codes "prettier-ignore") || bytes_eq word (codes "rubocop:disable")
+    || bytes_eq word (codes "rubocop:enable") || bytes_eq word (codes "vim:")
+
+-- so does a constraint of Go, and marks of C++ and TypeScript
+abbrev pub is_for_tools : List ℕ → Bool
+is_for_tools word =
+    starts_with nat_eq word (codes "+build") || starts_with nat_eq word (codes "NOLINT")
+    || starts_with nat_eq word (codes "@ts-") || is_tool_word word
+
 -- what tells a program something of the lines around it: of Markdown an alert, a table of contents
--- or a container, a constraint of Go, what begins a formula, and what begins code
+-- or a container, what a tool reads, what begins a formula, and what begins code
 abbrev pub is_directive : List ℕ → Bool
 is_directive word =
     starts_with nat_eq word (codes "[!") || starts_with nat_eq word (codes "[TOC]")
-    || starts_with nat_eq word (codes ":::") || starts_with nat_eq word (codes "+build")
+    || starts_with nat_eq word (codes ":::") || is_for_tools word
     || starts_with nat_eq word (codes "$$") || opens_code word
 
 -- what may mean something at the beginning of a line, to a compiler or in Markdown
@@ -122,8 +140,10 @@ is_gap justify w = has_byte 9 w.white || (not justify && has_wide_gap w)
 -- what begins a comment behind text in one of many languages
 abbrev pub is_comment_behind : List ℕ → Bool
 is_comment_behind word =
-    bytes_eq word (codes "//") || bytes_eq word (codes "/*") || bytes_eq word (codes "#")
-    || bytes_eq word (codes "%") || bytes_eq word (codes "--") || bytes_eq word (codes ";")
+    starts_with nat_eq word (codes "//") || starts_with nat_eq word (codes "/*")
+    || bytes_eq word (codes "#") || bytes_eq word (codes "%") || bytes_eq word (codes "%%")
+    || bytes_eq word (codes "--") || bytes_eq word (codes ";") || bytes_eq word (codes ";;")
+    || bytes_eq word (codes ";;;")
 
 -- `|`, a comment behind text, a carriage return, what ends a label of a link, or `<pre`
 abbrev pub is_column_word : List ℕ → Bool

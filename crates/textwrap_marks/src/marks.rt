@@ -2,9 +2,9 @@
 ghost use Rattle.std.specs.Prelude.{◌≡◌};
 ghost use Rattle.std.specs.Char.{is_ascii_digit};
 ghost use Rattle.std.specs.List.{list_all};
-ghost use Rattle.textwrap_marks.specs.Marks.{is_bullet, is_bullet_sign, is_label, is_one_letter};
+ghost use Rattle.textwrap_marks.specs.Marks.{is_bullet, is_bullet_sign, is_counter, is_label, is_one_letter};
 ghost use Rattle.textwrap_marks.specs.Marks.{is_line_comment, is_short_number, is_comment_opening};
-ghost use Rattle.textwrap_marks.specs.Marks.{is_quote};
+ghost use Rattle.textwrap_marks.specs.Marks.{is_quote, is_roman, is_roman_digit};
 ghost use Rattle.textwrap_marks.specs.Marks.{label_inside};
 
 use crate::words::{contains, has_letter, is_made_of};
@@ -55,6 +55,32 @@ fn is_letter(text: &[u8]) -> bool
     (text.len() == 1) & text.iter().all(|byte| byte.is_ascii_alphabetic())
 }
 
+fn are_roman_digits(text: &[u8]) -> bool
+    ensures { result ≡ list_all is_roman_digit text.now }
+{
+    text.iter().all(|byte| is_roman_digit(*byte))
+}
+
+/// Whether a text is a number of Rome with two to four letters of i, v and x.
+fn is_roman(text: &[u8]) -> bool
+    ensures { result ≡ is_roman text.now }
+{
+    are_roman_digits(text) & (1 < text.len()) & (text.len() < 5)
+}
+
+fn is_roman_digit(byte: u8) -> bool
+    ensures { result ≡ is_roman_digit byte }
+{
+    matches!(byte, b'i' | b'v' | b'x' | b'I' | b'V' | b'X')
+}
+
+/// Whether the items of a list may be counted by a text: a number, or a letter.
+fn is_counter(text: &[u8]) -> bool
+    ensures { result ≡ is_counter text.now }
+{
+    is_number(text) | is_letter(text) | is_roman(text)
+}
+
 /// What is a label in brackets, or before a closing one.
 fn label_inside(word: &[u8]) -> &[u8]
     ensures { result.now ≡ label_inside word.now }
@@ -70,10 +96,9 @@ fn label_inside(word: &[u8]) -> &[u8]
 fn is_label(word: &[u8]) -> bool
     ensures { result ≡ is_label word.now }
 {
-    let inside = label_inside(word);
     match word {
-        [number @ .., b'.'] => is_number(number),
-        _ => is_number(inside) | is_letter(inside),
+        [front @ .., b'.'] => is_counter(front),
+        _ => is_counter(label_inside(word)),
     }
 }
 
@@ -83,7 +108,7 @@ fn is_bullet_sign(word: &str) -> bool
     (word == "-") | (word == "+") | (word == "*") | (word == "•")
 }
 
-/// Whether a word is a bullet: `-` `+` `*` `•`, or a label, as `1.` `1)` `(1)` `[1]` `a)`.
+/// Whether a word is a bullet: `-` `+` `*` `•`, or a label, as `1.` `1)` `(1)` `[1]` `a.` `a)` `ii.`
 pub fn is_bullet(word: &str) -> bool
     ensures { result ≡ is_bullet word.now }
 {

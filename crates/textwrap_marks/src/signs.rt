@@ -10,7 +10,7 @@ ghost use Rattle.textwrap_marks.specs.Signs.{is_column_word, is_comment_behind, 
 ghost use Rattle.textwrap_marks.specs.Signs.{is_end, is_gap, is_key};
 ghost use Rattle.textwrap_marks.specs.Signs.{is_key_character, is_rule, has_wide_gap};
 ghost use Rattle.textwrap_marks.specs.Signs.{is_rule_characters, is_rule_of, is_sign, is_sign_byte};
-ghost use Rattle.textwrap_marks.specs.Signs.{last_of, last_white, last_word, may_go_on};
+ghost use Rattle.textwrap_marks.specs.Signs.{is_for_tools, is_tool_word, last_of, last_white, last_word, may_go_on};
 ghost use Rattle.textwrap_marks.specs.Signs.{opens_code, opens_paragraph};
 ghost use Rattle.textwrap_marks.specs.Marks.{is_bullet};
 ghost use Rattle.textwrap_marks.specs.Words.{has_letter, is_letter_or_digit, spaced_view};
@@ -101,15 +101,51 @@ pub fn ends_code(word: &str) -> bool
         | starts_with(word, "\\endverbatim")
 }
 
+/// Whether a comment that begins with this word is read by a linter, a formatter or an editor.
+fn is_tool_word(word: &str) -> bool
+    ensures { result ≡ is_tool_word word.now }
+{
+    matches!(
+        word,
+        "clang-format"
+            | "shellcheck"
+            | "noqa"
+            | "noqa:"
+            | "nolint"
+            | "pylint:"
+            | "type:"
+            | "fmt:"
+            | "isort:"
+            | "eslint-disable"
+            | "eslint-enable"
+            | "eslint-disable-next-line"
+            | "prettier-ignore"
+            | "rubocop:disable"
+            | "rubocop:enable"
+            | "vim:"
+    )
+}
+
+/// Whether a comment that begins with this word is read by a tool: such a word, `+build` of Go, `NOLINT`
+/// of C++, or `@ts-ignore` of TypeScript.
+fn is_for_tools(word: &str) -> bool
+    ensures { result ≡ is_for_tools word.now }
+{
+    starts_with(word, "+build")
+        | starts_with(word, "NOLINT")
+        | starts_with(word, "@ts-")
+        | is_tool_word(word)
+}
+
 /// Whether a word tells a program something of the lines around it: `[!NOTE]`, `[TOC]` and `:::note`
-/// of Markdown, `+build` of Go, `$$` before a formula, and what begins code.
+/// of Markdown, what a tool reads, `$$` before a formula, and what begins code.
 fn is_directive(word: &str) -> bool
     ensures { result ≡ is_directive word.now }
 {
     starts_with(word, "[!")
         | starts_with(word, "[TOC]")
         | starts_with(word, ":::")
-        | starts_with(word, "+build")
+        | is_for_tools(word)
         | starts_with(word, "$$")
         | opens_code(word)
 }
@@ -154,16 +190,16 @@ pub fn begins_text(starred: bool, word: &str) -> bool
 
 /// Whether a word that begins with a small letter may end so, and is no bullet or key then.
 fn is_usual_end(byte: u8) -> bool
-    ensures { result ≡ (is_ascii_lowercase byte || byte == 44 || byte == 46) }
+    ensures { result ≡ (is_ascii_lowercase byte || byte == 44) }
 {
-    matches!(byte, b'a'..=b'z' | b',' | b'.')
+    matches!(byte, b'a'..=b'z' | b',')
 }
 
-/// Whether a word begins with a small letter of ASCII and ends with another one, a comma or a full
-/// stop, as most words do: then it has a letter, is no sign and no bullet, and opens no paragraph.
-fn is_usual(word: &str) -> bool
+/// Whether a word begins with a small letter of ASCII and ends with another one or a comma, as most
+/// words do: then it has a letter, is no sign but for tools and no bullet, and opens no paragraph.
+fn is_small(word: &str) -> bool
     ensures letter { result ≡ true → has_letter word.now ≡ true }
-    ensures sign { result ≡ true → is_sign word.now ≡ false }
+    ensures sign { result ≡ true → is_tool_word word.now ≡ false → is_sign word.now ≡ false }
     ensures first { result ≡ true → (slice_index word.now 0 == 42) ≡ false }
     ensures opens { result ≡ true → opens_paragraph word.now ≡ false }
     ensures bullet { result ≡ true → is_bullet word.now ≡ false }
@@ -172,6 +208,17 @@ fn is_usual(word: &str) -> bool
         [first, .., last] => { first.is_ascii_lowercase() && is_usual_end(*last) }
         _ => false,
     }
+}
+
+/// The same of a word that is not for tools.
+fn is_usual(word: &str) -> bool
+    ensures letter { result ≡ true → has_letter word.now ≡ true }
+    ensures sign { result ≡ true → is_sign word.now ≡ false }
+    ensures first { result ≡ true → (slice_index word.now 0 == 42) ≡ false }
+    ensures opens { result ≡ true → opens_paragraph word.now ≡ false }
+    ensures bullet { result ≡ true → is_bullet word.now ≡ false }
+{
+    is_small(word) && !is_tool_word(word)
 }
 
 /// Whether a paragraph may have a line that this word begins, after its first one.
@@ -254,7 +301,9 @@ fn is_column_byte(byte: u8) -> bool
 fn is_comment_behind(word: &str) -> bool
     ensures { result ≡ is_comment_behind word.now }
 {
-    matches!(word, "//" | "/*" | "#" | "%" | "--" | ";")
+    starts_with(word, "//")
+        | starts_with(word, "/*")
+        | matches!(word, "#" | "%" | "%%" | "--" | ";" | ";;" | ";;;")
 }
 
 /// Whether no paragraph contains this word: `|`, a comment behind text, a carriage return, `]:` or

@@ -1,4 +1,4 @@
-use Rattle.textwrap_marks.proofs.signs.is_usual.Goals as goal
+use Rattle.textwrap_marks.proofs.signs.is_small.Goals as goal
 use Rattle.textwrap_text.proofs.Common.{◌≡◌, ℕ, ◌<◌, ◌≤◌, ◌++◌, ◌∙◌, ◌||◌, Bool, true, List, []}
 use Rattle.textwrap_text.proofs.Common.{◌∷◌, ap, arith, length, cases_Bool, list_any, nat_tests}
 use Rattle.textwrap_text.proofs.Common.{sym, IsUtf8}

@@ -2,9 +2,12 @@
 use Rattle.textwrap_text.proofs.Common.{◌≡◌, ℕ, ◌+◌, ◌-◌, ◌<◌, ◌≤◌, List, [], ◌∷◌, ◌++◌, length}
 use Rattle.textwrap_text.proofs.Common.{map, refl, sym, ap, ◌∙◌, arith, get_or, drop, drop_more}
 use Rattle.textwrap_text.proofs.Common.{append-nil, append_assoc, length-map, length-drop}
-use Rattle.textwrap_words.proofs.Common.{word_view, WordText}
-use Rattle.textwrap_words.specs.declared.words.Word.{Word}
+use Rattle.textwrap_text.proofs.Common.{take-append-drop}
+use Rattle.textwrap_text.specs.Blanks.{trimmed_len}
+use Rattle.textwrap_words.proofs.Common.{WordText}
 use Rattle.textwrap_layout.specs.Paragraph.{covered}
+use Rattle.textwrap_marked.specs.Pieces.{piece_view}
+use Rattle.textwrap_marked.specs.declared.pieces.Piece.{Piece}
 
 covered-next : (piece : WordText) (pieces : List WordText) → 0 < length pieces
     → covered (piece ∷ pieces) ≡ piece.word ++ piece.whitespace ++ covered pieces
@@ -17,30 +20,31 @@ covered-last piece [] none = sym (append-nil piece.word)
 covered-last piece (next ∷ pieces) none = absurd (omega (arith, none))
 
 -- one piece more is written, and the text is still the same with those that are left
-module _ (line : List Word) (i : ℕ) (d : Word) (before middle whole : List ℕ)
-    (within : i < length line) (word : middle ≡ before ++ (get_or line i d).word.now)
-    (is : before ++ covered (map word_view (drop i line)) ≡ whole) where
-  left-is : before ++ covered (word_view (get_or line i d) ∷ map word_view (drop (i + 1) line)) ≡ whole
-  left-is = ap (λ l. before ++ covered (map word_view l)) (sym (drop_more line i d within)) ∙ is
+module _ (line : List Piece) (i : ℕ) (d : Piece) (before after whole : List ℕ)
+    (within : i < length line) (is : before ++ covered (map piece_view (drop i line)) ≡ whole) where
+  abbrev piece : WordText
+  piece = piece_view (get_or line i d)
 
-  left-len : length (map word_view (drop (i + 1) line)) ≡ length line - (i + 1)
-  left-len = omega (arith, length-map (drop (i + 1) line) word_view, length-drop (i + 1) line)
+  abbrev left : List WordText
+  left = map piece_view (drop (i + 1) line)
 
-  pub pieces-next : (after : List ℕ) → i + 1 < length line
-      → after ≡ middle ++ (get_or line i d).whitespace.now
-      → after ++ covered (map word_view (drop (i + 1) line)) ≡ whole
-  pieces-next after more space =
-      let piece = word_view (get_or line i d) in
-      let left = map word_view (drop (i + 1) line) in
-      let grown : ((before ++ piece.word) ++ piece.whitespace) ++ covered left
+  left-is : before ++ covered (piece ∷ left) ≡ whole
+  left-is = ap (λ l. before ++ covered (map piece_view l)) (sym (drop_more line i d within)) ∙ is
+
+  left-len : length left ≡ length line - (i + 1)
+  left-len = omega (arith, length-map (drop (i + 1) line) piece_view, length-drop (i + 1) line)
+
+  pub pieces-next : i + 1 < length line → after ≡ before ++ (get_or line i d).text.now
+      → after ++ covered left ≡ whole
+  pieces-next more text =
+      let parts : (get_or line i d).text.now ≡ piece.word ++ piece.whitespace =
+      sym (take-append-drop (trimmed_len (get_or line i d).text.now) (get_or line i d).text.now) in
+      let grown : (before ++ (piece.word ++ piece.whitespace)) ++ covered left
       ≡ before ++ ((piece.word ++ piece.whitespace) ++ covered left) = simp append_assoc in
-      ap (λ l. l ++ covered left) (space ∙ ap (λ l. l ++ piece.whitespace) word) ∙ grown
+      ap (λ l. l ++ covered left) (text ∙ ap (λ l. before ++ l) parts) ∙ grown
       ∙ ap (λ l. before ++ l) (sym (covered-next piece left (omega (arith, left-len)))) ∙ left-is
 
-  pub pieces-last : length line ≤ i + 1
-      → middle ++ covered (map word_view (drop (i + 1) line)) ≡ whole
-  pieces-last past =
-      let piece = word_view (get_or line i d) in
-      let left = map word_view (drop (i + 1) line) in
+  pub pieces-last : length line ≤ i + 1 → after ≡ before ++ piece.word → after ++ covered left ≡ whole
+  pieces-last past word =
       ap (λ l. l ++ covered left) word ∙ append_assoc before piece.word (covered left)
       ∙ ap (λ l. before ++ l) (sym (covered-last piece left (omega (arith, left-len)))) ∙ left-is

@@ -1,57 +1,63 @@
 -- Words that are joined, one after another.
-use Rattle.textwrap_text.proofs.Common.{◌≡◌, ℕ, ◌+◌, ◌<◌, Bool, true, false, cond, List, [], ◌∷◌}
-use Rattle.textwrap_text.proofs.Common.{◌++◌, length, sym, ap, ◌∙◌, append_assoc, length-append}
-use Rattle.textwrap_text.proofs.Common.{drop, flat_map, get_or, map, Bor, drop_more}
-use Rattle.textwrap_marked.specs.Pieces.{cuts_from, is_cut, Joined}
-use Rattle.textwrap_marked.specs.Pieces.{with_blank, with_word}
+use Rattle.textwrap_text.proofs.Common.{◌≡◌, ℕ, ◌+◌, Bool, true, false, cond, List, [], ◌∷◌, ◌++◌, refl}
+use Rattle.textwrap_text.proofs.Common.{length, sym, ap, ◌∙◌, append_assoc, append-nil, length-append}
+use Rattle.textwrap_text.proofs.Common.{flat_map, Option, Some, None}
+use Rattle.std.proofs.Common.{ap₂}
+use Rattle.std.specs.Prelude.{not}
+use Rattle.textwrap_marked.specs.Pieces.{cuts_behind, cuts_from, is_cut, is_cut_behind, IsJoined}
+use Rattle.textwrap_marked.specs.Pieces.{is_kept_together, Joined, with_blank, with_next, with_words}
 use Rattle.textwrap_marks.specs.declared.options.ReflowOptions.{ReflowOptions}
 
-joined-turn : (options : ReflowOptions) (starred : Bool) (joined : Joined) (word : List ℕ)
-    (words : List (List ℕ))
-    → let more : Joined = with_word joined word (is_cut options starred word words) in
-    (more.text ++ flat_map with_blank words ≡ joined.text ++ flat_map with_blank (word ∷ words))
-    × (more.cuts ++ cuts_from options starred (length more.text) words
-    ≡ joined.cuts ++ cuts_from options starred (length joined.text) (word ∷ words))
-joined-turn options starred joined word words =
-    let text = joined.text ++ with_blank word in
-    let end = length joined.text + length (with_blank word) in
-    let long : length text ≡ end = length-append joined.text (with_blank word) in
-    let later = flat_map with_blank words in
-    let same : text ++ later ≡ joined.text ++ (with_blank word ++ later) =
-    append_assoc joined.text (with_blank word) later in
-    let cuts : ℕ → List ℕ = λ at. cuts_from options starred at words in
-    elim (is_cut options starred word words) as (λ b. let more : Joined = with_word joined word b in
-    (more.text ++ later ≡ joined.text ++ (with_blank word ++ later))
-    × (more.cuts ++ cuts (length more.text)
-    ≡ joined.cuts ++ cond b (end ∷ cuts end) (cuts end))) [
-      | true ↦ (
-        same,
-        append_assoc joined.cuts (length text ∷ []) (cuts (length text))
-            ∙ ap (λ n. joined.cuts ++ (n ∷ cuts n)) long,
-      )
-      | false ↦ (same, ap (λ n. joined.cuts ++ cuts n) long)
-    ]
+-- a place before others, or not
+before-others : (is : Bool) (at : ℕ) (cuts : List ℕ)
+    → cond is (at ∷ cuts) cuts ≡ cond is (at ∷ []) [] ++ cuts
+before-others true at cuts = refl
+before-others false at cuts = refl
+
+behind-others : (is : Bool) (at : ℕ) (front cuts : List ℕ)
+    → cond is (front ++ at ∷ []) front ++ cuts ≡ front ++ (cond is (at ∷ []) [] ++ cuts)
+behind-others true at front cuts = append_assoc front (at ∷ []) cuts
+behind-others false at front cuts = refl
 
 module _ (options : ReflowOptions) (starred : Bool) where
+  -- behind a word, if there is one, the next one tells whether a line may end
+  cuts-next : (last : Option (List ℕ)) (at : ℕ) (front word : List ℕ) (words : List (List ℕ))
+      → front ++ cuts_behind options starred last at (word ∷ words)
+      ≡ cond (is_cut_behind options starred last word) (front ++ at ∷ []) front
+      ++ cuts_from options starred at (word ∷ words)
+  cuts-next None at front word words = refl
+  cuts-next (Some last) at front word words =
+      sym (behind-others (not (is_kept_together options starred last word)) at front
+      (cuts_from options starred at (word ∷ words)))
+
   -- one word more is joined, and the whole stays the same with the words that are left
-  pub joined-next : (words : List (Bor (List ℕ))) (i : ℕ) (d : Bor (List ℕ)) (old new : Joined)
-      (cut : Bool) (text cuts : List ℕ) → i < length words
-      → new ≡ with_word old (get_or words i d).now cut
-      → cut ≡ is_cut options starred (get_or words i d).now (map (λ w. w.now) (drop (i + 1) words))
-      → old.text ++ flat_map with_blank (map (λ w. w.now) (drop i words)) ≡ text
-      → old.cuts ++ cuts_from options starred (length old.text) (map (λ w. w.now) (drop i words)) ≡ cuts
-      → (new.text ++ flat_map with_blank (map (λ w. w.now) (drop (i + 1) words)) ≡ text)
-      × (new.cuts ++ cuts_from options starred (length new.text)
-      (map (λ w. w.now) (drop (i + 1) words)) ≡ cuts)
-  joined-next words i d old new cut text cuts within is may texts places =
-      let word = (get_or words i d).now in
-      let rest : List (List ℕ) = map (λ w. w.now) (drop (i + 1) words) in
-      let first = ap (map (λ (w : Bor (List ℕ)). w.now)) (drop_more words i d within) in
-      let turned = joined-turn options starred old word rest in
-      let whole = is ∙ ap (with_word old word) may in (
-        ap (λ (j : Joined). j.text ++ flat_map with_blank rest) whole ∙ turned.0
-            ∙ ap (λ ws. old.text ++ flat_map with_blank ws) (sym first) ∙ texts,
-        ap (λ (j : Joined). j.cuts ++ cuts_from options starred (length j.text) rest) whole ∙ turned.1
-            ∙ ap (λ ws. old.cuts ++ cuts_from options starred (length old.text) ws) (sym first)
-            ∙ places,
-      )
+  pub joined-next : (joined : Joined) (word : List ℕ) (words : List (List ℕ))
+      → with_words options starred (with_next options starred joined word) words
+      ≡ with_words options starred joined (word ∷ words)
+  joined-next joined word words =
+      let text = joined.text ++ with_blank word in
+      let at = length joined.text in
+      let end = at + length (with_blank word) in
+      let front = cond (is_cut_behind options starred joined.last word) (joined.cuts ++ at ∷ []) joined.cuts in
+      let long : length text ≡ end = length-append joined.text (with_blank word) in
+      ap₂ (λ t cs. (t, cs)) (append_assoc joined.text (with_blank word) (flat_map with_blank words))
+      (ap (λ n. front ++ cuts_behind options starred (Some word) n words) long
+      ∙ ap (λ cs. front ++ cs) (sym (before-others (is_cut options starred word words) end
+      (cuts_from options starred end words)))
+      ∙ sym (cuts-next joined.last at joined.cuts word words))
+
+  cuts-none : (last : Option (List ℕ)) (at : ℕ) → cuts_behind options starred last at [] ≡ []
+  cuts-none None at = refl
+  cuts-none (Some word) at = refl
+
+  -- with none left, and none at first, they are the words
+  pub joined-all : (joined empty : Joined) (words : List (List ℕ)) → empty.text ≡ [] → empty.cuts ≡ []
+      → empty.last ≡ None → with_words options starred joined [] ≡ with_words options starred empty words
+      → IsJoined options starred words joined
+  joined-all joined empty words text cuts last is = record {
+    text = sym (append-nil joined.text) ∙ ap (λ w. w.0) is ∙ ap (λ t. t ++ flat_map with_blank words) text;
+    cuts = sym (append-nil joined.cuts)
+        ∙ ap (λ cs. joined.cuts ++ cs) (sym (cuts-none joined.last (length joined.text)))
+        ∙ ap (λ w. w.1) is
+        ∙ (λ i. cuts i ++ cuts_behind options starred (last i) (length (text i)) words);
+  }

@@ -1,13 +1,22 @@
 -- Blocks that are laid out, one after another.
 use Rattle.textwrap_text.proofs.Common.{◌≡◌, ℕ, ◌<◌, ◌++◌, ◌||◌, Bool, List, [], ◌∷◌, map, ap}
-use Rattle.textwrap_text.proofs.Common.{arith, get_or, length, refl, subst, sym}
+use Rattle.textwrap_text.proofs.Common.{arith, drop, drop_more, get_or, length, refl, subst, sym, ◌∙◌, ◌≤◌}
 use Rattle.textwrap_marked.proofs.BlockLemmas.{blocks-first}
 use Rattle.textwrap_marked.specs.Blocks.{behind_block, blocks, first_block, is_beside}
 use Rattle.textwrap_marked.specs.Blocks.{stays}
 use Rattle.textwrap_marked.specs.Lines.{LineText, marked_line_view}
-use Rattle.textwrap_marked.specs.Reflow.{AreOfBlocks, IsOfBlock}
+use Rattle.textwrap_marked.specs.Reflow.{AreOfBlocks, IsOfBlock, IsOfLines}
 use Rattle.textwrap_marked.specs.declared.line.MarkedLine.{MarkedLine}
 use Rattle.textwrap_marks.specs.declared.options.ReflowOptions.{ReflowOptions}
+
+-- lines that are not none begin with their first
+pub first-of : (lines given : List MarkedLine) (first : MarkedLine) → given ≡ lines → 1 ≤ length given
+    → first ≡ get_or given 0 first
+    → map marked_line_view lines ≡ marked_line_view first ∷ map marked_line_view (drop 1 lines)
+first-of lines given first is some begins =
+    ap (map marked_line_view) (drop_more lines 0 first (omega (arith, some, ap length is)))
+    ∙ ap (λ l. marked_line_view l ∷ map marked_line_view (drop 1 lines))
+    (sym (begins ∙ ap (λ ls. get_or ls 0 first) is))
 
 -- the lines of the first block begin with the first line
 pub block-begins : (block : List MarkedLine) (line : LineText) (rest : List LineText) (d : MarkedLine)
@@ -19,6 +28,15 @@ block-begins (first ∷ block) line rest d is = (omega arith, ap (λ l. head_or 
     head_or : List LineText → LineText
     head_or [] = line
     head_or (l ∷ ls) = l
+
+-- the first block of these lines begins with the first of them
+pub of-first : (options : ReflowOptions) (ending : List ℕ) (beside : Bool) (line : LineText)
+    (rest block : List LineText) (text : List ℕ) → block ≡ first_block (line ∷ rest)
+    → IsOfLines options ending beside block text
+    → IsOfBlock options ending (stays beside line) line block text
+of-first options ending beside line rest block text part of =
+    subst (λ b. IsOfBlock options ending (stays beside line) line b text) (sym part)
+    (subst (λ b. IsOfLines options ending beside b text) part of)
 
 -- the first block of these lines is laid out, and those behind it are
 pub laid-first : (options : ReflowOptions) (ending : List ℕ) (beside next : Bool) (line : LineText)

@@ -35,6 +35,7 @@ pub mod OneText
 pub mod ParagraphLines
 pub mod PieceCuts
 pub mod PieceLemmas
+pub mod PieceSums
 pub mod PlainLines
 pub mod PrintedLines
 pub mod PrintedText

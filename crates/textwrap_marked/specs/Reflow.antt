@@ -70,12 +70,16 @@ filled_ends ending lines = flat_map (λ l. break_white l ++ ending_if l.fed endi
 abbrev pub filled_end : List ℕ → List LineText → List ℕ
 filled_end ending lines = filled_ends ending (drop (length lines - 1) lines)
 
--- what the prefixes of a paragraph leave of the width, the first line's and the later ones'
+-- what a prefix leaves of the width
+abbrev pub room_behind : ReflowOptions → List ℕ → ℕ
+room_behind options prefix = options.width - text_columns prefix
+
+-- what the prefixes of a paragraph leave of it, the first line's and the later ones'
 abbrev pub first_room : ReflowOptions → LineText → ℕ
-first_room options first = options.width - text_columns first.prefix
+first_room options first = room_behind options first.prefix
 
 abbrev pub later_room : ReflowOptions → LineText → ℕ
-later_room options first = options.width - text_columns first.hanging
+later_room options first = room_behind options first.hanging
 
 -- the lines of a paragraph, as they are printed
 abbrev pub shown_lines : ReflowOptions → LineText → List (List WordText) → List (List ℕ)
@@ -93,10 +97,20 @@ module _ (options : ReflowOptions) (ending : List ℕ) where
       × (text ≡ printed ending first.prefix first.hanging (shown_lines options first division)
       ++ filled_end ending lines)
 
+  -- the paragraph of these lines
+  abbrev pub AreFilled : List LineText → List ℕ → Type 0
+  AreFilled [] text = text ≡ []
+  AreFilled (first ∷ lines) text = IsFilled first (first ∷ lines) text
+
   -- a block of this first line stays, or is filled
   abbrev pub IsOfBlock : Bool → LineText → List LineText → List ℕ → Type 0
   IsOfBlock true first lines text = text ≡ kept_text options lines
   IsOfBlock false first lines text = IsFilled first lines text
+
+  -- the block of these lines, which may stand beside another field
+  abbrev pub IsOfLines : Bool → List LineText → List ℕ → Type 0
+  IsOfLines beside [] text = text ≡ []
+  IsOfLines beside (first ∷ lines) text = IsOfBlock (stays beside first) first (first ∷ lines) text
 
   -- one block after the other, where a field stands beside the first, if it is one
   abbrev pub AreOfBlocks : Bool → List (List LineText) → List ℕ → Type 0

@@ -1,21 +1,23 @@
 //! The lines of a block: as they are, or filled.
-ghost use Rattle.std.specs.Prelude.{◌≡◌, ℕ, ◌++◌, List, map, IfOk, OnOk};
+ghost use Rattle.std.specs.Prelude.{◌≡◌, ℕ, ◌++◌, [], ◌∷◌, List, map, IfOk, OnOk};
 ghost use Rattle.std.specs.Prelude.{string_bytes};
 ghost use Rattle.std.specs.List.{flat_map};
-ghost use Rattle.textwrap_base.specs.Algorithms.{IsDividedBy, ByOptimalFit};
+ghost use Rattle.textwrap_base.specs.Algorithms.{IsDividedBy};
 ghost use Rattle.textwrap_base.specs.Cost.{total_width};
 ghost use Rattle.textwrap_base.specs.Errors.{Fits64Bits, Overflowed};
 ghost use Rattle.textwrap_display.specs.Justifying.{justified};
 ghost use Rattle.textwrap_layout.specs.Paragraph.{covered, line_bytes};
-ghost use Rattle.textwrap_words.specs.Words.{sizes_of, word_view};
+ghost use Rattle.textwrap_words.specs.Words.{WordText, sizes_of, word_of};
+ghost use Rattle.textwrap_words.specs.Cuts.{AreCuts, parts_between};
 ghost use Rattle.textwrap_marked.specs.Lines.{marked_line_view};
+ghost use Rattle.textwrap_marked.specs.Pieces.{AreInRow, piece_view};
 ghost use Rattle.textwrap_marked.specs.Reflow.{dividing_algorithm, break_white, ending_if, filled_end};
-ghost use Rattle.textwrap_marked.specs.Reflow.{filled_ends, first_room, IsFilled, kept_line};
-ghost use Rattle.textwrap_marked.specs.Reflow.{kept_text, later_room, line_text, line_texts};
-ghost use Rattle.textwrap_marked.specs.Reflow.{printed, shown_lines};
+ghost use Rattle.textwrap_marked.specs.Reflow.{filled_ends, AreFilled, kept_line};
+ghost use Rattle.textwrap_marked.specs.Reflow.{kept_text, line_text, line_texts, printed, room_behind};
 
+use crate::least_cost::divide_at_least_cost;
 use crate::lines::{MarkedLine, without_returns};
-use crate::pieces::{joined_of, words_of};
+use crate::pieces::{JoinedWords, Piece, joined_of, pieces_between};
 use std::alloc::{AllocError, Global};
 use textwrap_display::justify;
 use textwrap_lines::LineEnding;
@@ -23,9 +25,7 @@ use textwrap_marks::columns::columns;
 use textwrap_marks::options::{Algorithm, ReflowOptions};
 use textwrap_marks::signs::last_white;
 use textwrap_marks::words::ends_with;
-use textwrap_words::inner::words_between;
-use textwrap_words::words::Word;
-use textwrap_words::wrap_algorithms::{Penalties, WrapAlgorithm, WrapError, wrap_first_fit};
+use textwrap_words::wrap_algorithms::{WrapError, wrap_first_fit};
 
 /// Adds an ending where a line feed was.
 fn push_ending(output: &mut String, ending: &str, fed: bool) -> Result<(), AllocError>
@@ -75,13 +75,14 @@ pub(crate) fn push_kept(
 fn divide<'p, 't>(
     alloc: Global,
     algorithm: Algorithm,
-    pieces: &'p [Word<'t>],
+    pieces: &'p [Piece<'t>],
     widths: &[usize],
-) -> Result<Vec<&'p [Word<'t>]>, WrapError>
-    requires { Fits64Bits (total_width (λ word. sizes_of (word_view word)) pieces.now) }
+) -> Result<Vec<&'p [Piece<'t>]>, WrapError>
+    requires row { AreInRow 0 pieces.now }
+    requires fits { Fits64Bits (total_width (λ piece. sizes_of (piece_view piece)) pieces.now) }
     ensures divided { IfOk result (λ lines. IsDividedBy
         (dividing_algorithm algorithm) sizes_of widths.now
-        (map word_view pieces.now) (map (map word_view) (map (λ line. line.now) lines.items))) }
+        (map piece_view pieces.now) (map (map piece_view) (map (λ line. line.now) lines.items))) }
     ensures only_memory { ¬ Overflowed result }
 {
     match algorithm {
@@ -89,45 +90,20 @@ fn divide<'p, 't>(
             let lines = wrap_first_fit(alloc, pieces, widths)?;
             Ok(lines)
         }
-        Algorithm::LeastCost(penalties) => divide_at_least_cost(alloc, penalties, pieces, widths),
-    }
-}
-
-/// The pieces, divided into lines of these widths at least cost.
-fn divide_at_least_cost<'p, 't>(
-    alloc: Global,
-    penalties: Penalties,
-    pieces: &'p [Word<'t>],
-    widths: &[usize],
-) -> Result<Vec<&'p [Word<'t>]>, WrapError>
-    requires { Fits64Bits (total_width (λ word. sizes_of (word_view word)) pieces.now) }
-    ensures divided { IfOk result (λ lines. IsDividedBy (ByOptimalFit penalties) sizes_of widths.now
-        (map word_view pieces.now) (map (map word_view) (map (λ line. line.now) lines.items))) }
-    ensures only_memory { ¬ Overflowed result }
-{
-    WrapAlgorithm::OptimalFit(penalties).wrap(alloc, pieces, widths)
-}
-
-/// Adds the white behind a piece: a single blank, in nearly all texts, is pushed at less cost alone.
-fn push_white(output: &mut String, white: &str) -> Result<(), AllocError>
-    ensures { OnOk result (string_bytes output.new ≡ string_bytes output.old ++ white.now) }
-{
-    if white == " " {
-        output.push(' ')
-    } else {
-        output.push_str(white)
+        Algorithm::LeastCost(penalties) => divide_at_least_cost(alloc, &penalties, pieces, widths),
     }
 }
 
 /// Adds the pieces of a line, without the last one's blank.
-fn push_pieces(output: &mut String, line: &[Word<'_>]) -> Result<(), AllocError>
+fn push_pieces(output: &mut String, line: &[Piece<'_>]) -> Result<(), AllocError>
     ensures { OnOk result (string_bytes output.new
-        ≡ string_bytes output.old ++ covered (map word_view line.now)) }
+        ≡ string_bytes output.old ++ covered (map piece_view line.now)) }
 {
     for (i, piece) in line.iter().enumerate() {
-        output.push_str(piece.word)?;
         if i + 1 < line.len() {
-            push_white(output, piece.whitespace)?;
+            output.push_str(piece.text)?;
+        } else {
+            output.push_str(piece.word())?;
         }
     }
     Ok(())
@@ -137,11 +113,11 @@ fn push_pieces(output: &mut String, line: &[Word<'_>]) -> Result<(), AllocError>
 fn push_justified(
     alloc: Global,
     output: &mut String,
-    line: &[Word<'_>],
+    line: &[Piece<'_>],
     room: usize,
 ) -> Result<(), AllocError>
     ensures { OnOk result (string_bytes output.new
-        ≡ string_bytes output.old ++ line_bytes (justified room (covered (map word_view line.now)))) }
+        ≡ string_bytes output.old ++ line_bytes (justified room (covered (map piece_view line.now)))) }
 {
     let mut text = String::new(alloc);
     push_pieces(&mut text, line)?;
@@ -153,12 +129,12 @@ fn push_justified(
 fn push_text(
     alloc: Global,
     output: &mut String,
-    line: &[Word<'_>],
+    line: &[Piece<'_>],
     room: usize,
     justify: bool,
 ) -> Result<(), AllocError>
     ensures { OnOk result (string_bytes output.new
-        ≡ string_bytes output.old ++ line_text justify room (map word_view line.now)) }
+        ≡ string_bytes output.old ++ line_text justify room (map piece_view line.now)) }
 {
     if justify {
         push_justified(alloc, output, line, room)
@@ -167,27 +143,18 @@ fn push_text(
     }
 }
 
-/// What its prefix leaves of the width for the first line of a paragraph.
-fn first_room(first: &MarkedLine<'_>, options: &ReflowOptions<'_>) -> usize
-    ensures { result ≡ first_room options.now (marked_line_view first.now) }
+/// What a prefix leaves of the width of a line.
+fn room_behind(prefix: &str, options: &ReflowOptions<'_>) -> usize
+    ensures { result ≡ room_behind options.now prefix.now }
 {
-    options.width.saturating_sub(columns(first.prefix.as_str()))
-}
-
-/// What the hanging form leaves of it for the later lines.
-fn later_room(first: &MarkedLine<'_>, options: &ReflowOptions<'_>) -> usize
-    ensures { result ≡ later_room options.now (marked_line_view first.now) }
-{
-    options
-        .width
-        .saturating_sub(columns(first.hanging.as_str()))
+    options.width.saturating_sub(columns(prefix))
 }
 
 /// Adds the later lines of a division, each behind an ending and the hanging form.
 fn push_later(
     alloc: Global,
     output: &mut String,
-    lines: &[&[Word<'_>]],
+    lines: &[&[Piece<'_>]],
     ending: &str,
     hanging: &str,
     room: usize,
@@ -195,7 +162,7 @@ fn push_later(
 ) -> Result<(), AllocError>
     ensures { OnOk result (string_bytes output.new ≡ string_bytes output.old
         ++ flat_map (λ text. (ending.now ++ hanging.now) ++ text) (line_texts justify room room
-        (map (map word_view) (map (λ line. line.now) lines.now)))) }
+        (map (map piece_view) (map (λ line. line.now) lines.now)))) }
 {
     for (i, line) in lines.iter().enumerate() {
         output.push_str(ending)?;
@@ -210,33 +177,26 @@ fn push_later(
 fn push_division(
     alloc: Global,
     output: &mut String,
-    lines: &[&[Word<'_>]],
+    lines: &[&[Piece<'_>]],
     ending: &str,
-    first: &MarkedLine<'_>,
+    prefix: &str,
+    hanging: &str,
     options: &ReflowOptions<'_>,
 ) -> Result<(), AllocError>
     ensures { OnOk result (string_bytes output.new ≡ string_bytes output.old
-        ++ printed ending.now (marked_line_view first.now).prefix (marked_line_view first.now).hanging
-        (shown_lines options.now (marked_line_view first.now)
-        (map (map word_view) (map (λ line. line.now) lines.now)))) }
+        ++ printed ending.now prefix.now hanging.now (line_texts options.now.justify
+        (room_behind options.now prefix.now) (room_behind options.now hanging.now)
+        (map (map piece_view) (map (λ line. line.now) lines.now)))) }
 {
     let [line, later @ ..] = lines else {
         return Ok(());
     };
     let justify = options.justify;
-    let room = first_room(first, options);
-    output.push_str(first.prefix.as_str())?;
+    let room = room_behind(prefix, options);
+    output.push_str(prefix)?;
     push_text(alloc, output, line, room, justify & !later.is_empty())?;
-    let room = later_room(first, options);
-    push_later(
-        alloc,
-        output,
-        later,
-        ending,
-        first.hanging.as_str(),
-        room,
-        justify,
-    )
+    let room = room_behind(hanging, options);
+    push_later(alloc, output, later, ending, hanging, room, justify)
 }
 
 /// Adds the white of a hard break.
@@ -273,27 +233,69 @@ fn push_end(output: &mut String, lines: &[MarkedLine<'_>], ending: &str) -> Resu
     push_ends(output, last, ending)
 }
 
-/// Adds a paragraph, filled.
+/// Adds the lines of the text of a paragraph, which may be cut there.
+fn push_joined(
+    alloc: Global,
+    output: &mut String,
+    text: &str,
+    cuts: Vec<usize>,
+    ending: &str,
+    prefix: &str,
+    hanging: &str,
+    options: &ReflowOptions<'_>,
+) -> Result<(), WrapError>
+    requires { AreCuts text.now cuts.items }
+    ensures lines { OnOk result ((division : List (List WordText))
+        × IsDividedBy (dividing_algorithm options.now.algorithm) sizes_of
+        (room_behind options.now prefix.now ∷ room_behind options.now hanging.now ∷ [])
+        (map word_of (parts_between cuts.items text.now)) division
+        × (string_bytes output.new ≡ string_bytes output.old ++ printed ending.now prefix.now hanging.now
+        (line_texts options.now.justify (room_behind options.now prefix.now)
+        (room_behind options.now hanging.now) division))) }
+    ensures only_memory { ¬ Overflowed result }
+{
+    let pieces = pieces_between(alloc, text, &cuts)?;
+    drop(cuts);
+    let widths = [room_behind(prefix, options), room_behind(hanging, options)];
+    let division = divide(alloc, options.algorithm, &pieces, &widths)?;
+    push_division(alloc, output, &division, ending, prefix, hanging, options)?;
+    Ok(())
+}
+
+/// Adds a paragraph, filled. What is kept of its lines is let go of before they are divided, as the
+/// words of a long one take many times its text.
 pub(crate) fn push_filled(
     alloc: Global,
     output: &mut String,
-    first: &MarkedLine<'_>,
-    lines: &[MarkedLine<'_>],
+    lines: Vec<MarkedLine<'_>>,
     ending: &str,
     options: &ReflowOptions<'_>,
 ) -> Result<(), WrapError>
     ensures filled { OnOk result ((text : List ℕ)
-        × IsFilled options.now ending.now (marked_line_view first.now)
-        (map marked_line_view lines.now) text
+        × AreFilled options.now ending.now (map marked_line_view lines.entry.items) text
         × (string_bytes output.new ≡ string_bytes output.old ++ text)) }
     ensures only_memory { ¬ Overflowed result }
 {
-    let words = words_of(alloc, lines)?;
-    let joined = joined_of(alloc, &words, first.starred, options)?;
-    let pieces = words_between(alloc, joined.text.as_str(), &joined.cuts)?;
-    let widths = [first_room(first, options), later_room(first, options)];
-    let division = divide(alloc, options.algorithm, &pieces, &widths)?;
-    push_division(alloc, output, &division, ending, first, options)?;
-    push_end(output, lines, ending)?;
+    let [first, ..] = lines.as_slice() else {
+        return Ok(());
+    };
+    let joined = joined_of(alloc, &lines, first.starred, options)?;
+    let prefix = String::from_str(alloc, first.prefix.as_str())?;
+    let hanging = String::from_str(alloc, first.hanging.as_str())?;
+    let mut end = String::new(alloc);
+    push_end(&mut end, &lines, ending)?;
+    drop(lines);
+    let JoinedWords { text, cuts, .. } = joined;
+    push_joined(
+        alloc,
+        output,
+        text.as_str(),
+        cuts,
+        ending,
+        prefix.as_str(),
+        hanging.as_str(),
+        options,
+    )?;
+    output.push_str(end.as_str())?;
     Ok(())
 }

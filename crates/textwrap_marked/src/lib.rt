@@ -12,6 +12,7 @@ mod choosing;
 mod filling;
 mod hanging;
 pub mod laws;
+mod least_cost;
 mod line;
 mod lines;
 mod pieces;

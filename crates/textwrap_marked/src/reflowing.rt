@@ -4,7 +4,7 @@ ghost use Rattle.textwrap_base.specs.Errors.{Overflowed};
 ghost use Rattle.textwrap_marked.specs.Blocks.{blocks, is_beside, stays};
 ghost use Rattle.textwrap_marked.specs.Lines.{marked_line_view};
 ghost use Rattle.textwrap_marked.specs.Reading.{lines_left};
-ghost use Rattle.textwrap_marked.specs.Reflow.{ending_of_line, filled_ending, AreOfBlocks, IsOfBlock};
+ghost use Rattle.textwrap_marked.specs.Reflow.{ending_of_line, filled_ending, AreOfBlocks, IsOfLines};
 ghost use Rattle.textwrap_marked.specs.Reflow.{IsReflowed, IsReflowedFrom};
 
 use crate::blocks::{BlocksAhead, are_fields};
@@ -107,7 +107,7 @@ fn push_blocks(
         let (block, after) = left.next(alloc, options)?;
         let first = &block[0];
         let next = is_beside(first, &after);
-        push_block(alloc, output, first, &block, beside | next, ending, options)?;
+        push_block(alloc, output, block, beside | next, ending, options)?;
         beside = next;
         ahead = after;
     }
@@ -118,24 +118,24 @@ fn push_blocks(
 pub(crate) fn push_block(
     alloc: Global,
     output: &mut String,
-    first: &MarkedLine<'_>,
-    block: &[MarkedLine<'_>],
+    block: Vec<MarkedLine<'_>>,
     beside: bool,
     ending: &str,
     options: &ReflowOptions<'_>,
 ) -> Result<(), WrapError>
     ensures laid_out { OnOk result ((text : List ℕ)
-        × IsOfBlock options.now ending.now (stays beside (marked_line_view first.now))
-        (marked_line_view first.now)
-        (map marked_line_view block.now) text
+        × IsOfLines options.now ending.now beside (map marked_line_view block.entry.items) text
         × (string_bytes output.new ≡ string_bytes output.old ++ text)) }
     ensures only_memory { ¬ Overflowed result }
 {
+    let [first, ..] = block.as_slice() else {
+        return Ok(());
+    };
     if stays(beside, first) {
-        push_kept(output, block, options)?;
+        push_kept(output, &block, options)?;
         Ok(())
     } else {
-        push_filled(alloc, output, first, block, ending, options)
+        push_filled(alloc, output, block, ending, options)
     }
 }
 

@@ -114,13 +114,12 @@ fn push_blocks(
         let (block, after) = left.next(alloc, options)?;
         let first = &block[0];
         let next = is_beside(first, &after);
-        let len = block.len();
+        let len = block.as_slice().len();
         let is_outside = !range.touches(len);
         push_block(
             alloc,
             output,
-            first,
-            &block,
+            block,
             beside | next | is_outside,
             ending,
             options,

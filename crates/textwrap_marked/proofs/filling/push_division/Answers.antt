@@ -4,7 +4,7 @@ use Rattle.textwrap_marked.proofs.LineNames.{◌++◌, ap, append_assoc, arith, 
 use Rattle.textwrap_marked.proofs.LineNames.{map, nat_lt, refl, sym, take, take_all, ◌∙◌, WordText}
 use Rattle.std.proofs.lemmas.Result.{on_ok_weaker}
 use Rattle.textwrap_text.proofs.Common.{get_or, length-map, nat_tests}
-use Rattle.textwrap_words.proofs.Common.{word_view}
+use Rattle.textwrap_marked.specs.Pieces.{piece_view}
 use Rattle.textwrap_marked.proofs.PrintedLines.{texts_more}
 use Rattle.textwrap_marked.specs.Reflow.{line_text, line_texts, printed}
 
@@ -41,8 +41,8 @@ module _ {X Y : Type 0} (h : X → Y) (g : Y → List WordText) (justify : Bool)
 
 pub returns : goal.returns
 returns c =
-    on_ok_weaker c.push_later.result (λ is. lines-written (λ line. line.now) (map word_view)
+    on_ok_weaker c.push_later.result (λ is. lines-written (λ line. line.now) (map piece_view)
     c.args.options.now.justify _ _ c.args.ending.now _ _ c.args.lines.now _ c.in-len1-up.len_at_least
-    _ _ _ _ _ _ _ _ _ _ refl c.is_empty.ensures c.first_room-room.ensures
-    c.later_room-room.ensures c.as_str.ensures.value c.as_str-2.ensures.value
+    _ _ _ _ _ _ _ _ _ _ refl c.is_empty.ensures c.room_behind-room.ensures
+    c.room_behind-room-2.ensures refl refl
     c.in_ok-push_str.ensures.bytes c.in_ok-push_text.ensures is) c.push_later.ensures

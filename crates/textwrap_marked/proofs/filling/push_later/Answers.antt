@@ -3,7 +3,8 @@ use Rattle.textwrap_text.proofs.Common.{◌≡◌, ℕ, ◌+◌, ◌-◌, ◌<�
 use Rattle.textwrap_text.proofs.Common.{append_assoc, arith, Bool, drop, drop_more, flat_map}
 use Rattle.textwrap_text.proofs.Common.{get_or, length, length-drop, length-map, map, nat_lt}
 use Rattle.textwrap_text.proofs.Common.{nat_tests, sym, ◌∙◌}
-use Rattle.textwrap_words.proofs.Common.{word_view, WordText}
+use Rattle.textwrap_words.proofs.Common.{WordText}
+use Rattle.textwrap_marked.specs.Pieces.{piece_view}
 use Rattle.textwrap_marked.proofs.PrintedLines.{texts_more}
 use Rattle.textwrap_marked.specs.Reflow.{line_text, line_texts}
 
@@ -45,7 +46,7 @@ module _ {X Y : Type 0} (h : X → Y) (g : Y → List WordText) (justify : Bool)
 
 pub loop-i-preserved : goal.loop-i-preserved
 loop-i-preserved c =
-    later-turn (λ line. line.now) (map word_view) c.args.justify c.args.room c.args.ending.now
+    later-turn (λ line. line.now) (map piece_view) c.args.justify c.args.room c.args.ending.now
     c.args.hanging.now c.args.lines.now c.loop-i.i _ c.loop-i-test.true _ _ _ _ _
     c.in_ok-push_str.ensures.bytes c.in_ok-push_str-2.ensures.bytes c.in_ok-push_text.ensures
     c.loop-i.invariant

@@ -1,6 +1,6 @@
 use Rattle.textwrap_marked.proofs.filling.push_later.Given as goal
 use Rattle.textwrap_text.proofs.Common.{◌≡◌, ◌++◌, drop, flat_map, map, string_bytes}
-use Rattle.textwrap_words.proofs.Common.{word_view}
+use Rattle.textwrap_marked.specs.Pieces.{piece_view}
 use Rattle.textwrap_marked.specs.Reflow.{line_texts}
 
 -- with the lines that are left, it is the whole
@@ -8,6 +8,6 @@ abbrev pub invariant-loop-i : goal.invariant-loop-i
 invariant-loop-i l =
     string_bytes l.output ++ flat_map (λ text. (l.ending ++ l.hanging) ++ text)
     (line_texts l.justify l.room l.room
-    (map (map word_view) (map (λ line. line.now) (drop l.i l.lines))))
+    (map (map piece_view) (map (λ line. line.now) (drop l.i l.lines))))
     ≡ string_bytes l.fn.output ++ flat_map (λ text. (l.ending ++ l.hanging) ++ text)
-    (line_texts l.justify l.room l.room (map (map word_view) (map (λ line. line.now) l.lines)))
+    (line_texts l.justify l.room l.room (map (map piece_view) (map (λ line. line.now) l.lines)))

@@ -1,10 +1,10 @@
 use Rattle.textwrap_marked.proofs.filling.push_pieces.Given as goal
 use Rattle.textwrap_text.proofs.Common.{◌≡◌, ◌++◌, map, drop, string_bytes}
-use Rattle.textwrap_words.proofs.Common.{word_view}
 use Rattle.textwrap_layout.specs.Paragraph.{covered}
+use Rattle.textwrap_marked.specs.Pieces.{piece_view}
 
 -- with the pieces that are left, it is the whole
 abbrev pub invariant-loop-i : goal.invariant-loop-i
 invariant-loop-i l =
-    string_bytes l.output ++ covered (map word_view (drop l.i l.line))
-    ≡ string_bytes l.fn.output ++ covered (map word_view l.line)
+    string_bytes l.output ++ covered (map piece_view (drop l.i l.line))
+    ≡ string_bytes l.fn.output ++ covered (map piece_view l.line)

@@ -1,13 +1,28 @@
 use Rattle.textwrap_marked.proofs.pieces.joined_of.Goals as goal
-use Rattle.textwrap_text.proofs.Common.{◌+◌}
-use Rattle.std.proofs.lemmas.List.{take_rest}
-use Rattle.textwrap_marked.proofs.JoinedTurns.{joined-next}
-use Rattle.textwrap_marked.specs.Pieces.{joined_view}
+use Rattle.textwrap_text.proofs.Common.{◌++◌, ◌+◌, ◌∙◌, ap, drop, drop_all, drop_more, map, refl, sym, arith}
+use Rattle.textwrap_marks.specs.Words.{spaced_view}
+use Rattle.textwrap_marked.proofs.JoinedTurns.{joined-all}
+use Rattle.textwrap_marked.specs.Lines.{marked_line_view}
+use Rattle.textwrap_marked.specs.Pieces.{joined_view, with_words, words_of_lines}
 
-pub loop-i-preserved : goal.loop-i-preserved
-loop-i-preserved c =
-    let words = c.args.words.now in
-    let cut = rw (take_rest words (c.loop-i.i + 1)) at c.is_cut-is_cut.ensures in
-    joined-next c.args.options.now c.args.starred words c.loop-i.i _ (joined_view c.loop-i.joined)
-    (joined_view c.push.new.self) c.is_cut-is_cut.result _ _ c.loop-i-test.true c.in_ok-push.ensures
-    cut c.loop-i.invariant.0 c.loop-i.invariant.1
+pub loop-line-preserved : goal.loop-line-preserved
+loop-line-preserved c =
+    let options = c.args.options.now in
+    let lines = c.args.lines.now in
+    let i = c.loop-line.line-index in
+    let later = words_of_lines (map marked_line_view (drop (i + 1) lines)) in
+    c.in_ok-push_words.ensures later
+    ∙ ap (λ ws. with_words options c.args.starred (joined_view c.loop-line.joined)
+    (map (λ w. w.word) (map spaced_view ws) ++ later)) (c.deref.ensures.value ∙ ap (λ l. l.words.items) c.line-item.is)
+    ∙ ap (λ ls. with_words options c.args.starred (joined_view c.loop-line.joined)
+    (words_of_lines (map marked_line_view ls)))
+    (sym (drop_more lines i c.line-item.result c.loop-line-test.true))
+    ∙ c.loop-line.invariant
+
+pub returns : goal.returns
+returns c =
+    joined-all c.args.options.now c.args.starred (joined_view c.loop-line.joined) _ _
+    c.in_ok-with_capacity.ensures.bytes c.in_ok-with_capacity-2.ensures.items refl
+    (ap (λ ls. with_words c.args.options.now c.args.starred (joined_view c.loop-line.joined)
+    (words_of_lines (map marked_line_view ls)))
+    (sym (drop_all c.loop-line.line-index c.args.lines.now (omega arith))) ∙ c.loop-line.invariant)

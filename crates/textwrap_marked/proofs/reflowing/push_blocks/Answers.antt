@@ -1,11 +1,11 @@
 use Rattle.textwrap_marked.proofs.reflowing.push_blocks.Goals as goal
 use Rattle.textwrap_text.proofs.Common.{◌≡◌, ◌++◌, [], ◌||◌, ap, append_assoc, append-nil, map}
 use Rattle.textwrap_text.proofs.Common.{refl, subst, sym, ◌∙◌}
-use Rattle.textwrap_marked.proofs.LaidLemmas.{block-begins, laid-first}
-use Rattle.textwrap_marked.specs.Blocks.{blocks, is_beside, stays}
+use Rattle.textwrap_marked.proofs.LaidLemmas.{block-begins, laid-first, of-first}
+use Rattle.textwrap_marked.specs.Blocks.{blocks, is_beside}
 use Rattle.textwrap_marked.specs.Lines.{marked_line_view}
 use Rattle.textwrap_marked.specs.Reading.{lines_ahead, lines_left}
-use Rattle.textwrap_marked.specs.Reflow.{AreOfBlocks, IsOfBlock}
+use Rattle.textwrap_marked.specs.Reflow.{AreOfBlocks}
 
 pub loop-ahead-preserved : goal.loop-ahead-preserved
 loop-ahead-preserved c = λ back laid.
@@ -13,7 +13,7 @@ loop-ahead-preserved c = λ back laid.
     let ending = c.args.ending.now in
     let line = marked_line_view c.in-Some.left.first in
     let rest = lines_ahead options c.in-Some.left.later in
-    let block = map marked_line_view c.deref.result.now in
+    let block = map marked_line_view c.in_ok-block.block.items in
     let beside = c.loop-ahead.beside in
     let next = c.is_beside-next.result in
     let (front, of, bytes) = c.in_ok-push_block.ensures.laid_out in
@@ -24,8 +24,8 @@ loop-ahead-preserved c = λ back laid.
     ∙ ap (λ l. is_beside l (blocks (lines_left options c.in_ok-block.after))) begins
     ∙ ap (λ ls. is_beside line (blocks ls)) c.in_ok-block.ensures.rest in
     let first = laid-first options ending beside next line rest block front back
-    (ap (map marked_line_view) c.deref.ensures.value ∙ c.in_ok-block.ensures.block) told
-    (subst (λ l. IsOfBlock options ending (stays (beside || next) l) l block front) begins of)
+    c.in_ok-block.ensures.block told
+    (of-first options ending (beside || next) line rest block front c.in_ok-block.ensures.block of)
     (subst (λ ls. AreOfBlocks options ending next (blocks ls) back) c.in_ok-block.ensures.rest laid) in
     let (whole, all, is) = c.loop-ahead.invariant (front ++ back)
     (subst (λ a. AreOfBlocks options ending beside (blocks (lines_left options a)) (front ++ back))

@@ -3,12 +3,11 @@ use Rattle.textwrap_text.proofs.Common.{◌≡◌, ◌++◌, [], ◌||◌, ap, a
 use Rattle.textwrap_text.proofs.Common.{refl, length, length-map, subst, sym, ◌∙◌, ◌+◌}
 use Rattle.std.proofs.Common.{ap₂}
 use Rattle.std.specs.Prelude.{not}
-use Rattle.textwrap_marked.proofs.LaidLemmas.{block-begins}
+use Rattle.textwrap_marked.proofs.LaidLemmas.{block-begins, of-first}
 use Rattle.textwrap_marked.proofs.WithinLemmas.{behind-more, behind-none, touches-behind, within-first}
-use Rattle.textwrap_marked.specs.Blocks.{blocks, is_beside, stays}
+use Rattle.textwrap_marked.specs.Blocks.{blocks, is_beside}
 use Rattle.textwrap_marked.specs.Lines.{marked_line_view}
 use Rattle.textwrap_marked.specs.Reading.{lines_ahead, lines_left}
-use Rattle.textwrap_marked.specs.Reflow.{IsOfBlock}
 use Rattle.textwrap_marked.specs.Within.{AreOfBlocksWithin, range_behind, touches}
 
 pub loop-ahead-init : goal.loop-ahead-init
@@ -21,13 +20,13 @@ loop-ahead-preserved c =
     let range = c.args.range in
     let line = marked_line_view c.in-Some.left.first in
     let rest = lines_ahead options c.in-Some.left.later in
-    let block = map marked_line_view c.deref.result.now in
+    let block = map marked_line_view c.in_ok-block.block.items in
     let beside = c.loop-ahead.beside in
     let next = c.is_beside-next.result in
     let outside = not c.touches-is_outside.result in
     let (start, counted, becomes) = c.loop-ahead.invariant in
-    let len : c.len-len.result ≡ length block = c.len-len.ensures ∙ sym c.deref.ensures.len
-    ∙ sym (length-map c.deref.result.now marked_line_view) in (
+    let len : length c.as_slice-len.result.now ≡ length block = ap length c.as_slice-len.ensures.value
+    ∙ sym (length-map c.in_ok-block.block.items marked_line_view) in (
       start + length block,
       c.behind-range.ensures ∙ ap₂ range_behind counted len ∙ behind-more range start (length block),
       λ back laid.
@@ -40,9 +39,10 @@ loop-ahead-preserved c =
           ∙ ap (λ ls. is_beside line (blocks ls)) c.in_ok-block.ensures.rest in
           let first = within-first options range ending start (start + length block) beside next outside line
           rest block front back
-          (ap (map marked_line_view) c.deref.ensures.value ∙ c.in_ok-block.ensures.block) told refl (ap not (c.touches-is_outside.ensures ∙ ap₂ (λ r n. touches r 0 n) counted len
+          c.in_ok-block.ensures.block told refl (ap not (c.touches-is_outside.ensures ∙ ap₂ (λ r n. touches r 0 n) counted len
           ∙ touches-behind range start (length block)))
-          (subst (λ l. IsOfBlock options ending (stays (beside || next || outside) l) l block front) begins of)
+          (of-first options ending (beside || next || outside) line rest block front
+          c.in_ok-block.ensures.block of)
           (subst (λ ls. AreOfBlocksWithin options range ending (start + length block) next (blocks ls) back)
           c.in_ok-block.ensures.rest laid) in
           let (whole, all, is) = becomes (front ++ back)

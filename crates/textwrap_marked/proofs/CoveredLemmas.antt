@@ -7,7 +7,7 @@ use Rattle.textwrap_text.specs.Blanks.{trimmed_len}
 use Rattle.textwrap_words.proofs.Common.{WordText}
 use Rattle.textwrap_layout.specs.Paragraph.{covered}
 use Rattle.textwrap_marked.specs.Pieces.{piece_view}
-use Rattle.textwrap_marked.specs.declared.pieces.Piece.{Piece}
+use Rattle.textwrap_marked.specs.declared.pieces.JoinedPiece.{JoinedPiece}
 
 covered-next : (piece : WordText) (pieces : List WordText) → 0 < length pieces
     → covered (piece ∷ pieces) ≡ piece.word ++ piece.whitespace ++ covered pieces
@@ -20,7 +20,7 @@ covered-last piece [] none = sym (append-nil piece.word)
 covered-last piece (next ∷ pieces) none = absurd (omega (arith, none))
 
 -- one piece more is written, and the text is still the same with those that are left
-module _ (line : List Piece) (i : ℕ) (d : Piece) (before after whole : List ℕ)
+module _ (line : List JoinedPiece) (i : ℕ) (d : JoinedPiece) (before after whole : List ℕ)
     (within : i < length line) (is : before ++ covered (map piece_view (drop i line)) ≡ whole) where
   abbrev piece : WordText
   piece = piece_view (get_or line i d)

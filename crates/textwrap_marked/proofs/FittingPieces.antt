@@ -9,14 +9,14 @@ use Rattle.textwrap_words.proofs.Word.Words.{total_width-narrow}
 use Rattle.textwrap_words.proofs.Word.Parts.{parts-texts}
 use Rattle.textwrap_layout.proofs.Paragraph.LeftOff.{narrow_words}
 use Rattle.textwrap_marked.specs.Pieces.{piece_view}
-use Rattle.textwrap_marked.specs.declared.pieces.Piece.{Piece}
+use Rattle.textwrap_marked.specs.declared.pieces.JoinedPiece.{JoinedPiece}
 
 sizes-map : {X Y : Type 0} (f : X → Y) (sizes : Y → Sizes) (xs : List X)
     → map (λ x. sizes (f x)) xs ≡ map sizes (map f xs)
 sizes-map f sizes [] = refl
 sizes-map f sizes (x ∷ xs) = ap (λ l. sizes (f x) ∷ l) (sizes-map f sizes xs)
 
-pub pieces-fit : (text cuts : List ℕ) (pieces : List Piece) → IsUtf8 text → AreCuts text cuts
+pub pieces-fit : (text cuts : List ℕ) (pieces : List JoinedPiece) → IsUtf8 text → AreCuts text cuts
     → map piece_view pieces ≡ map word_of (parts_between cuts text)
     → total_width (λ piece. sizes_of (piece_view piece)) pieces ≤ length text
 pieces-fit text cuts pieces utf8 are is =

@@ -8,13 +8,13 @@ use Rattle.textwrap_base.specs.Errors.{Fits64Bits}
 use Rattle.textwrap_base.specs.PrefixSums.{HavePrefixSums}
 use Rattle.textwrap_words.proofs.Common.{sizes_of}
 use Rattle.textwrap_marked.specs.Pieces.{AreInRow, piece_priced, piece_view}
-use Rattle.textwrap_marked.specs.declared.pieces.Piece.{Piece}
+use Rattle.textwrap_marked.specs.declared.pieces.JoinedPiece.{JoinedPiece}
 
-abbrev piece_sizes : Piece → Sizes
+abbrev piece_sizes : JoinedPiece → Sizes
 piece_sizes p = sizes_of (piece_view p)
 
 -- each opens after the widths of those before it, and closes after that
-row-opens : (opens : ℕ) (pieces : List Piece) (i : ℕ) (d : Piece) → AreInRow opens pieces
+row-opens : (opens : ℕ) (pieces : List JoinedPiece) (i : ℕ) (d : JoinedPiece) → AreInRow opens pieces
     → i < length pieces
     → ((get_or pieces i d).opens ≡ opens + open_width piece_sizes (take i pieces))
     × ((get_or pieces i d).opens ≤ (get_or pieces i d).closes)
@@ -27,7 +27,7 @@ row-opens opens (p ∷ pieces) (suc i) d (is, order, row) within =
     let more = open_width-cons piece_sizes p (take i pieces) in
     (omega (arith, is, order, later, more), close)
 
-pub row-sums : (pieces : List Piece) → AreInRow 0 pieces → Fits64Bits (total_width piece_sizes pieces)
+pub row-sums : (pieces : List JoinedPiece) → AreInRow 0 pieces → Fits64Bits (total_width piece_sizes pieces)
     → HavePrefixSums piece_priced (λ p. p.opens) (λ p. p.closes) pieces
 row-sums pieces row fits = record {
   opens_after = λ i d within. omega (arith, (row-opens 0 pieces i d row within).0);

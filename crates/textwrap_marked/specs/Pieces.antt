@@ -10,7 +10,7 @@ use Rattle.textwrap_marked.specs.Lines.{LineText}
 use Rattle.textwrap_marks.specs.Signs.{may_go_on}
 use Rattle.textwrap_marks.specs.declared.options.ReflowOptions.{ReflowOptions}
 use Rattle.textwrap_marked.specs.declared.pieces.JoinedWords.{JoinedWords}
-use Rattle.textwrap_marked.specs.declared.pieces.Piece.{Piece}
+use Rattle.textwrap_marked.specs.declared.pieces.JoinedPiece.{JoinedPiece}
 
 -- the words of lines
 abbrev pub words_of_lines : List LineText → List (List ℕ)
@@ -102,7 +102,7 @@ module _ (options : ReflowOptions) (starred : Bool) where
 -- ---- pieces that are divided into lines
 
 -- a piece by its bytes, and its columns
-abbrev pub piece_view : Piece → WordText
+abbrev pub piece_view : JoinedPiece → WordText
 piece_view p = record {
   word = without_final_blanks p.text.now;
   whitespace = final_blanks p.text.now;
@@ -111,11 +111,11 @@ piece_view p = record {
 }
 
 -- a line costs no more for ending with it
-abbrev pub piece_priced : Piece → PricedSizes
+abbrev pub piece_priced : JoinedPiece → PricedSizes
 piece_priced p = record { sizes = sizes_of (piece_view p); break_penalty = 0 }
 
 -- each opens behind the one before it, the first behind so many columns
-abbrev pub AreInRow : ℕ → List Piece → Type 0
+abbrev pub AreInRow : ℕ → List JoinedPiece → Type 0
 AreInRow opens [] = ⊤
 AreInRow opens (p ∷ pieces) =
     (p.opens ≡ opens) × (opens ≤ p.closes)

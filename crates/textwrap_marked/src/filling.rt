@@ -17,7 +17,7 @@ ghost use Rattle.textwrap_marked.specs.Reflow.{kept_text, line_text, line_texts,
 
 use crate::least_cost::divide_at_least_cost;
 use crate::lines::{MarkedLine, without_returns};
-use crate::pieces::{JoinedWords, Piece, joined_of, pieces_between};
+use crate::pieces::{JoinedPiece, JoinedWords, joined_of, pieces_between};
 use std::alloc::{AllocError, Global};
 use textwrap_display::justify;
 use textwrap_lines::LineEnding;
@@ -75,9 +75,9 @@ pub(crate) fn push_kept(
 fn divide<'p, 't>(
     alloc: Global,
     algorithm: Algorithm,
-    pieces: &'p [Piece<'t>],
+    pieces: &'p [JoinedPiece<'t>],
     widths: &[usize],
-) -> Result<Vec<&'p [Piece<'t>]>, WrapError>
+) -> Result<Vec<&'p [JoinedPiece<'t>]>, WrapError>
     requires row { AreInRow 0 pieces.now }
     requires fits { Fits64Bits (total_width (λ piece. sizes_of (piece_view piece)) pieces.now) }
     ensures divided { IfOk result (λ lines. IsDividedBy
@@ -95,7 +95,7 @@ fn divide<'p, 't>(
 }
 
 /// Adds the pieces of a line, without the last one's blank.
-fn push_pieces(output: &mut String, line: &[Piece<'_>]) -> Result<(), AllocError>
+fn push_pieces(output: &mut String, line: &[JoinedPiece<'_>]) -> Result<(), AllocError>
     ensures { OnOk result (string_bytes output.new
         ≡ string_bytes output.old ++ covered (map piece_view line.now)) }
 {
@@ -113,7 +113,7 @@ fn push_pieces(output: &mut String, line: &[Piece<'_>]) -> Result<(), AllocError
 fn push_justified(
     alloc: Global,
     output: &mut String,
-    line: &[Piece<'_>],
+    line: &[JoinedPiece<'_>],
     room: usize,
 ) -> Result<(), AllocError>
     ensures { OnOk result (string_bytes output.new
@@ -129,7 +129,7 @@ fn push_justified(
 fn push_text(
     alloc: Global,
     output: &mut String,
-    line: &[Piece<'_>],
+    line: &[JoinedPiece<'_>],
     room: usize,
     justify: bool,
 ) -> Result<(), AllocError>
@@ -154,7 +154,7 @@ fn room_behind(prefix: &str, options: &ReflowOptions<'_>) -> usize
 fn push_later(
     alloc: Global,
     output: &mut String,
-    lines: &[&[Piece<'_>]],
+    lines: &[&[JoinedPiece<'_>]],
     ending: &str,
     hanging: &str,
     room: usize,
@@ -177,7 +177,7 @@ fn push_later(
 fn push_division(
     alloc: Global,
     output: &mut String,
-    lines: &[&[Piece<'_>]],
+    lines: &[&[JoinedPiece<'_>]],
     ending: &str,
     prefix: &str,
     hanging: &str,

@@ -9,7 +9,7 @@ ghost use Rattle.textwrap_base.specs.Table.{IsByTable, fragment_costs};
 ghost use Rattle.textwrap_words.specs.Words.{sizes_of};
 ghost use Rattle.textwrap_marked.specs.Pieces.{AreInRow, piece_priced, piece_view};
 
-use crate::pieces::Piece;
+use crate::pieces::JoinedPiece;
 use std::alloc::{AllocError, Global};
 use textwrap_base::inner::{line_cost, lines_by};
 use textwrap_base::minima::{CostSource, is_queue_case, queue_search};
@@ -20,9 +20,9 @@ use textwrap_words::wrap_algorithms::{Penalties, WrapError, wrap_optimal_fit};
 pub(crate) fn divide_at_least_cost<'p, 't>(
     alloc: Global,
     penalties: &Penalties,
-    pieces: &'p [Piece<'t>],
+    pieces: &'p [JoinedPiece<'t>],
     widths: &[usize],
-) -> Result<Vec<&'p [Piece<'t>]>, WrapError>
+) -> Result<Vec<&'p [JoinedPiece<'t>]>, WrapError>
     requires row { AreInRow 0 pieces.now }
     requires fits { Fits64Bits (total_width (λ piece. sizes_of (piece_view piece)) pieces.now) }
     ensures divided { IfOk result (λ lines. IsByOptimalFit (problem_at penalties.now
@@ -40,9 +40,9 @@ pub(crate) fn divide_at_least_cost<'p, 't>(
 fn search<'p, 't>(
     alloc: Global,
     penalties: &Penalties,
-    pieces: &'p [Piece<'t>],
+    pieces: &'p [JoinedPiece<'t>],
     widths: &[usize],
-) -> Result<Vec<&'p [Piece<'t>]>, AllocError>
+) -> Result<Vec<&'p [JoinedPiece<'t>]>, AllocError>
     requires measured { HavePrefixSums piece_priced (λ piece. piece.opens) (λ piece. piece.closes)
         pieces.now }
     requires suits { SuitQueue (fragment_costs
@@ -64,7 +64,7 @@ fn search<'p, 't>(
 /// none has to be counted.
 #[derive(Drop)]
 struct PieceCosts<'p, 't, 'w> {
-    pieces: &'p [Piece<'t>],
+    pieces: &'p [JoinedPiece<'t>],
     widths: &'w [usize],
     penalties: Penalties,
     ghost measured: { HavePrefixSums piece_priced (λ piece. piece.opens) (λ piece. piece.closes)

@@ -134,7 +134,7 @@ pub(crate) fn joined_of<'t>(
 /// A piece of a paragraph: a word, or words that keep together, with a blank behind each. A long line
 /// has millions, so no more is kept of one than that.
 #[derive(Clone, Copy, Debug)]
-pub(crate) struct Piece<'t> {
+pub(crate) struct JoinedPiece<'t> {
     pub text: &'t str,
     /// The columns of the pieces before it, with all their blanks.
     opens: usize,
@@ -142,9 +142,9 @@ pub(crate) struct Piece<'t> {
     closes: usize,
 }
 
-impl<'t> Piece<'t> {
+impl<'t> JoinedPiece<'t> {
     /// A text as a piece behind so many columns, and how many there are behind its blanks.
-    fn behind(opens: usize, text: &'t str) -> (Piece<'t>, usize)
+    fn behind(opens: usize, text: &'t str) -> (JoinedPiece<'t>, usize)
         requires { opens + length text.now < 2 ^ 64 }
         ensures view { piece_view result.0 ≡ word_of text.now }
         ensures opens { result.0.opens ≡ opens }
@@ -154,7 +154,7 @@ impl<'t> Piece<'t> {
     {
         let (word, blanks) = split_final_blanks(text);
         let closes = opens + display_width(word);
-        let piece = Piece {
+        let piece = JoinedPiece {
             text,
             opens,
             closes,
@@ -171,7 +171,7 @@ impl<'t> Piece<'t> {
     }
 }
 
-impl Fragment for Piece<'_> {
+impl Fragment for JoinedPiece<'_> {
     ghost use Rattle.std.specs.Prelude.{◌-◌};
 
     ghost sizes = { λ piece. sizes_of (piece_view piece) };
@@ -194,7 +194,7 @@ impl Fragment for Piece<'_> {
     }
 }
 
-impl PrefixSums for Piece<'_> {
+impl PrefixSums for JoinedPiece<'_> {
     ghost priced = { piece_priced };
 
     ghost opens = { λ piece. piece.opens };
@@ -215,7 +215,7 @@ pub(crate) fn pieces_between<'t>(
     alloc: Global,
     text: &'t str,
     cuts: &[usize],
-) -> Result<Vec<Piece<'t>>, AllocError>
+) -> Result<Vec<JoinedPiece<'t>>, AllocError>
     requires { AreCuts text.now cuts.now }
     ensures pieces { IfOk result (λ pieces.
         map piece_view pieces.items ≡ map word_of (parts_between cuts.now text.now)) }
@@ -228,12 +228,12 @@ pub(crate) fn pieces_between<'t>(
     let mut start = 0;
     let mut opens = 0;
     for cut in cuts {
-        let (piece, end) = Piece::behind(opens, &text[start..*cut]);
+        let (piece, end) = JoinedPiece::behind(opens, &text[start..*cut]);
         pieces.push(piece)?;
         opens = end;
         start = *cut;
     }
-    let (last, _) = Piece::behind(opens, &text[start..]);
+    let (last, _) = JoinedPiece::behind(opens, &text[start..]);
     pieces.push(last)?;
     Ok(pieces)
 }

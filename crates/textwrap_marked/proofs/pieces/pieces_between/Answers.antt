@@ -5,7 +5,7 @@ use Rattle.textwrap_text.proofs.Common.{length}
 use Rattle.textwrap_text.specs.Blanks.{final_blanks}
 use Rattle.textwrap_words.proofs.Common.{WordText}
 use Rattle.textwrap_marked.specs.Pieces.{AreInRow, piece_view}
-use Rattle.textwrap_marked.specs.declared.pieces.Piece.{Piece}
+use Rattle.textwrap_marked.specs.declared.pieces.JoinedPiece.{JoinedPiece}
 
 pub returns-then-is_empty-clause-pieces : goal.returns-then-is_empty-clause-pieces
 returns-then-is_empty-clause-pieces c =
@@ -32,17 +32,17 @@ range-requires-clause-end_boundary c =
     (rw (drop_more c.args.cuts.now _ 0 c.loop-cut-test.true) at c.loop-cut.invariant.left).0.2
 
 -- the pieces so far with one more, and the others
-one-more : (pieces items : List Piece) (p : Piece) (is : WordText) (rest all : List WordText)
+one-more : (pieces items : List JoinedPiece) (p : JoinedPiece) (is : WordText) (rest all : List WordText)
     → items ≡ pieces ++ p ∷ [] → piece_view p ≡ is → map piece_view pieces ++ is ∷ rest ≡ all
     → map piece_view items ++ rest ≡ all
 one-more pieces items p is rest all pushed same before =
     rw (pushed, map_push, same, append_assoc) before
 
 -- one that opens behind the pieces so far
-row-more : (pieces items : List Piece) (p : Piece) (opens end : ℕ) → items ≡ pieces ++ p ∷ []
+row-more : (pieces items : List JoinedPiece) (p : JoinedPiece) (opens end : ℕ) → items ≡ pieces ++ p ∷ []
     → p.opens ≡ opens → opens ≤ p.closes → end ≡ p.closes + length (final_blanks p.text.now)
-    → ((rest : List Piece) → AreInRow opens rest → AreInRow 0 (pieces ++ rest))
-    → (rest : List Piece) → AreInRow end rest → AreInRow 0 (items ++ rest)
+    → ((rest : List JoinedPiece) → AreInRow opens rest → AreInRow 0 (pieces ++ rest))
+    → (rest : List JoinedPiece) → AreInRow end rest → AreInRow 0 (items ++ rest)
 row-more pieces items p opens end pushed is order ends before rest are =
     rw (pushed, append_assoc pieces (p ∷ []) rest)
     (before (p ∷ rest) (is, order, subst (λ n. AreInRow n rest) ends are))

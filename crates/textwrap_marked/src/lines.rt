@@ -57,20 +57,15 @@ pub fn read_line<'t>(
     line_from(alloc, raw, fed, all, &ends, state, options)
 }
 
-/// The words from a place on. Those from the first on are not copied.
-fn words_from<'t>(
-    alloc: Global,
-    words: Vec<SpacedWord<'t>>,
-    start: usize,
-) -> Result<Vec<SpacedWord<'t>>, AllocError>
+/// The words from a place on, in the room that all had.
+fn words_from<'t>(mut words: Vec<SpacedWord<'t>>, start: usize) -> Vec<SpacedWord<'t>>
     requires { start ≤ length words.items }
-    ensures { IfOk result (λ rest. rest.items ≡ drop start words.entry.items) }
+    ensures { result.items ≡ drop start words.entry.items }
 {
-    if start == 0 {
-        Ok(words)
-    } else {
-        Vec::from_slice(alloc, &words[start..])
-    }
+    let left = words.len() - start;
+    words.copy_within(start.., 0);
+    words.truncate(left);
+    words
 }
 
 /// A line of these words, where this is open.
@@ -111,7 +106,7 @@ fn line_from<'t>(
     let opens_block = stays_open(opening, text);
     let ended = is_ended(in_block, text);
     let chosen = is_chosen(margin.as_str(), options);
-    let words = words_from(alloc, words, ends.text)?;
+    let words = words_from(words, ends.text);
     Ok(MarkedLine {
         raw,
         fed,

@@ -76,8 +76,8 @@ pub returns-clause-plain : goal.returns-clause-plain
 returns-clause-plain c = λ plain.
     let all = c.args.words.items in
     let at = c.args.ends.now.text in
-    let text : map spaced_view c.in_ok-words.words.items ≡ drop at (map spaced_view all) =
-    ap (map spaced_view) c.in_ok-words.ensures ∙ sym (drop-map spaced_view at all) in
+    let text : map spaced_view c.words_from-words.result.items ≡ drop at (map spaced_view all) =
+    ap (map spaced_view) c.words_from-words.ensures ∙ sym (drop-map spaced_view at all) in
     subst ArePlain (sym text) (text-plain all c.args.raw.now _ at _ c.requires.words
     (c.as_bytes-2.ensures.value ∙ c.without_returns.ensures) c.has_column_byte-plain.ensures plain)
 
@@ -88,8 +88,8 @@ returns-clause-line c =
     let all = c.as_slice-all.result.now in
     let whole : all ≡ c.args.words.items = c.as_slice-all.ensures.value in
     let ends = c.args.ends.now in
-    let left = c.in_ok-words.ensures ∙ ap (drop ends.text) (sym whole) in
-    let text : map spaced_view c.in_ok-words.words.items ≡ drop ends.text (map spaced_view all) =
+    let left = c.words_from-words.ensures ∙ ap (drop ends.text) (sym whole) in
+    let text : map spaced_view c.words_from-words.result.items ≡ drop ends.text (map spaced_view all) =
     ap (map spaced_view) left ∙ sym (drop-map spaced_view ends.text all) in
     let same = ap (map spaced_view) (take_rest all ends.text ∙ sym left) in
     let wide = ends.text - ends.margin in
@@ -100,7 +100,7 @@ returns-clause-line c =
     line-is options state c.args.raw.now c.args.fed (map spaced_view all) ends
     (string_bytes c.in_ok-margin.margin) (string_bytes c.in_ok-prefix.prefix)
     (string_bytes c.in_ok-hanging.hanging) (string_bytes c.push_hanging_bullets.new.text)
-    (map spaced_view c.in_ok-words.words.items) c.has_opening-opening.result c.has_byte.result
+    (map spaced_view c.words_from-words.result.items) c.has_opening-opening.result c.has_byte.result
     c.in_ok-deeper.deeper c.is_key.result c.stays_open-opens_block.result c.is_some-fenced.result
     c.stands_apart-by_words.result c.is_ended-ended.result c.is_chosen-chosen.result
     (c.in_ok-margin.ensures ∙ ap spaced_text (sym (take-map spaced_view ends.margin all)))

@@ -96,8 +96,8 @@ fn a_large_text_without_a_common_line(rt: HostRuntime) {
     assert_number(&rt, "its length", found.len(), 32 + 600 * 20 + 700 * 9);
 }
 
-/// However far away a line stands that both texts have, it is kept: here 700 lines come before 700
-/// others, which then go.
+/// However far away a line stands that both texts have, it is kept: here 700 lines go before 700
+/// others, and come behind them.
 #[test]
 fn a_far_line_that_both_have_is_kept(rt: HostRuntime) {
     let rule = "a line that both have";
@@ -105,11 +105,10 @@ fn a_far_line_that_both_have_is_kept(rt: HostRuntime) {
     let twos = "b\n".repeat(rt.alloc(), 700).expect(&rt, rule);
     let old = format!(in rt.alloc(); "{ones}{twos}").expect(&rt, rule);
     let new = format!(in rt.alloc(); "{twos}{ones}").expect(&rt, rule);
-    let come = "+b\n".repeat(rt.alloc(), 700).expect(&rt, rule);
-    let gone = "-b\n".repeat(rt.alloc(), 700).expect(&rt, rule);
-    let heads = ("@@ -1,3 +1,703 @@", "@@ -698,703 +1398,3 @@");
+    let gone = "-a\n".repeat(rt.alloc(), 700).expect(&rt, rule);
+    let come = "+a\n".repeat(rt.alloc(), 700).expect(&rt, rule);
     let diff = format!(in rt.alloc();
-        "--- a\n+++ a\n{heads.0}\n{come} a\n a\n a\n{heads.1}\n a\n a\n a\n{gone}"
+        "--- a\n+++ a\n@@ -1,703 +1,3 @@\n{gone} b\n b\n b\n@@ -1398,3 +698,703 @@\n b\n b\n b\n{come}"
     ).expect(&rt, rule);
     let found = diff_text(rt.alloc(), "a", old.as_bytes(), new.as_bytes()).expect(&rt, rule);
     assert_bytes(&rt, rule, &found, diff.as_bytes());

@@ -1,35 +1,35 @@
 -- Lines whose styles are carried: their bytes, what they show, and whole lines under indents.
-use Rattle.textwrap_text.proofs.Common.{take-append-drop, nil_from_length, length-append, chars-nil}
-use Rattle.textwrap_text.proofs.Common.{append_assoc, IsUtf8-drop, starts_with, All-append, All-nil}
-use Rattle.textwrap_text.proofs.Common.{All-weaker, append-nil, cases_Bool, map-append}
-use Rattle.textwrap_text.proofs.Common.{drop_more, nat_tests, All-cons, All-drop, All-head, drop_at}
-use Rattle.textwrap_text.proofs.Common.{All-tail, flat_map, fold, take_at, IsUtf8, get_or, length}
-use Rattle.textwrap_text.proofs.Common.{nat_eq, sum_by, arith, subst, List, cond, drop, refl, take}
-use Rattle.textwrap_text.proofs.Common.{◌++◌, ◌==◌, All, inl, inr, map, sym, ◌+◌, ◌<◌, []}
-use Rattle.textwrap_text.proofs.Common.{◌∙◌, ◌∷◌, ◌≡◌, ◌≤◌, Bool, ap, false, true, ℕ}
-use Rattle.textwrap_styles.proofs.Common.{concat-append, line_bytes-line_view, starts_with-rest}
-use Rattle.textwrap_styles.proofs.Common.{IsWholeText, cow_str_bytes, open_styles, sequence_of}
-use Rattle.textwrap_styles.proofs.Common.{line_bytes, line_view, open_link, sequences, text_width}
-use Rattle.textwrap_styles.proofs.Common.{Built, CowStr, IsWhole, Slice, concat, is_link, texts_of}
-use Rattle.textwrap_styles.proofs.Common.{Line, units}
-use Rattle.textwrap_styles.specs.Indents.{after_indent, before_text, indent_end}
-use Rattle.textwrap_styles.specs.Styles.{carried_line, link_end, style_end}
-use Rattle.textwrap_styles.specs.Styles.{carried_lines, closing, opening}
-use Rattle.std.proofs.lemmas.List.Folds.{flat_map-map}
-use Rattle.textwrap_styles.proofs.SequenceTexts.{closing-sequences, closing_sequences, IsSequence}
-use Rattle.textwrap_styles.proofs.SequenceTexts.{text_units-append, parts-sequences, parts-visible}
-use Rattle.textwrap_styles.proofs.SequenceTexts.{text-sequences, parts-penned, penned-append}
-use Rattle.textwrap_styles.proofs.SequenceTexts.{closing-is, nil-whole}
+use Rattle.textwrap_text.proofs.Common.{All, All-append, All-cons, All-drop, All-head, All-nil}
+use Rattle.textwrap_text.proofs.Common.{All-tail, All-weaker, Bool, IsUtf8, IsUtf8-drop, List, []}
+use Rattle.textwrap_text.proofs.Common.{ap, append-nil, append_assoc, arith, cases_Bool, chars-nil}
+use Rattle.textwrap_text.proofs.Common.{columns, cond, drop, drop_at, drop_more, false, flat_map}
+use Rattle.textwrap_text.proofs.Common.{fold, get_or, inl, inr, length, length-append, map}
+use Rattle.textwrap_text.proofs.Common.{map-append, nat_eq, nat_tests, nil_from_length, refl}
+use Rattle.textwrap_text.proofs.Common.{starts_with, subst, sum_by, sym, take, take-append-drop}
+use Rattle.textwrap_text.proofs.Common.{take_at, text_width, true, units, ℕ, ◌++◌, ◌+◌, ◌<◌, ◌==◌}
+use Rattle.textwrap_text.proofs.Common.{◌∙◌, ◌∷◌, ◌≡◌, ◌≤◌}
+use Rattle.textwrap_styles.proofs.Common.{All-filter, IsWhole, Rendition, carried_lines, chars}
+use Rattle.textwrap_styles.proofs.Common.{closing, concat, fold-append, is_link, link_end}
+use Rattle.textwrap_styles.proofs.Common.{open_link, open_styles, penned_lines, penned_text}
+use Rattle.textwrap_styles.proofs.Common.{plain_rendition, rendition_of, sequence_of, sequences}
+use Rattle.textwrap_styles.proofs.Common.{style_end, with_sequence}
+use Rattle.std.proofs.lemmas.List.Folds.{concat-append, flat_map-map}
+use Rattle.std.specs.Cow.{cow_str_bytes}
+use Rattle.std.specs.declared.borrow.CowStr.{CowStr}
+use Rattle.textwrap_layout.proofs.Text.Lines.{line_bytes-line_view}
+use Rattle.textwrap_layout.specs.Paragraph.{Built, Line, Slice, line_bytes, line_view}
 use Rattle.textwrap_styles.proofs.PenStyles.{ended, styles-pen}
+use Rattle.textwrap_styles.proofs.SequenceTexts.{IsSequence, closing-is, closing-sequences}
+use Rattle.textwrap_styles.proofs.SequenceTexts.{closing_sequences, nil-whole, parts-penned}
+use Rattle.textwrap_styles.proofs.SequenceTexts.{parts-sequences, parts-visible, penned-append}
+use Rattle.textwrap_styles.proofs.SequenceTexts.{text-sequences, text_units-append}
+use Rattle.textwrap_styles.proofs.Sequences.{link-among}
 use Rattle.textwrap_styles.proofs.WrittenSettings.{styles-sequences}
-use Rattle.textwrap_styles.proofs.OpenLinks.{link-among}
-use Rattle.std.proofs.lemmas.List.Sums.{fold-append}
-use Rattle.std.proofs.lemmas.List.Elements.{All-filter}
-use Rattle.textwrap_text.specs.Units.{columns}
-use Rattle.textwrap_styles.specs.Styled.{EachWithIndent, EndsPlain, MayCarry}
-use Rattle.textwrap_styles.specs.Penned.{Rendition, penned_lines, penned_text, penned_units}
-use Rattle.textwrap_styles.specs.Penned.{plain_rendition, rendition_of, with_sequence}
-use Rattle.std.specs.Str.{chars}
+use Rattle.textwrap_styles.specs.Indents.{after_indent, before_text, indent_end}
+use Rattle.textwrap_styles.specs.Penned.{penned_units}
+use Rattle.textwrap_styles.specs.Styled.{EachWithIndent, EndsPlain, IsWholeText, MayCarry}
+use Rattle.textwrap_styles.specs.Styles.{carried_line, opening, texts_of}
+use Rattle.textwrap_text.proofs.Lists.Parts.{starts_with-rest}
 use Rattle.textwrap_text.proofs.Texts.{StartsWith-boundary}
 
 -- ---- one line more that sets anew what is open, and ends plain

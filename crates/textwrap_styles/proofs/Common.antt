@@ -1,33 +1,23 @@
 -- The names of definitions and lemmas of other crates, and of definitions of this one, that most
 -- proofs cite. Declares nothing.
-pub use Rattle.std.proofs.lemmas.Bool.{agree_below_at, or_cases}
-pub use Rattle.std.proofs.lemmas.List.Folds.{concat-append, length-prefix_len}
-pub use Rattle.std.proofs.lemmas.Str.{IsCharBoundary-start, encode_ascii}
-pub use Rattle.std.proofs.lemmas.Str.Pattern.{split_once_first, split_parts, starts_text}
-pub use Rattle.std.specs.Cow.{cow_str_bytes}
+pub use Rattle.std.proofs.lemmas.List.Elements.{All-filter}
+pub use Rattle.std.proofs.lemmas.List.Sums.{fold-append}
+pub use Rattle.std.specs.Char.{is_ascii_digit}
 pub use Rattle.std.specs.Int.{is_in_range}
-pub use Rattle.std.specs.List.{after_first, list_all, list_any, position_or_len, slice_index}
 pub use Rattle.std.specs.List.{concat}
-pub use Rattle.std.specs.Option.{MatchOption, option_copied, option_or, option_to_list}
-pub use Rattle.std.specs.Prelude.{String, encode_utf8, ◌%◌}
-pub use Rattle.std.specs.Str.{NoCharPasses, NonePass}
-pub use Rattle.std.specs.Str.Iter.{char_indices_rest}
-pub use Rattle.std.specs.declared.borrow.CowStr.{CowStr}
-pub use Rattle.textwrap_styles.specs.Styled.{IsWholeText}
-pub use Rattle.textwrap_styles.specs.Styles.{carried_lines, closing, link_fields, style_parameters}
-pub use Rattle.textwrap_styles.specs.Styles.{has_target, open_link, open_styles, sequence_of}
-pub use Rattle.textwrap_styles.specs.Styles.{is_style, link_end, sequences, style_end}
-pub use Rattle.textwrap_styles.specs.Styles.{is_link, opening, texts_of}
-pub use Rattle.textwrap_layout.proofs.Common.{layout_view}
-pub use Rattle.textwrap_layout.proofs.Text.Lines.{bytes_left, line_bytes-line_view, paragraphs_left}
-pub use Rattle.textwrap_layout.proofs.Text.Paragraphs.{text_width-append, units-append}
-pub use Rattle.textwrap_layout.specs.Paragraph.{Adds, Built, Line, Slice, line_bytes, line_view}
-pub use Rattle.textwrap_text.proofs.Lists.Parts.{starts_with-rest, stripped_prefix, stripped_suffix}
-pub use Rattle.textwrap_text.proofs.Lists.Parts.{any-position, flat}
-pub use Rattle.textwrap_text.proofs.Units.Chunks.{chunks-from}
-pub use Rattle.textwrap_text.proofs.Units.Reading.{IsRead, added, read-all, read-next, read-start}
-pub use Rattle.textwrap_text.specs.Blanks.{BlanksBetween, blank, final_blanks, is_blank}
-pub use Rattle.textwrap_text.specs.Units.{IsWhole, ends, text_width, units}
-pub use Rattle.textwrap_text.specs.declared.escapes.State.{State}
-pub use Rattle.textwrap_words.proofs.Word.Texts.{AreBlanks}
-pub use Rattle.textwrap_words.specs.Words.{WordText, chunks, is_cut, tiled, word_of, words_of}
+pub use Rattle.std.specs.Str.{chars}
+pub use Rattle.std.specs.Str.Parse.{digits_value}
+pub use Rattle.textwrap_styles.specs.OpenStyles.{IsKeptAfter}
+pub use Rattle.textwrap_styles.specs.Pen.{Color, Pen, apply, between, first_of, numbers_of}
+pub use Rattle.textwrap_styles.specs.Pen.{plain_pen}
+pub use Rattle.textwrap_styles.specs.Penned.{Rendition, penned_lines, penned_text, plain_rendition}
+pub use Rattle.textwrap_styles.specs.Penned.{rendition_of, with_sequence}
+pub use Rattle.textwrap_styles.specs.Settings.{fields, in_effect, kind_of, latest, open_settings}
+pub use Rattle.textwrap_styles.specs.Settings.{settings}
+pub use Rattle.textwrap_styles.specs.Styles.{carried_lines, closing, has_target, is_link, is_style}
+pub use Rattle.textwrap_styles.specs.Styles.{link_end, open_link, open_styles, sequence_of}
+pub use Rattle.textwrap_styles.specs.Styles.{sequences, settings_of, style_end, style_parameters}
+pub use Rattle.textwrap_styles.specs.Styles.{written}
+pub use Rattle.textwrap_styles.specs.declared.settings.Kind.{Kind}
+pub use Rattle.textwrap_styles.specs.declared.settings.Kind.TheVariants.{Reset}
+pub use Rattle.textwrap_text.specs.Units.{IsWhole}

@@ -1,26 +1,27 @@
 -- How many settings are open, and how many bytes set them anew.
-use Rattle.textwrap_text.proofs.Common.{All-append, All-cons, All-weaker, cases_Bool, length-append}
-use Rattle.textwrap_text.proofs.Common.{All-head, All-tail, Bool, length-map, nat_tests, true≢false}
-use Rattle.textwrap_text.proofs.Common.{All-nil, arith, codes, filter, flat_map, length, list_any}
-use Rattle.textwrap_text.proofs.Common.{All, List, cond, drop, false, refl, subst, true, zero, ◌==◌}
-use Rattle.textwrap_text.proofs.Common.{eqb, inl, inr, map, not, suc, sym, ◌*◌, ◌+◌, ◌-◌, ◌<◌, ◌∙◌}
-use Rattle.textwrap_text.proofs.Common.{ℕ, [], ◌∷◌, ◌≡◌, ◌≤◌}
-use Rattle.std.proofs.lemmas.List.Elements.{All-filter}
-use Rattle.std.proofs.lemmas.Map.Steps.{length-le_from_distinct_below}
-use Rattle.std.specs.List.{after_last, AllByRecursion, IsDistinct}
+use Rattle.textwrap_text.proofs.Common.{All, All-append, All-cons, All-head, All-nil, All-tail}
+use Rattle.textwrap_text.proofs.Common.{All-weaker, Bool, List, [], after_last, arith, cases_Bool}
+use Rattle.textwrap_text.proofs.Common.{codes, cond, drop, eqb, false, filter, flat_map, inl, inr}
+use Rattle.textwrap_text.proofs.Common.{length, length-append, length-map, length-take, list_any}
+use Rattle.textwrap_text.proofs.Common.{map, nat_tests, not, refl, subst, suc, sym, true}
+use Rattle.textwrap_text.proofs.Common.{true≢false, zero, ℕ, ◌*◌, ◌+◌, ◌-◌, ◌<◌, ◌==◌, ◌∙◌, ◌∷◌}
+use Rattle.textwrap_text.proofs.Common.{◌≡◌, ◌≤◌}
+use Rattle.textwrap_styles.proofs.Common.{All-filter, concat, has_target, is_link, is_style}
+use Rattle.textwrap_styles.proofs.Common.{kind_of, latest, link_end, open_link, open_settings}
+use Rattle.textwrap_styles.proofs.Common.{open_styles, settings, settings_of, style_end}
+use Rattle.textwrap_styles.proofs.Common.{style_parameters, written}
 use Rattle.std.proofs.Math.Nat.{mul-le-mul_left}
-use Rattle.std.proofs.lemmas.List.{length-take}
+use Rattle.std.proofs.lemmas.Map.Steps.{length-le_from_distinct_below}
+use Rattle.std.specs.List.{AllByRecursion, IsDistinct}
+use Rattle.textwrap_layout.specs.Paragraph.{line_bytes}
 use Rattle.textwrap_styles.proofs.CarriedLines.{carried-len}
-use Rattle.textwrap_styles.proofs.Common.{has_target, line_bytes, open_link, style_parameters}
-use Rattle.textwrap_styles.proofs.Common.{concat, is_link, is_style, link_end, style_end}
-use Rattle.textwrap_styles.proofs.LaterSettings.{known-below}
-use Rattle.textwrap_styles.proofs.OpenSettings.{all-latest, all-open, latest-in_effect, none-latest}
-use Rattle.textwrap_styles.proofs.OpenSettings.{Sets, all-set, resets}
+use Rattle.textwrap_styles.proofs.OpenSettings.{Sets, all-latest, all-open, all-set, known-below}
+use Rattle.textwrap_styles.proofs.OpenSettings.{latest-in_effect, none-latest, resets}
 use Rattle.textwrap_styles.proofs.SettingTexts.{first-len}
 use Rattle.textwrap_styles.specs.Laws.{known_settings, unknown_settings}
-use Rattle.textwrap_styles.specs.Styles.{carried_line, open_styles, settings_of, written}
-use Rattle.textwrap_styles.specs.Settings.{first_setting, is_unknown, open_settings, settings_past}
-use Rattle.textwrap_styles.specs.Settings.{kind_of, latest, number, replaces, settings, takes_back}
+use Rattle.textwrap_styles.specs.Settings.{first_setting, is_unknown, number, replaces}
+use Rattle.textwrap_styles.specs.Settings.{settings_past, takes_back}
+use Rattle.textwrap_styles.specs.Styles.{carried_line}
 
 -- ---- no two that the table knows are of one kind
 

@@ -1,16 +1,86 @@
--- Settings that are open: with one more, once more, and what holds of each of them.
-use Rattle.textwrap_text.proofs.Common.{All-append, All-cons, All-drop, All-head, All-nil, All-tail}
-use Rattle.textwrap_text.proofs.Common.{append-nil, append_assoc, arith, cases_Bool, cond, drop}
-use Rattle.textwrap_text.proofs.Common.{false, filter, fold, list_any, not, refl, subst, sym, true}
-use Rattle.textwrap_text.proofs.Common.{◌++◌, ◌-◌, ◌==◌, ◌∙◌, ◌∷◌, ◌≡◌, [], All, Bool, List, ap, ℕ}
-use Rattle.textwrap_text.proofs.Common.{Bor, length, map, suffix_len}
-use Rattle.std.proofs.lemmas.List.Elements.{All-filter}
+-- Which settings a later one takes back, by their kinds, and settings that are open: with one more,
+-- once more, and what holds of each of them.
+use Rattle.textwrap_text.proofs.Common.{All, All-append, All-cons, All-drop, All-head, All-nil}
+use Rattle.textwrap_text.proofs.Common.{All-tail, Bool, Bor, List, [], after_last, ap, append-nil}
+use Rattle.textwrap_text.proofs.Common.{append_assoc, arith, cases_Bool, cond, false, filter, fold}
+use Rattle.textwrap_text.proofs.Common.{list_any, map, nat_tests, not, refl, rules, subst, sym}
+use Rattle.textwrap_text.proofs.Common.{true, ℕ, ◌&&◌, ◌++◌, ◌<◌, ◌==◌, ◌||◌, ◌∙◌, ◌∷◌, ◌≡◌}
+use Rattle.textwrap_styles.proofs.Common.{All-filter, Kind, Reset, in_effect, kind_of, latest}
+use Rattle.textwrap_styles.proofs.Common.{open_settings}
 use Rattle.std.proofs.lemmas.List.Folds.{list_any-append}
-use Rattle.std.specs.List.{after_last}
+use Rattle.std.proofs.lemmas.Slice.Eq.{bytes_eq-Decides}
+use Rattle.std.specs.Str.{bytes_eq}
+use Rattle.textwrap_styles.specs.Settings.{is_unknown, number, replaces, takes_back}
 use Rattle.textwrap_text.proofs.Lists.Parts.{after_last-push}
-use Rattle.textwrap_styles.specs.Settings.{in_effect, is_end, is_unknown, kind_of, latest, number}
-use Rattle.textwrap_styles.specs.Settings.{open_settings, replaces}
-use Rattle.textwrap_styles.specs.declared.settings.Kind.TheVariants.{Reset}
+
+pub unknown-number : (k : Kind) → is_unknown k ≡ (number k == 16)
+unfolding is_unknown number
+unknown-number _ = grind (arith, cases_Bool, nat_tests)
+
+number-most : (k : Kind) → number k < 17
+unfolding number
+number-most _ = grind (arith, cases_Bool, nat_tests)
+
+pub known-below : (k : Kind) → is_unknown k ≡ false → number k < 16
+known-below k known = grind (arith, cases_Bool, nat_tests, unknown-number, number-most)
+
+pub unknown-other : (k : Kind) (n : ℕ) → is_unknown k ≡ true → n < 16 → (number k == n) ≡ false
+unknown-other k n unknown below = grind (arith, cases_Bool, nat_tests, unknown-number)
+
+-- tests that are the same of each are the same of all
+any-same : (f g : List ℕ → Bool) → ((t : List ℕ) → f t ≡ g t) → (xs : List (List ℕ))
+    → list_any f xs ≡ list_any g xs
+any-same f g same [] = refl
+any-same f g same (x ∷ xs) = grind (arith, same x, any-same f g same xs)
+
+any-or : (f g : List ℕ → Bool) (b : Bool) (xs : List (List ℕ))
+    → list_any (λ t. f t || b && g t) xs ≡ (list_any f xs || b && list_any g xs)
+any-or f g true [] = refl
+any-or f g false [] = refl
+any-or f g b (x ∷ xs) = grind (arith, cases_Bool, any-or f g b xs)
+
+-- one that is known is taken back by its kind, and bold and faint by both
+numbers-known : (a b : ℕ) → b < 16
+    → (not (a == 16) && ((a == b) || (a == 3) && ((b == 1) || (b == 2))))
+    ≡ ((a == b) || ((b == 1) || (b == 2)) && (a == 3))
+numbers-known a b known = grind (arith, cases_Bool, nat_tests)
+
+takes_back-known : (j k : Kind) → is_unknown k ≡ false
+    → (not (is_unknown j) && takes_back j k)
+    ≡ ((number j == number k) || ((number k == 1) || (number k == 2)) && (number j == 3))
+unfolding takes_back number
+takes_back-known j k known = search (rules, arith, unknown-number, numbers-known, known-below)
+
+pub any-known : (k : Kind) (later : List (List ℕ)) → is_unknown k ≡ false
+    → list_any (λ t. not (is_unknown (kind_of t)) && takes_back (kind_of t) k) later
+    ≡ (list_any (λ t. number (kind_of t) == number k) later
+    || ((number k == 1) || (number k == 2)) && list_any (λ t. number (kind_of t) == 3) later)
+any-known k later known = search (rules, arith, any-same, takes_back-known, any-or)
+
+-- one that is unknown is taken back by the same
+numbers-unknown : (a b : ℕ) → (b == 16) ≡ true → (a == 16) ≡ false
+    → ((a == b) || (a == 3) && ((b == 1) || (b == 2))) ≡ false
+numbers-unknown a b unknown known = grind (arith, cases_Bool, nat_tests)
+
+replaces-unknown : (t s : List ℕ) → is_unknown (kind_of s) ≡ true
+    → replaces t s ≡ (is_unknown (kind_of t) && bytes_eq t s)
+unfolding replaces takes_back number
+replaces-unknown t s unknown = grind (arith, cases_Bool, nat_tests, numbers-unknown, unknown-number)
+
+replaces-known : (t s : List ℕ) → is_unknown (kind_of s) ≡ false
+    → replaces t s ≡ (not (is_unknown (kind_of t)) && takes_back (kind_of t) (kind_of s))
+unfolding replaces
+replaces-known t s known = grind (arith, cases_Bool, nat_tests, bytes_eq-Decides)
+
+pub any-unknown : (s : List ℕ) (later : List (List ℕ)) → is_unknown (kind_of s) ≡ true
+    → list_any (λ t. replaces t s) later
+    ≡ list_any (λ t. is_unknown (kind_of t) && bytes_eq t s) later
+any-unknown s later unknown = grind (arith, cases_Bool, nat_tests, any-same, replaces-unknown)
+
+pub any-replaces : (s : List ℕ) (later : List (List ℕ)) → is_unknown (kind_of s) ≡ false
+    → list_any (λ t. replaces t s) later
+    ≡ list_any (λ t. not (is_unknown (kind_of t)) && takes_back (kind_of t) (kind_of s)) later
+any-replaces s later known = grind (arith, cases_Bool, nat_tests, any-same, replaces-known)
 
 -- the texts of a list
 abbrev pub texts : List (Bor (List ℕ)) → List (List ℕ)
@@ -24,12 +94,7 @@ pub after-more : (now : List (List ℕ) → List (List ℕ))
     → (before more : List (List ℕ)) → now (before ++ more) ≡ fold next (now before) more
 after-more now next push before [] = ap now (append-nil before)
 after-more now next push before (s ∷ more) =
-    grind (
-      arith,
-      append_assoc,
-      push before s,
-      after-more now next push (before ++ s ∷ []) more,
-    )
+    search (rules, arith, after-more now next push (before ++ s ∷ []) more, append_assoc)
 
 -- what each step keeps, all keep
 fold-keeps : (P : List (List ℕ) → Type 0) (next : List (List ℕ) → List ℕ → List (List ℕ))
@@ -48,9 +113,7 @@ not_replaced t ss = filter (λ s. not (replaces t s)) ss
 pub latest-push : (ss : List (List ℕ)) (t : List ℕ)
     → latest (ss ++ t ∷ []) ≡ not_replaced t (latest ss) ++ t ∷ []
 latest-push [] t = refl
-latest-push (s ∷ ss) t =
-    let own = list_any-append (λ u. replaces u s) ss (t ∷ []) in
-    grind (arith, cases_Bool, own, latest-push ss t)
+latest-push (s ∷ ss) t = grind (arith, cases_Bool, nat_tests, latest-push ss t, list_any-append)
 
 pub none-latest : (test : List ℕ → Bool) (ss : List (List ℕ)) → list_any test ss ≡ false
     → list_any test (latest ss) ≡ false
@@ -59,8 +122,7 @@ none-latest test (s ∷ ss) none = grind (arith, cases_Bool, none-latest test ss
 
 latest-again : (ss : List (List ℕ)) → latest (latest ss) ≡ latest ss
 latest-again [] = refl
-latest-again (s ∷ ss) =
-    grind (arith, cases_Bool, latest-again ss, none-latest (λ t. replaces t s) ss)
+latest-again (s ∷ ss) = grind (arith, cases_Bool, nat_tests, latest-again ss, none-latest)
 
 -- ---- those in effect
 
@@ -84,14 +146,7 @@ pub latest-in_effect : (ss : List (List ℕ))
     → latest (in_effect (latest ss)) ≡ in_effect (latest ss)
 latest-in_effect [] = refl
 latest-in_effect (s ∷ ss) =
-    grind (
-      arith,
-      cases_Bool,
-      latest-in_effect ss,
-      latest-again ss,
-      none-latest (λ t. replaces t s) ss,
-      none-in_effect (λ t. replaces t s) (latest ss),
-    )
+    search (rules, arith, latest-in_effect ss, latest-again, none-latest, none-in_effect)
 
 -- ---- what is open with one more, and with any more
 
@@ -107,9 +162,7 @@ next_settings now t = cond (resets t) [] (with_setting now t)
 
 pub effect-push : (ss : List (List ℕ)) (t : List ℕ)
     → in_effect (latest (ss ++ t ∷ [])) ≡ with_setting (in_effect (latest ss)) t
-effect-push ss t =
-    ap in_effect (latest-push ss t)
-    ∙ sym (in_effect-filter (λ s. not (replaces t s)) t (latest ss))
+effect-push ss t = grind (arith, cases_Bool, nat_tests, latest-push, in_effect-filter)
 
 -- those in effect are in effect
 pub effect-again : (ss : List (List ℕ))
@@ -118,11 +171,7 @@ effect-again ss = ap in_effect (latest-in_effect ss) ∙ in_effect-again (latest
 
 pub open_settings-push : (before : List (List ℕ)) (t : List ℕ)
     → open_settings (before ++ t ∷ []) ≡ next_settings (open_settings before) t
-open_settings-push before t =
-    let ss = after_last resets before in
-    let one = effect-push ss t in
-    let all = after_last-push resets before t in
-    grind (arith, cases_Bool, one, all)
+open_settings-push before t = grind (arith, cases_Bool, nat_tests, effect-push, after_last-push)
 
 -- ---- what is open is open again
 
@@ -132,30 +181,17 @@ Sets s = resets s ≡ false
 pub all-latest : (P : List ℕ → Type 0) (ss : List (List ℕ)) → All P ss → All P (latest ss)
 all-latest P [] all = all
 all-latest P (s ∷ ss) all =
-    by (list_any (λ t. replaces t s) ss) (all-latest P ss (All-tail P s ss all))
-  where
-    by : (later : Bool) → All P (latest ss) → All P (cond later (latest ss) (s ∷ latest ss))
-    by true others = others
-    by false others = All-cons P s (latest ss) (All-head P s ss all) others
+    search (rules, arith, all-latest P ss (All-tail P s ss all), All-tail, All-cons, All-head)
 
 all-in_effect : (P : List ℕ → Type 0) (ss : List (List ℕ)) → All P ss → All P (in_effect ss)
 all-in_effect P [] all = all
 all-in_effect P (s ∷ ss) all =
-    by (is_unknown (kind_of s)) (is_end s) (all-in_effect P ss (All-tail P s ss all))
-  where
-    by : (unknown end : Bool) → All P (in_effect ss)
-        → All P (cond unknown (s ∷ ss) (cond end (in_effect ss) (s ∷ in_effect ss)))
-    by true end others = all
-    by false true others = others
-    by false false others = All-cons P s (in_effect ss) (All-head P s ss all) others
+    search (rules, arith, all-in_effect P ss (All-tail P s ss all), All-tail, All-cons, All-head)
 
 -- what holds of all settings holds of those that are open
 pub all-open : (P : List ℕ → Type 0) (before : List (List ℕ)) → All P before
     → All P (open_settings before)
-all-open P before all =
-    let n = length before - suffix_len (λ s. not (resets s)) before in
-    let rest = drop n before in
-    all-in_effect P (latest rest) (all-latest P rest (All-drop P n before all))
+all-open P before all = search (rules, arith, all-in_effect, all-latest, All-drop)
 
 next-sets : (now : List (List ℕ)) (t : List ℕ) → All Sets now → All Sets (next_settings now t)
 next-sets now t are = by (resets t) refl

@@ -1,39 +1,108 @@
--- What a number by itself does to a pen: it sets the fields of its kind, and one that ends something
--- sets them as in the plain pen.
-use Rattle.std.specs.Prelude.{◌≡◌, ℕ, zero, suc, ◌+◌, ◌<◌, ◌≤◌, ◌==◌, false, ◌||◌, ◌&&◌, cond, ⊤}
-use Rattle.textwrap_text.proofs.Common.{arith, subst, cases_Bool, sym, eqb-true, inl, inr, nat_tests, ◌⊎◌}
-use Rattle.textwrap_styles.proofs.PenMixes.{Mask, mix}
-use Rattle.textwrap_styles.specs.Pen.{Pen, plain_pen, with_code}
-use Rattle.textwrap_styles.specs.Settings.{kind_of_code, is_ending_code, number, is_color_code}
-use Rattle.textwrap_styles.specs.declared.settings.Kind.{Kind}
+-- What parameters do to a pen: they set some fields to values of their own and leave the others. So
+-- which numbers the table has to know, and which of them end something.
+use Rattle.textwrap_text.proofs.Common.{Bool, List, [], ap, arith, cases_Bool, cond, drop, eqb-true}
+use Rattle.textwrap_text.proofs.Common.{false, fold, inl, inr, length, map, nat_tests, not, refl}
+use Rattle.textwrap_text.proofs.Common.{subst, suc, sym, true, true≢false, zero, ℕ, ⊤, ◌&&◌, ◌++◌}
+use Rattle.textwrap_text.proofs.Common.{◌+◌, ◌<◌, ◌==◌, ◌||◌, ◌∙◌, ◌∷◌, ◌≡◌, ◌≢◌, ◌≤◌, ◌⊎◌}
+use Rattle.textwrap_styles.proofs.Common.{Color, Pen, apply, between, first_of, numbers_of}
+use Rattle.textwrap_styles.proofs.Common.{plain_pen}
+use Rattle.textwrap_styles.specs.Pen.{Own, Reading, color_of, is_whole_color, with_code, with_color}
+use Rattle.textwrap_styles.specs.Pen.{with_field, with_parts}
+use Rattle.textwrap_styles.specs.Settings.{is_color_code, is_ending_code, is_unknown, kind_of_code}
+use Rattle.textwrap_styles.specs.Settings.{number}
 
--- the fields that a kind sets, by the numbers of their own kinds: bold and faint that of both
-abbrev pub touches : Kind → Mask
-touches k i = (number k == i) || (number k == 3) && ((i == 1) || (i == 2))
+-- ---- a pen that takes some of its fields from one pen and the others from another
+
+-- which fields, by the numbers of the kinds that set them
+abbrev pub Mask : Type 0
+Mask = ℕ → Bool
+
+abbrev pub mix : Mask → Pen → Pen → Pen
+mix m v p = record {
+  bold = cond (m 1) v.bold p.bold;
+  faint = cond (m 2) v.faint p.faint;
+  italic = cond (m 4) v.italic p.italic;
+  underline = cond (m 5) v.underline p.underline;
+  blink = cond (m 6) v.blink p.blink;
+  inverse = cond (m 7) v.inverse p.inverse;
+  hidden = cond (m 8) v.hidden p.hidden;
+  crossed_out = cond (m 9) v.crossed_out p.crossed_out;
+  font = cond (m 10) v.font p.font;
+  foreground = cond (m 11) v.foreground p.foreground;
+  background = cond (m 12) v.background p.background;
+  framed = cond (m 13) v.framed p.framed;
+  overlined = cond (m 14) v.overlined p.overlined;
+  underline_color = cond (m 15) v.underline_color p.underline_color;
+}
+
+module _ {X : Type 0} (b c : Bool) (v w p : X) where
+  pick-again : cond b v (cond c w (cond b v p)) ≡ cond b v (cond c w p)
+  pick-again = grind (arith, cases_Bool)
+
+  pick-both : cond b v (cond c w p) ≡ cond (b || c) (cond b v w) p
+  pick-both = grind (arith, cases_Bool)
+
+  pick-within : (b || c) ≡ b → cond b v (cond c w p) ≡ cond b v p
+  pick-within all = grind (arith, cases_Bool)
+
+  pick-swap : (b && c) ≡ false → cond b v (cond c w p) ≡ cond c w (cond b v p)
+  pick-swap none = grind (arith, cases_Bool)
+
+pub mix-again : (m n : Mask) (v w p : Pen) → mix m v (mix n w (mix m v p)) ≡ mix m v (mix n w p)
+mix-again m n v w p = simp pick-again
+
+pub mix-both : (m n : Mask) (v w p : Pen)
+    → mix m v (mix n w p) ≡ mix (λ i. m i || n i) (mix m v w) p
+mix-both m n v w p = simp pick-both
+
+pub mix-within : (m n : Mask) (v w p : Pen) → ((i : ℕ) → (m i || n i) ≡ m i)
+    → mix m v (mix n w p) ≡ mix m v p
+mix-within m n v w p within = grind (arith, pick-within, within)
+
+pub mix-swap : (m n : Mask) (v w p : Pen) → ((i : ℕ) → (m i && n i) ≡ false)
+    → mix m v (mix n w p) ≡ mix n w (mix m v p)
+mix-swap m n v w p none = grind (arith, pick-swap, none)
+
+-- ---- the rows of the table
+
+-- the fields that a kind sets, by the numbers of their own kinds: all, or for 3 bold and faint
+abbrev pub sets : ℕ → Mask
+sets k i = (k == 0) || (k == i) || (k == 3) && ((i == 1) || (i == 2))
+
+-- those that a number by itself sets: none where a colour has to follow
+abbrev pub touches : ℕ → Mask
+touches c i = not (is_color_code c) && sets (number (kind_of_code c)) i
+
+abbrev is_own : Color → Bool
+is_own Own = true
+is_own _ = false
+
+-- some field is not plain
+abbrev differs : Pen → Bool
+differs p =
+    p.bold || p.faint || p.italic || not (p.underline == 0) || not (p.blink == 0) || p.inverse
+    || p.hidden || p.crossed_out || not (p.font == 0) || not (is_own p.foreground)
+    || not (is_own p.background) || not (p.framed == 0) || p.overlined
+    || not (is_own p.underline_color)
 
 pub record Row (c : ℕ) : Type 0 where
-  pub sets : (p : Pen) → with_code c p ≡ mix (touches (kind_of_code c)) (with_code c plain_pen) p
+  pub sets : (p : Pen) → with_code c p ≡ mix (touches c) (with_code c plain_pen) p
   pub ends : cond (is_ending_code c) (with_code c plain_pen) plain_pen ≡ plain_pen
+  pub unknown : (p : Pen) → cond (is_unknown (kind_of_code c)) (with_code c p) p ≡ p
+  pub known : (is_color_code c || is_unknown (kind_of_code c) || is_ending_code c
+      || differs (with_code c plain_pen)) ≡ true
 
 -- so many rows from this number on
 abbrev Rows : ℕ → ℕ → Type 0
 Rows zero c = ⊤
 Rows (suc n) c = Row c × Rows n (c + 1)
 
-first-rows : Rows 37 1
-unfolding with_code kind_of_code is_ending_code number
+first-rows : Rows 54 0
+unfolding with_code kind_of_code is_ending_code number is_color_code is_unknown
 first-rows = search arith
 
-middle-rows : Rows 9 39
-unfolding with_code kind_of_code is_ending_code number
-middle-rows = search arith
-
-later-rows : Rows 9 49
-unfolding with_code kind_of_code is_ending_code number
-later-rows = search arith
-
-last-rows : Rows 49 59
-unfolding with_code kind_of_code is_ending_code number
+last-rows : Rows 54 54
+unfolding with_code kind_of_code is_ending_code number is_color_code is_unknown
 last-rows = search arith
 
 rows-at : (n c at : ℕ) → Rows n at → at ≤ c → c < at + n → Row c
@@ -45,28 +114,151 @@ rows-at (suc n) c at (row, rows) from to = elim (cases_Bool (c == at)) [
 
 -- and none further on
 far-row : (c : ℕ) → 108 ≤ c → Row c
-unfolding with_code kind_of_code is_ending_code number
+unfolding with_code kind_of_code is_ending_code number is_color_code is_unknown
 far-row c far = record {
   sets = λ p. grind (arith, nat_tests);
   ends = grind (arith, nat_tests);
+  unknown = λ p. grind (arith, nat_tests);
+  known = grind (arith, nat_tests);
 }
 
--- a number that stands by itself
-pub row : (c : ℕ) → (c == 0) ≡ false → is_color_code c ≡ false → Row c
-unfolding is_color_code
-row c some plain = elim (nat-cases c 38) [
-  | inl below ↦ rows-at 37 c 1 first-rows (grind (arith, nat_tests)) (omega arith)
-  | inr from ↦ elim (nat-cases c 48) [
-    | inl below ↦ rows-at 9 c 39 middle-rows (grind (arith, cases_Bool, nat_tests)) (omega arith)
-    | inr from2 ↦ elim (nat-cases c 58) [
-      | inl below ↦ rows-at 9 c 49 later-rows (grind (arith, cases_Bool, nat_tests)) (omega arith)
-      | inr from3 ↦ elim (nat-cases c 108) [
-        | inl below ↦ rows-at 49 c 59 last-rows (grind (arith, cases_Bool, nat_tests)) (omega arith)
-        | inr far ↦ far-row c far
-      ]
-    ]
+pub row : (c : ℕ) → Row c
+row c = elim (nat-cases c 54) [
+  | inl below ↦ rows-at 54 c 0 first-rows (omega arith) below
+  | inr from ↦ elim (nat-cases c 108) [
+    | inl below ↦ rows-at 54 c 54 last-rows from below
+    | inr far ↦ far-row c far
   ]
 ]
   where
     nat-cases : (a b : ℕ) → (a < b) ⊎ (b ≤ a)
     nat-cases a b = grind arith
+
+-- ---- the laws
+
+-- what the table does not know does nothing
+pub unknown-nothing : (c : ℕ) → is_unknown (kind_of_code c) ≡ true → (p : Pen) → with_code c p ≡ p
+unknown-nothing c is p =
+    ap (λ b. cond b (with_code c p) p) (sym is) ∙ (row c).unknown p
+
+-- and what ends nothing does something
+pub other-something : (c : ℕ) → is_unknown (kind_of_code c) ≡ false → is_color_code c ≡ false
+    → is_ending_code c ≡ false → with_code c plain_pen ≢ plain_pen
+other-something c known plain other same =
+    let all = (row c).known in
+    let differ : differs (with_code c plain_pen) ≡ true = grind (arith, cases_Bool) in
+    true≢false (sym differ ∙ ap differs same)
+
+-- ---- changes that set some fields and leave the others
+
+pub record Changes (act : Pen → Pen) : Type 0 where
+  pub fields : Mask
+  pub values : Pen
+  pub is : (p : Pen) → act p ≡ mix fields values p
+
+pub nothing : Changes (λ p. p)
+nothing = record { fields = λ i. false; values = plain_pen; is = λ p. refl }
+
+-- one after another
+pub changes-then : (act later : Pen → Pen) → Changes act → Changes later → Changes (λ p. later (act p))
+changes-then act later one two = record {
+  fields = λ i. two.fields i || one.fields i;
+  values = mix two.fields two.values one.values;
+  is = λ p. two.is (act p) ∙ ap (mix two.fields two.values) (one.is p)
+      ∙ mix-both two.fields one.fields two.values one.values p;
+}
+
+pub changes-if : (b : Bool) (act other : Pen → Pen) → Changes act → Changes other
+    → Changes (λ p. cond b (act p) (other p))
+changes-if true act other one two = one
+changes-if false act other one two = two
+
+-- ---- fields of parameters
+
+code-changes : (c : ℕ) → Changes (with_code c)
+code-changes c =
+    record { fields = touches c; values = with_code c plain_pen; is = (row c).sets }
+
+color-changes : (c : ℕ) (color : Color) → Changes (with_color c color)
+unfolding with_color
+color-changes c color = record {
+  fields = λ i. cond (c == 38) (11 == i) (cond (c == 48) (12 == i) (15 == i));
+  values = with_color c color plain_pen;
+  is = λ p. grind (arith, cases_Bool);
+}
+
+parts-changes : (c : ℕ) (parts : List ℕ) → Changes (with_parts c parts)
+unfolding with_parts
+parts-changes c parts =
+    changes-if (c == 4) (λ p. record p { underline = first_of parts })
+    (λ p. cond ((c == 38) || (c == 48) || (c == 58)) (with_color c (color_of parts) p) p)
+    (record {
+      fields = λ i. 5 == i;
+      values = record plain_pen { underline = first_of parts };
+      is = λ p. refl;
+    })
+    (changes-if ((c == 38) || (c == 48) || (c == 58)) (with_color c (color_of parts)) (λ p. p)
+    (color-changes c (color_of parts)) nothing)
+
+-- with a field more: the colour that has begun does not hang on the pen
+pub record Steps (act : Pen → Reading) : Type 0 where
+  pub color : List ℕ
+  pub pen : Pen → Pen
+  pub changes : Changes pen
+  pub is : (p : Pen) → act p ≡ record { pen = pen p; color = color }
+
+steps-if : (b : Bool) (act other : Pen → Reading) → Steps act → Steps other
+    → Steps (λ p. cond b (act p) (other p))
+steps-if true act other one two = one
+steps-if false act other one two = two
+
+abbrev at : List ℕ → Pen → Reading
+at color p = record { pen = p; color = color }
+
+steps-by : (color : List ℕ) (act : Pen → Pen) → Changes act
+    → Steps (λ p. at color (act p))
+steps-by color act changes =
+    record { color = color; pen = act; changes = changes; is = λ p. refl }
+
+field-steps : (color field : List ℕ) → Steps (λ p. with_field (at color p) field)
+unfolding with_field
+field-steps color field =
+    let code = first_of field in
+    let numbers = color ++ code ∷ [] in
+    let whole = with_color (first_of numbers) (color_of (drop 1 numbers)) in
+    let parts = with_parts code (drop 1 field) in
+    let is_color = (code == 38) || (code == 48) || (code == 58) in
+    steps-if (not (length color == 0))
+    (λ p. cond (is_whole_color (drop 1 numbers)) (at [] (whole p)) (at numbers p))
+    (λ p. cond (not (length field == 1)) (at [] (parts p))
+    (cond is_color (at numbers p) (at [] (with_code code p))))
+    (steps-if (is_whole_color (drop 1 numbers)) (λ p. at [] (whole p)) (at numbers)
+    (steps-by [] whole (color-changes (first_of numbers) (color_of (drop 1 numbers))))
+    (steps-by numbers (λ p. p) nothing))
+    (steps-if (not (length field == 1)) (λ p. at [] (parts p))
+    (λ p. cond is_color (at numbers p) (at [] (with_code code p)))
+    (steps-by [] parts (parts-changes code (drop 1 field)))
+    (steps-if is_color (at numbers) (λ p. at [] (with_code code p))
+    (steps-by numbers (λ p. p) nothing) (steps-by [] (with_code code) (code-changes code))))
+
+fields-steps : (fs : List (List ℕ)) (color : List ℕ)
+    → Steps (λ p. fold with_field (at color p) fs)
+fields-steps [] color = steps-by color (λ p. p) nothing
+fields-steps (f ∷ fs) color =
+    let one = field-steps color f in
+    let others = fields-steps fs one.color in
+    record {
+      color = others.color;
+      pen = λ p. others.pen (one.pen p);
+      changes = changes-then one.pen others.pen one.changes others.changes;
+      is = λ p. ap (λ r. fold with_field r fs) (one.is p) ∙ others.is (one.pen p);
+    }
+
+pub apply-changes : (t : List ℕ) → Changes (apply t)
+apply-changes t =
+    let all = fields-steps (map numbers_of (between 0x3B t)) [] in
+    record {
+      fields = all.changes.fields;
+      values = all.changes.values;
+      is = λ p. ap (λ (r : Reading). r.pen) (all.is p) ∙ all.changes.is p;
+    }

@@ -1,21 +1,24 @@
--- What a setting does to a pen: it sets the fields of its kind, and one that ends something sets them
--- as in the plain pen.
-use Rattle.textwrap_text.proofs.Common.{arith, cases_Bool, cond, drop, false, length, map}
-use Rattle.textwrap_text.proofs.Common.{nat_tests, refl, sym, true, fold, subst, true≢false}
-use Rattle.textwrap_text.proofs.Common.{◌==◌, ◌∙◌, ◌∷◌, ◌≡◌, ◌≤◌, [], Bool, List, ap, ℕ}
-use Rattle.textwrap_text.proofs.Common.{◌≢◌, inl, inr, eqb-true, length-map}
-use Rattle.std.specs.Str.Parse.{digits_value}
-use Rattle.std.specs.Prelude.{min}
-use Rattle.textwrap_styles.proofs.PenCodes.{Row, row, touches}
-use Rattle.textwrap_styles.specs.declared.settings.Kind.{Kind}
-use Rattle.textwrap_styles.specs.declared.settings.Kind.TheVariants.{Reset}
-use Rattle.textwrap_styles.proofs.PenFields.{between-some, fields-few, first_field, first_text}
-use Rattle.textwrap_styles.proofs.PenMixes.{mix}
-use Rattle.textwrap_styles.proofs.SettingTexts.{IsSetting}
-use Rattle.textwrap_styles.specs.Pen.{Pen, Reading, apply, between, color_of, first_of, numbers_of, plain_pen, read}
-use Rattle.textwrap_styles.specs.Pen.{is_whole_color, with_code, with_color, with_field, with_parts, Color}
-use Rattle.textwrap_styles.specs.Settings.{first_setting, is_color_code, is_ending_code, kind_of}
-use Rattle.textwrap_styles.specs.Settings.{fields, is_end, kind_of_code, number, taken_fields}
+-- What a setting that the table knows does to a pen: it sets the fields of its kind, and one that
+-- ends something sets them as in the plain pen.
+use Rattle.textwrap_text.proofs.Common.{Bool, List, [], ap, arith, cases_Bool, drop, eqb-true}
+use Rattle.textwrap_text.proofs.Common.{false, fold, inl, inr, length, length-map, list_all, map}
+use Rattle.textwrap_text.proofs.Common.{min, nat_tests, prefix_len, refl, subst, sym, true}
+use Rattle.textwrap_text.proofs.Common.{true≢false, ℕ, ◌+◌, ◌<◌, ◌==◌, ◌||◌, ◌∙◌, ◌∷◌, ◌≡◌, ◌≢◌}
+use Rattle.textwrap_text.proofs.Common.{◌≤◌, ◌⊎◌}
+use Rattle.textwrap_styles.proofs.Common.{Color, Pen, Reset, apply, between, digits_value, fields}
+use Rattle.textwrap_styles.proofs.Common.{first_of, is_ascii_digit, is_in_range, numbers_of}
+use Rattle.textwrap_styles.proofs.Common.{plain_pen}
+use Rattle.textwrap_styles.proofs.PenCodes.{mix, row, sets}
+use Rattle.textwrap_styles.proofs.SettingTexts.{InRange, IsSetting, between-rest, between-some}
+use Rattle.textwrap_styles.proofs.SettingTexts.{code-first, colon-first, details-cons, drop-all}
+use Rattle.textwrap_styles.proofs.SettingTexts.{fields-few, fields-many, first-value, first_field}
+use Rattle.textwrap_styles.proofs.SettingTexts.{first_number, first_text, first_text-first}
+use Rattle.textwrap_styles.proofs.SettingTexts.{has_colon}
+use Rattle.textwrap_styles.specs.Pen.{Reading, color_of, is_whole_color, read, with_code}
+use Rattle.textwrap_styles.specs.Pen.{with_color, with_field, with_first, with_parts}
+use Rattle.textwrap_styles.specs.Settings.{code, color_fields, details, first_setting}
+use Rattle.textwrap_styles.specs.Settings.{is_color_code, is_end, is_ending_code, is_unknown}
+use Rattle.textwrap_styles.specs.Settings.{kind_of, kind_of_code, number, taken_fields}
 
 -- ---- one field
 
@@ -54,80 +57,31 @@ pub direct : (p : Pen) (c : ℕ) (mode r g b : List ℕ) → first_of mode ≡ 2
 unfolding with_field is_whole_color
 direct p c mode r g b is = grind (arith, cases_Bool, nat_tests)
 
--- ---- what is known of a change to a pen, by a setting of this kind
-
-pub record Acts (k : Kind) (end : Bool) (act : Pen → Pen) : Type 0 where
-  pub sets : (number k == number Reset) ≡ false → (p : Pen)
-      → act p ≡ mix (touches k) (act plain_pen) p
-  pub reset : (number k == number Reset) ≡ true → (p : Pen) → act p ≡ plain_pen
-  pub ends : end ≡ true → act plain_pen ≡ plain_pen
-
-kind-reset : (c : ℕ) → (number (kind_of_code c) == number Reset) ≡ (c == 0)
-unfolding kind_of_code number
-kind-reset c = grind (arith, cases_Bool, nat_tests)
-
-zero-plain : (p : Pen) → with_code 0 p ≡ plain_pen
-unfolding with_code
-zero-plain p = refl
-
-pub acts-code : (c : ℕ) → is_color_code c ≡ false
-    → Acts (kind_of_code c) (is_ending_code c) (with_code c)
-acts-code c plain = elim (cases_Bool (c == 0)) [
-  | inl is ↦ record {
-    sets = λ other. absurd (true≢false (sym is ∙ sym (kind-reset c) ∙ other));
-    reset = λ same p. subst (λ n. with_code n p ≡ plain_pen) (sym (eqb-true c 0 is)) (zero-plain p);
-    ends = λ end. subst (λ n. with_code n plain_pen ≡ plain_pen) (sym (eqb-true c 0 is))
-        (zero-plain plain_pen);
-  }
-  | inr some ↦
-      let one : Row c = row c some plain in
-      record {
-        sets = λ other. one.sets;
-        reset = λ same. absurd (true≢false (sym same ∙ kind-reset c ∙ some));
-        ends = λ end. ap (λ b. cond b (with_code c plain_pen) plain_pen) (sym end) ∙ one.ends;
-      }
-]
-
 -- one of the numbers that a colour follows, or an underline's
 pub among : (P : ℕ → Type 0) (c : ℕ) → is_color_code c ≡ true → P 38 → P 48 → P 58 → P c
 unfolding is_color_code
-among P c is a b d = elim (cases_Bool (c == 38)) [
-  | inl same ↦ subst P (sym (eqb-true c 38 same)) a
-  | inr other ↦ elim (cases_Bool (c == 48)) [
-    | inl same ↦ subst P (sym (eqb-true c 48 same)) b
-    | inr others ↦ subst P (sym (eqb-true c 58 (grind (arith, cases_Bool)))) d
-  ]
-]
+among P c is a b d = grind (arith, cases_Bool, nat_tests, eqb-true)
 
-pub acts-color : (c : ℕ) (color : Color) → is_color_code c ≡ true
-    → Acts (kind_of_code c) (is_ending_code c) (with_color c color)
-unfolding with_color kind_of_code is_ending_code number
-acts-color c color is =
-    among (λ c. Acts (kind_of_code c) (is_ending_code c) (with_color c color)) c is
-    (record {
-      sets = λ other p. refl;
-      reset = λ same. absurd (true≢false (sym same));
-      ends = λ end. absurd (true≢false (sym end));
-    })
-    (record {
-      sets = λ other p. refl;
-      reset = λ same. absurd (true≢false (sym same));
-      ends = λ end. absurd (true≢false (sym end));
-    })
-    (record {
-      sets = λ other p. refl;
-      reset = λ same. absurd (true≢false (sym same));
-      ends = λ end. absurd (true≢false (sym end));
-    })
+-- none of them ends anything, and each sets its own field
+pub color-open : (c : ℕ) → is_color_code c ≡ true → is_ending_code c ≡ false
+unfolding is_ending_code
+color-open c is = among (λ c. is_ending_code c ≡ false) c is refl refl refl
 
-pub acts-underline : (parts : List ℕ) (end : Bool) → (end ≡ true → first_of parts ≡ 0)
-    → Acts (kind_of_code 4) end (with_parts 4 parts)
+pub color-sets : (c : ℕ) (color : Color) → is_color_code c ≡ true → (p : Pen)
+    → with_color c color p ≡ mix (sets (number (kind_of_code c))) (with_color c color plain_pen) p
+unfolding with_color kind_of_code number
+color-sets c color is p =
+    among (λ c. with_color c color p
+    ≡ mix (sets (number (kind_of_code c))) (with_color c color plain_pen) p) c is refl refl refl
+
+pub underline-sets : (parts : List ℕ) (p : Pen)
+    → with_parts 4 parts p ≡ mix (sets (number (kind_of_code 4))) (with_parts 4 parts plain_pen) p
 unfolding with_parts kind_of_code number
-acts-underline parts end none = record {
-  sets = λ other p. refl;
-  reset = λ same. absurd (true≢false (sym same));
-  ends = λ is. ap (λ n. record plain_pen { underline = n }) (none is);
-}
+underline-sets parts p = refl
+
+pub underline-ends : (parts : List ℕ) → first_of parts ≡ 0 → with_parts 4 parts plain_pen ≡ plain_pen
+unfolding with_parts
+underline-ends parts none = ap (λ n. record plain_pen { underline = n }) none
 
 pub color-parts : (c : ℕ) (parts : List ℕ) (p : Pen) → is_color_code c ≡ true
     → with_parts c parts p ≡ with_color c (color_of parts) p
@@ -138,42 +92,34 @@ color-parts c parts p is = grind (arith, cases_Bool, nat_tests)
 
 pub record Known (t : List ℕ) : Type 0 where
   pub settled : (p : Pen) → read t p ≡ alone (apply t p)
-  pub acts : Acts (kind_of t) (is_end t) (apply t)
+  pub sets : (p : Pen) → apply t p ≡ mix (sets (number (kind_of t))) (apply t plain_pen) p
+  pub ends : is_end t ≡ true → apply t plain_pen ≡ plain_pen
 
+-- where it does this
 pub known-by : (t : List ℕ) (act : Pen → Pen) → ((p : Pen) → read t p ≡ alone (act p))
-    → Acts (kind_of t) (is_end t) act → Known t
-known-by t act is acts =
+    → ((p : Pen) → act p ≡ mix (sets (number (kind_of t))) (act plain_pen) p)
+    → (is_end t ≡ true → act plain_pen ≡ plain_pen) → Known t
+known-by t act is own ends =
     let same : (p : Pen) → apply t p ≡ act p = λ p. ap (λ (r : Reading). r.pen) (is p) in
     record {
       settled = λ p. is p ∙ ap alone (sym (same p));
-      acts = record {
-        sets = λ some p. same p ∙ acts.sets some p
-            ∙ ap (λ v. mix (touches (kind_of t)) v p) (sym (same plain_pen));
-        reset = λ all p. same p ∙ acts.reset all p;
-        ends = λ end. same plain_pen ∙ acts.ends end;
-      };
+      sets = λ p. rw (same p, same plain_pen) (own p);
+      ends = λ end. same plain_pen ∙ ends end;
     }
 
 -- its fields
 pub one-of : (xs : List (List ℕ)) → 1 ≤ length xs → length xs ≤ 1 → xs ≡ first_text xs ∷ []
-one-of [] some few = absurd (omega arith)
 one-of (x ∷ []) some few = refl
-one-of (x ∷ y ∷ xs) some few = absurd (omega arith)
+one-of _ some few = absurd (omega arith)
 
 pub two-of : (xs : List (List ℕ)) → length xs ≡ 2 → (z : List ℕ) × (xs ≡ first_text xs ∷ z ∷ [])
-two-of [] are = absurd (omega arith)
-two-of (x ∷ []) are = absurd (omega arith)
 two-of (x ∷ y ∷ []) are = (y, refl)
-two-of (x ∷ y ∷ z ∷ xs) are = absurd (omega arith)
+two-of _ are = absurd (omega arith)
 
 pub four-of : (xs : List (List ℕ)) → length xs ≡ 4
     → (r : List ℕ) × (g : List ℕ) × (b : List ℕ) × (xs ≡ first_text xs ∷ r ∷ g ∷ b ∷ [])
-four-of [] are = absurd (omega arith)
-four-of (x ∷ []) are = absurd (omega arith)
-four-of (x ∷ y ∷ []) are = absurd (omega arith)
-four-of (x ∷ y ∷ z ∷ []) are = absurd (omega arith)
 four-of (x ∷ r ∷ g ∷ b ∷ []) are = (r, g, b, refl)
-four-of (x ∷ y ∷ z ∷ u ∷ v ∷ xs) are = absurd (omega arith)
+four-of _ are = absurd (omega arith)
 
 -- the number of a code that the table knows is not cut off
 pub code-same : (c n : ℕ) → c ≡ min 255 n → c ≢ 255 → n ≡ c
@@ -181,21 +127,267 @@ code-same c n is small = omega arith
 
 pub own-fields : (t : List ℕ) (n : ℕ) → IsSetting t → taken_fields t ≡ n → 1 ≤ n → fields n t ≡ t
 unfolding first_setting
-own-fields t n is taken some =
-    let own = is.own in
-    grind (arith, cases_Bool, nat_tests)
+own-fields t n is taken some = grind (arith, cases_Bool, nat_tests)
 
 module _ (t : List ℕ) (is : IsSetting t) where
+  pub field-len : length (numbers_of (first_field t)) ≡ length (between 0x3A (first_field t))
+  field-len = length-map (between 0x3A (first_field t)) (digits_value 10)
+
+  one-field : taken_fields t ≡ 1 → between 0x3B t ≡ first_field t ∷ []
+  one-field taken =
+      grind (arith, cases_Bool, nat_tests, one-of, between-some, fields-few, own-fields)
+
+  pub read-one : taken_fields t ≡ 1 → (p : Pen) → read t p ≡ with_field (alone p) (numbers_of (first_field t))
+  read-one taken p = ap (λ fs. fold with_field (alone p) (map numbers_of fs)) (one-field taken)
+
+pub kind-code : (t : List ℕ) → is_unknown (kind_of t) ≡ false → kind_of t ≡ kind_of_code (code t)
+unfolding kind_of is_unknown
+kind-code t known = grind (arith, cases_Bool, nat_tests)
+
+taken-some : (t : List ℕ) → is_unknown (kind_of t) ≡ false → (taken_fields t == 0) ≡ false
+unfolding kind_of is_unknown
+taken-some t known = grind (arith, cases_Bool, nat_tests)
+
+far-unknown : is_unknown (kind_of_code 255) ≡ true
+unfolding kind_of_code is_unknown
+far-unknown = refl
+
+kind-reset : (c : ℕ) → (number (kind_of_code c) == number Reset) ≡ (c == 0)
+unfolding kind_of_code number
+kind-reset c = grind (arith, cases_Bool, nat_tests)
+
+-- ---- zeros behind a colon
+
+zero-value : (c : ℕ) (ds : List ℕ) → (c == 0x30) ≡ true
+    → digits_value 10 (c ∷ ds) ≡ digits_value 10 ds
+zero-value c ds is =
+    subst (λ n. digits_value 10 (n ∷ ds) ≡ digits_value 10 ds) (sym (eqb-true c 0x30 is)) refl
+
+-- one more character of the first number does not change the later ones
+later-values : (c : ℕ) (texts : List (List ℕ))
+    → drop 1 (map (digits_value 10) (with_first c texts)) ≡ drop 1 (map (digits_value 10) texts)
+later-values c [] = refl
+later-values c (t ∷ texts) = refl
+
+abbrev is_zero_part : ℕ → Bool
+is_zero_part c = (c == 0x30) || (c == 0x3A)
+
+zeros-value : (t : List ℕ) → list_all is_zero_part t ≡ true
+    → digits_value 10 (first_text (between 0x3A (first_field t))) ≡ 0
+zeros-value [] all = refl
+zeros-value (c ∷ cs) all =
+    grind (arith, cases_Bool, nat_tests, first_text-first, zero-value, zeros-value cs)
+
+zeros-part : (t : List ℕ) → InRange t → list_all is_zero_part (details t) ≡ true
+    → first_of (drop 1 (numbers_of (first_field t))) ≡ 0
+zeros-part [] all zeros = refl
+zeros-part (c ∷ cs) all zeros =
+    let value = zeros-value cs in
+    let others = zeros-part cs in
+    let first = first-value (between 0x3A (first_field cs)) in
+    grind (
+      arith,
+      cases_Bool,
+      nat_tests,
+      details-cons,
+      first_text-first,
+      later-values,
+      first,
+      value,
+      others,
+    )
+
+end-zeros : (t : List ℕ) → has_colon t ≡ true → is_end t ≡ true
+    → list_all is_zero_part (details t) ≡ true
+unfolding is_end
+end-zeros t colon end = grind (arith, cases_Bool)
+
+colon-other : (t : List ℕ) → has_colon t ≡ true → (code t == 4) ≡ false → is_end t ≡ false
+unfolding is_end
+colon-other t colon other = grind (arith, cases_Bool)
+
+-- ---- what follows 38, 48 or 58
+
+color-cases : (t : List ℕ) (mode : ℕ) → (color_fields t mode == 0) ≡ false
+    → ((mode == 5) ≡ true) × (color_fields t mode ≡ 3) × (length (fields 2 t) < length t)
+    ⊎ ((mode == 2) ≡ true) × (color_fields t mode ≡ 5) × (length (fields 4 t) < length t)
+unfolding color_fields
+color-cases t mode some = grind (arith, cases_Bool, nat_tests)
+
+details-range : (t : List ℕ) → InRange t → InRange (details t)
+unfolding details
+details-range t all = drop-all (is_in_range 0x30 0x3B) (prefix_len is_ascii_digit t) t all
+
+module _ (t : List ℕ) (is : IsSetting t) (known : is_unknown (kind_of t) ≡ false) where
   abbrev field : List ℕ
   field = first_field t
 
-  pub field-len : length (numbers_of field) ≡ length (between 0x3A field)
-  field-len = length-map (between 0x3A field) (digits_value 10)
+  number-is : first_number t ≡ code t
+  number-is =
+      code-same (code t) (first_number t) (code-first t is.range)
+      (λ far. true≢false (sym far-unknown ∙ sym (ap (λ c. is_unknown (kind_of_code c)) far)
+      ∙ sym (ap is_unknown (kind-code t known)) ∙ known))
 
-  one-field : taken_fields t ≡ 1 → between 0x3B t ≡ field ∷ []
-  one-field taken =
-      one-of (between 0x3B t) (between-some 0x3B t)
-      (fields-few 1 t (omega arith) (own-fields t 1 is taken (omega arith)))
+  -- ---- a number by itself
 
-  pub read-one : taken_fields t ≡ 1 → (p : Pen) → read t p ≡ with_field (alone p) (numbers_of field)
-  read-one taken p = ap (λ fs. fold with_field (alone p) (map numbers_of fs)) (one-field taken)
+  plain-taken : has_colon t ≡ false → is_color_code (code t) ≡ false → taken_fields t ≡ 1
+  unfolding taken_fields
+  plain-taken none plain =
+      let some = taken-some t known in
+      grind (arith, cases_Bool, nat_tests)
+
+  plain-end : has_colon t ≡ false → is_end t ≡ is_ending_code (code t)
+  unfolding is_end
+  plain-end none = grind (arith, cases_Bool)
+
+  field-one : has_colon t ≡ false → length (numbers_of field) ≡ 1
+  field-one none = grind (arith, cases_Bool, nat_tests, colon-first, field-len)
+
+  plain-known : has_colon t ≡ false → is_color_code (code t) ≡ false → Known t
+  plain-known none plain =
+      known-by t (with_code (code t))
+      (λ p. read-one t is (plain-taken none plain) p
+      ∙ field-code p (numbers_of field) (field-one none) (ap is_color_code number-is ∙ plain)
+      ∙ ap (λ n. alone (with_code n p)) number-is)
+      (λ p. rw (kind-code t known) (rw plain at (row (code t)).sets p))
+      (λ end. rw (sym (plain-end none) ∙ end) at (row (code t)).ends)
+
+  -- ---- colons
+
+  colon-code : has_colon t ≡ true
+      → ((code t == 4) || is_color_code (code t)) ≡ true
+  unfolding taken_fields
+  colon-code colon =
+      let some = taken-some t known in
+      grind (arith, cases_Bool, nat_tests)
+
+  colon-taken : has_colon t ≡ true → taken_fields t ≡ 1
+  unfolding taken_fields
+  colon-taken colon =
+      let some = taken-some t known in
+      grind (arith, cases_Bool, nat_tests)
+
+  colon-read : has_colon t ≡ true → (p : Pen)
+      → read t p ≡ alone (with_parts (code t) (drop 1 (numbers_of field)) p)
+  colon-read colon p =
+      let all = colon-first t is.range in
+      let len = field-len t is in
+      let more : (length (numbers_of field) == 1) ≡ false =
+      grind (arith, cases_Bool, nat_tests) in
+      read-one t is (colon-taken colon) p
+      ∙ field-parts p (numbers_of field) more
+      ∙ ap (λ n. alone (with_parts n (drop 1 (numbers_of field)) p)) number-is
+
+  colon-known : has_colon t ≡ true → Known t
+  colon-known colon = elim (cases_Bool (code t == 4)) [
+    | inl four ↦
+        let same : code t ≡ 4 = eqb-true (code t) 4 four in
+        known-by t (with_parts 4 (drop 1 (numbers_of field)))
+        (λ p. colon-read colon p
+        ∙ ap (λ n. alone (with_parts n (drop 1 (numbers_of field)) p)) same)
+        (λ p. rw (kind-code t known, same) (underline-sets (drop 1 (numbers_of field)) p))
+        (λ end. underline-ends (drop 1 (numbers_of field))
+        (zeros-part t is.range (end-zeros t colon end)))
+    | inr other ↦
+        let color : is_color_code (code t) ≡ true =
+        ap (λ b. b || is_color_code (code t)) (sym other) ∙ colon-code colon in
+        let col = color_of (drop 1 (numbers_of field)) in
+        known-by t (with_color (code t) col)
+        (λ p. colon-read colon p
+        ∙ ap alone (color-parts (code t) (drop 1 (numbers_of field)) p color))
+        (λ p. rw (kind-code t known) (color-sets (code t) col color p))
+        (λ end. absurd (true≢false (sym end ∙ colon-other t colon other)))
+  ]
+
+  -- ---- a colour behind semicolons
+
+  color-taken : has_colon t ≡ false → is_color_code (code t) ≡ true
+      → taken_fields t ≡ color_fields t (code (drop 1 (details t)))
+  unfolding taken_fields
+  color-taken none color = grind (arith, cases_Bool)
+
+  color-first : has_colon t ≡ false → is_color_code (code t) ≡ true → (p : Pen)
+      → with_field (alone p) (numbers_of field) ≡ record { pen = p; color = code t ∷ [] }
+  color-first none color p = grind (arith, cases_Bool, nat_tests, field-color, field-one, number-is)
+
+  abbrev rest : List ℕ
+  rest = drop 1 (details t)
+
+  rest-range : InRange rest
+  rest-range = drop-all (is_in_range 0x30 0x3B) 1 (details t) (details-range t is.range)
+
+  mode-is : (mode : ℕ) → (code rest == mode) ≡ true → mode < 255 → first_number rest ≡ mode
+  mode-is mode same small =
+      code-same mode (first_number rest) (sym (eqb-true (code rest) mode same)
+      ∙ code-first rest rest-range) (omega arith)
+
+  -- as many fields as the colour takes
+  color-parts-of : (n : ℕ) → has_colon t ≡ false → taken_fields t ≡ n + 1 → 1 ≤ n
+      → length (fields n t) < length t
+      → (between 0x3B t ≡ field ∷ between 0x3B rest) × (length (between 0x3B rest) ≡ n)
+  color-parts-of n none taken some more =
+      let many = fields-many n t some more in
+      let few = fields-few (n + 1) t (omega arith)
+      (own-fields t (n + 1) is taken (omega arith)) in
+      let all = between-rest t is.range none (omega arith) in
+      let len : length (between 0x3B t) ≡ length (between 0x3B rest) + 1 =
+      ap length all ∙ omega arith in
+      (all, omega arith)
+
+  indexed-known : has_colon t ≡ false → is_color_code (code t) ≡ true → taken_fields t ≡ 3
+      → (code rest == 5) ≡ true → length (fields 2 t) < length t → Known t
+  indexed-known none color taken five more =
+      let parts = color-parts-of 2 none taken (omega arith) more in
+      let (z, zs) = two-of (between 0x3B rest) parts.1 in
+      let y = first_field rest in
+      let col = color_of (5 ∷ first_of (numbers_of z) ∷ []) in
+      let all : between 0x3B t ≡ field ∷ y ∷ z ∷ [] =
+      parts.0 ∙ ap (λ fs. field ∷ fs) zs in
+      known-by t (with_color (code t) col)
+      (λ p. ap (λ fs. fold with_field (alone p) (map numbers_of fs)) all
+      ∙ ap (λ r. with_field (with_field r (numbers_of y)) (numbers_of z)) (color-first none color p)
+      ∙ indexed p (code t) (numbers_of y) (numbers_of z) (mode-is 5 five (omega arith)))
+      (λ p. rw (kind-code t known) (color-sets (code t) col color p))
+      (λ end. absurd (true≢false (sym end ∙ plain-end none ∙ color-open (code t) color)))
+
+  direct-known : has_colon t ≡ false → is_color_code (code t) ≡ true → taken_fields t ≡ 5
+      → (code rest == 2) ≡ true → length (fields 4 t) < length t → Known t
+  direct-known none color taken two more =
+      let parts = color-parts-of 4 none taken (omega arith) more in
+      let (r, g, b, zs) = four-of (between 0x3B rest) parts.1 in
+      let y = first_field rest in
+      let col = color_of (2 ∷ first_of (numbers_of r) ∷ first_of (numbers_of g)
+      ∷ first_of (numbers_of b) ∷ []) in
+      let all : between 0x3B t ≡ field ∷ y ∷ r ∷ g ∷ b ∷ [] =
+      parts.0 ∙ ap (λ fs. field ∷ fs) zs in
+      known-by t (with_color (code t) col)
+      (λ p. ap (λ fs. fold with_field (alone p) (map numbers_of fs)) all
+      ∙ ap (λ r0. with_field (with_field (with_field (with_field r0 (numbers_of y)) (numbers_of r))
+      (numbers_of g)) (numbers_of b)) (color-first none color p)
+      ∙ direct p (code t) (numbers_of y) (numbers_of r) (numbers_of g) (numbers_of b)
+      (mode-is 2 two (omega arith)))
+      (λ p. rw (kind-code t known) (color-sets (code t) col color p))
+      (λ end. absurd (true≢false (sym end ∙ plain-end none ∙ color-open (code t) color)))
+
+  color-known : has_colon t ≡ false → is_color_code (code t) ≡ true → Known t
+  color-known none color =
+      let taken = color-taken none color in
+      elim (color-cases t (code rest) (ap (λ n. n == 0) (sym taken) ∙ taken-some t known)) [
+        | inl (five, three, more) ↦ indexed-known none color (taken ∙ three) five more
+        | inr (two, five, more) ↦ direct-known none color (taken ∙ five) two more
+      ]
+
+  pub all-known : Known t
+  all-known = grind (arith, cases_Bool, nat_tests, has_colon, colon-known, color-known, plain-known)
+
+  -- one that takes all back is an end
+  pub reset-end : (number (kind_of t) == number Reset) ≡ true → is_end t ≡ true
+  unfolding is_color_code is_ending_code
+  reset-end reset =
+      let zero : code t ≡ 0 = eqb-true (code t) 0 (sym (kind-reset (code t))
+      ∙ ap (λ k. number k == number Reset) (sym (kind-code t known)) ∙ reset) in
+      elim (cases_Bool (has_colon t)) [
+        | inl colon ↦ absurd (true≢false (sym (colon-code colon)
+            ∙ ap (λ c. (c == 4) || is_color_code c) zero))
+        | inr none ↦ plain-end none ∙ ap is_ending_code zero
+      ]

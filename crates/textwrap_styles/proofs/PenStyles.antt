@@ -1,24 +1,21 @@
 -- What is open gives, set anew, the pen and the link of all sequences, and what ends it gives a plain
 -- pen and no link.
-use Rattle.textwrap_text.proofs.Common.{All, All-head, All-tail, arith, cases_Bool, cond}
-use Rattle.textwrap_text.proofs.Common.{eqb-true, false, flat_map, fold, length, ltb-false}
-use Rattle.textwrap_text.proofs.Common.{nil_from_length, refl, sym, true, ◌++◌, ◌==◌, ◌∙◌, ◌∷◌, ◌≡◌}
-use Rattle.textwrap_text.proofs.Common.{[], Bool, List, ap, ℕ}
-use Rattle.std.proofs.lemmas.List.Sums.{fold-append}
-use Rattle.textwrap_styles.proofs.Common.{has_target, is_link, is_style, link_end, open_link}
-use Rattle.textwrap_styles.proofs.Common.{open_styles, style_end, style_parameters}
-use Rattle.textwrap_styles.proofs.OpenLinks.{link-plain, next_link, open_link-push}
+use Rattle.textwrap_text.proofs.Common.{All, All-head, All-tail, Bool, List, [], ap, arith}
+use Rattle.textwrap_text.proofs.Common.{cases_Bool, cond, eqb-true, false, flat_map, fold, length}
+use Rattle.textwrap_text.proofs.Common.{ltb-false, nil_from_length, refl, sym, true, ℕ, ◌++◌, ◌==◌}
+use Rattle.textwrap_text.proofs.Common.{◌∙◌, ◌∷◌, ◌≡◌}
+use Rattle.textwrap_styles.proofs.Common.{Pen, Rendition, apply, fold-append, has_target, is_link}
+use Rattle.textwrap_styles.proofs.Common.{is_style, link_end, open_link, open_styles, plain_pen}
+use Rattle.textwrap_styles.proofs.Common.{plain_rendition, rendition_of, settings, settings_of}
+use Rattle.textwrap_styles.proofs.Common.{style_end, style_parameters, with_sequence}
 use Rattle.textwrap_styles.proofs.OpenSettings.{after-more}
-use Rattle.textwrap_styles.proofs.PenOpen.{open-pen, pen_by, run-append}
-use Rattle.textwrap_styles.proofs.PenRuns.{apply-changes}
-use Rattle.textwrap_styles.proofs.PenSequences.{parameters-pen}
+use Rattle.textwrap_styles.proofs.PenOpen.{open-pen, parameters-pen, pen_by, run-append}
 use Rattle.textwrap_styles.proofs.SequenceTexts.{closing_sequences}
+use Rattle.textwrap_styles.proofs.Sequences.{link-plain, next_link, open_link-push}
 use Rattle.textwrap_styles.proofs.WrittenSettings.{all-settings, open-back, styles-no_link}
-use Rattle.textwrap_styles.specs.Pen.{Pen, apply, plain_pen, with_code, with_field}
-use Rattle.textwrap_styles.specs.Penned.{Rendition, plain_rendition, rendition_of, with_link}
-use Rattle.textwrap_styles.specs.Penned.{with_sequence, with_style}
-use Rattle.textwrap_styles.specs.Settings.{settings}
-use Rattle.textwrap_styles.specs.Styles.{link_target, settings_of}
+use Rattle.textwrap_styles.specs.Pen.{with_code, with_field}
+use Rattle.textwrap_styles.specs.Penned.{with_link, with_style}
+use Rattle.textwrap_styles.specs.Styles.{link_target}
 
 -- ---- the pen and the link, each by itself
 
@@ -70,7 +67,7 @@ sequences-pen [] p = refl
 sequences-pen (s ∷ before) p =
     ap (λ q. fold with_style q before) (sequence-pen s p)
     ∙ sequences-pen before (pen_by p (settings_of s))
-    ∙ sym (run-append apply apply-changes p (settings_of s) (flat_map settings_of before))
+    ∙ sym (run-append p (settings_of s) (flat_map settings_of before))
 
 -- what they set gives the pen that all sequences gave
 open-styles-pen : (before : List (List ℕ))

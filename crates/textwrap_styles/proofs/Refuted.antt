@@ -1,12 +1,12 @@
 -- What the wrong bodies of must-fail/ answer on worked rows, and that no pen allows it: each theorem
 -- bears the name of its edit.
-use Rattle.textwrap_text.proofs.Common.{ap, Bool, codes, false, List, map, true, true≢false}
-use Rattle.textwrap_text.proofs.Common.{ℕ, ◌∷◌, ◌≡◌, []}
-use Rattle.textwrap_styles.specs.Pen.{Color, Direct, Indexed, Other, Own, Pen, plain_pen, with_code}
-use Rattle.textwrap_styles.specs.Pen.{with_field}
-use Rattle.textwrap_styles.specs.Penned.{PennedCharacter, penned_lines, penned_text}
-use Rattle.textwrap_styles.specs.Penned.{plain_rendition}
+use Rattle.textwrap_text.proofs.Common.{Bool, List, [], ap, codes, false, map, true, true≢false, ℕ}
+use Rattle.textwrap_text.proofs.Common.{◌∷◌, ◌≡◌}
+use Rattle.textwrap_styles.proofs.Common.{Color, Pen, penned_lines, penned_text, plain_pen}
+use Rattle.textwrap_styles.proofs.Common.{plain_rendition}
 use Rattle.std.specs.Str.{chars}
+use Rattle.textwrap_styles.specs.Pen.{Direct, Indexed, Other, Own, with_code, with_field}
+use Rattle.textwrap_styles.specs.Penned.{PennedCharacter}
 use lib.Utf8.{encode}
 
 abbrev first_pen : List PennedCharacter → Pen

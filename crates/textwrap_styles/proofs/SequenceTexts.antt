@@ -1,21 +1,24 @@
 -- Texts of whole sequences and texts between them: their units, and what they show.
-use Rattle.textwrap_text.proofs.Common.{arith, chars_from_encodes, encode_utf8_all, flat_map-append}
-use Rattle.textwrap_text.proofs.Common.{All, All-append, IsUtf8-append, chars-append, encodes-chars}
-use Rattle.textwrap_text.proofs.Common.{All-cons, IsUtf8-nil, append-nil, cases_Bool, chars-nil, []}
-use Rattle.textwrap_text.proofs.Common.{All-head, All-nil, All-tail, Bool, IsUtf8, flat_map, length}
-use Rattle.textwrap_text.proofs.Common.{List, ap, codes, cond, false, fold, refl, subst, take, true}
-use Rattle.textwrap_text.proofs.Common.{inl, map, sym, ℕ, ◌++◌, ◌==◌, ◌∙◌, ◌∷◌, ◌≡◌}
+use Rattle.textwrap_text.proofs.Common.{All, All-append, All-cons, All-head, All-nil, All-tail}
+use Rattle.textwrap_text.proofs.Common.{Bool, IsUtf8, IsUtf8-append, IsUtf8-nil, List, Sequence}
+use Rattle.textwrap_text.proofs.Common.{TextUnit, Visible, [], ap, append-nil, arith, cases_Bool}
+use Rattle.textwrap_text.proofs.Common.{characters, chars-append, chars-nil, chars_from_encodes}
+use Rattle.textwrap_text.proofs.Common.{codes, cond, encode_utf8_all, encodes-chars, false}
+use Rattle.textwrap_text.proofs.Common.{flat_map, flat_map-append, fold, inl, length, map, refl}
+use Rattle.textwrap_text.proofs.Common.{subst, sym, take, true, units, visible_of, ℕ, ◌++◌, ◌==◌}
+use Rattle.textwrap_text.proofs.Common.{◌∙◌, ◌∷◌, ◌≡◌}
+use Rattle.textwrap_styles.proofs.Common.{IsWhole, Rendition, closing, concat, link_end, open_link}
+use Rattle.textwrap_styles.proofs.Common.{open_styles, penned_text, plain_rendition, rendition_of}
+use Rattle.textwrap_styles.proofs.Common.{sequence_of, sequences, style_end, with_sequence}
+use Rattle.std.proofs.lemmas.Bool.{agree_below_at}
 use Rattle.std.specs.Str.{chars}
-use Rattle.textwrap_text.specs.Units.{characters, visible_of, Sequence, TextUnit, Visible, visible}
-use Rattle.textwrap_styles.proofs.Common.{agree_below_at, units-append, IsWholeText, open_styles}
-use Rattle.textwrap_styles.proofs.Common.{sequence_of, open_link, sequences, link_end}
-use Rattle.textwrap_styles.proofs.Common.{style_end, IsWhole, concat, units, ends}
-use Rattle.textwrap_styles.specs.Styles.{closing}
-use Rattle.textwrap_text.proofs.Texts.{utf8-front, utf8-back}
-use Rattle.textwrap_text.proofs.Units.Texts.{units_unique, units-tile}
+use Rattle.textwrap_layout.proofs.Text.Paragraphs.{units-append}
+use Rattle.textwrap_styles.specs.Penned.{penned_units}
+use Rattle.textwrap_styles.specs.Styled.{IsWholeText}
+use Rattle.textwrap_text.proofs.Texts.{utf8-back, utf8-front}
+use Rattle.textwrap_text.proofs.Units.Texts.{units-tile, units_unique}
+use Rattle.textwrap_text.specs.Units.{ends, visible}
 use lib.Utf8.{encode}
-use Rattle.textwrap_styles.specs.Penned.{Rendition, penned_text, penned_units, plain_rendition}
-use Rattle.textwrap_styles.specs.Penned.{rendition_of, with_sequence}
 
 -- ---- the units of texts of whole sequences that are put together
 

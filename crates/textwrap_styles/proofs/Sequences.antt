@@ -1,27 +1,32 @@
--- Escape sequences, what they do, and the reader of them.
-use Rattle.textwrap_text.proofs.Common.{chars_from_encodes, take-append-drop, chars_past_char, Bool}
-use Rattle.textwrap_text.proofs.Common.{encode_utf8_all, IsCharBoundary, length-append, IsUtf8-drop}
-use Rattle.textwrap_text.proofs.Common.{append_assoc, chars-append, slice_range, starts_with, arith}
-use Rattle.textwrap_text.proofs.Common.{append-nil, cases_Bool, and_parts, drop-drop, ends_with, []}
-use Rattle.textwrap_text.proofs.Common.{flat_map, list_all, take_all, taken_in, drop_at, next_of, ℕ}
-use Rattle.textwrap_text.proofs.Common.{take_at, IsUtf8, Option, length, nat_eq, codes, false, List}
-use Rattle.textwrap_text.proofs.Common.{subst, None, Some, cond, drop, refl, take, true, ◌&&◌, ◌++◌}
-use Rattle.textwrap_text.proofs.Common.{◌==◌, ◌||◌, Bor, eqb, suc, sym, ◌+◌, ◌-◌, ◌∙◌, ◌∷◌, ◌≡◌, ap}
-use Rattle.textwrap_text.proofs.Common.{◌≢◌}
-use Rattle.textwrap_styles.proofs.Common.{starts_with-rest, style_parameters, stripped_suffix}
-use Rattle.textwrap_styles.proofs.Common.{NoCharPasses, encode_ascii, MatchOption, encode_utf8}
-use Rattle.textwrap_styles.proofs.Common.{is_in_range, link_fields, sequence_of, read-start, State}
-use Rattle.textwrap_styles.proofs.Common.{option_or, read-next, sequences, NonePass}
-use Rattle.textwrap_styles.proofs.Common.{is_style, list_any, read-all, is_link, IsRead, units}
-use Rattle.textwrap_text.proofs.Lists.Parts.{ends_with-after, ends_with-other, ends_with-true}
-use Rattle.std.specs.Str.Pattern.{FindsTextSuffix, StripsSuffix}
-use Rattle.std.specs.Prelude.{chars}
-use Rattle.textwrap_text.proofs.Units.Reading.{read-ahead, taken-step, read-none}
-use Rattle.textwrap_text.specs.declared.escapes.State.TheVariants.{Escape, Text}
-use Rattle.textwrap_text.proofs.Texts.{ascii_seam, AsciiSeam, cut_text, IsCut}
-use Rattle.std.proofs.Math.Seq.{drop-append-add}
+-- Escape sequences, what they do, the reader of them, and the link that is open after some.
+use Rattle.textwrap_text.proofs.Common.{All, All-drop, All-weaker, Bool, Bor, IsCharBoundary}
+use Rattle.textwrap_text.proofs.Common.{IsUtf8, IsUtf8-drop, List, None, Option, Some, []}
+use Rattle.textwrap_text.specs.declared.escapes.State.{State}
+use Rattle.textwrap_text.proofs.Common.{and_parts, ap, append-nil, append_assoc, arith, cases_Bool}
+use Rattle.textwrap_text.proofs.Common.{chars-append, chars_from_encodes, chars_past_char, codes}
+use Rattle.textwrap_text.proofs.Common.{cond, drop, drop-append-add, drop-drop, drop_at}
+use Rattle.textwrap_text.proofs.Common.{encode_ascii, encode_utf8_all, ends_with, eqb, escape_len}
+use Rattle.textwrap_text.proofs.Common.{false, filter, filter-append, flat_map, length}
+use Rattle.textwrap_text.proofs.Common.{length-append, list_all, list_any, nat_eq, next_of, refl}
+use Rattle.textwrap_text.proofs.Common.{slice_range, starts_with, subst, suc, sym, take}
+use Rattle.textwrap_text.proofs.Common.{take-append-drop, take_all, take_at, taken_in, true, units}
+use Rattle.textwrap_text.proofs.Common.{ℕ, ◌&&◌, ◌++◌, ◌+◌, ◌-◌, ◌==◌, ◌||◌, ◌∙◌, ◌∷◌, ◌≡◌, ◌≢◌}
+use Rattle.textwrap_styles.proofs.Common.{All-filter, chars, has_target, is_in_range, is_link}
+use Rattle.textwrap_styles.proofs.Common.{is_style, open_link, sequence_of, sequences}
+use Rattle.textwrap_styles.proofs.Common.{style_parameters}
+use Rattle.std.proofs.lemmas.List.Elements.{filter_passes}
 use Rattle.std.proofs.lemmas.Str.{IsCharBoundary-from_rest}
-use Rattle.textwrap_text.specs.Units.{escape_len}
+use Rattle.std.specs.Option.{MatchOption, option_or}
+use Rattle.std.specs.Prelude.{encode_utf8}
+use Rattle.std.specs.Str.{NoCharPasses, NonePass}
+use Rattle.std.specs.Str.Pattern.{FindsTextSuffix, StripsSuffix}
+use Rattle.textwrap_styles.specs.Styles.{link_fields}
+use Rattle.textwrap_text.proofs.Lists.Parts.{ends_with-after, ends_with-other, ends_with-true}
+use Rattle.textwrap_text.proofs.Lists.Parts.{last_one-push, starts_with-rest, stripped_suffix}
+use Rattle.textwrap_text.proofs.Texts.{AsciiSeam, IsCut, ascii_seam, cut_text}
+use Rattle.textwrap_text.proofs.Units.Reading.{IsRead, read-ahead, read-all, read-next, read-none}
+use Rattle.textwrap_text.proofs.Units.Reading.{read-start, taken-step}
+use Rattle.textwrap_text.specs.declared.escapes.State.TheVariants.{Escape, Text}
 use Rattle.textwrap_words.proofs.Word.Breaking.{units_past-skip}
 
 -- ---- a style is no link
@@ -272,3 +277,25 @@ module _ (text before after : List ℕ) (utf8 : IsUtf8 text)
       (IsUtf8-drop text end_of utf8 end-boundary) (sym left) in
       let none = sequences_in-plain plain.0 (27 ∷ chars after) plain.2 in
       grind (arith, characters, sequences_in-escape, sequence, are, later, none)
+
+-- the link after one more sequence
+abbrev pub next_link : List (List ℕ) → List ℕ → List (List ℕ)
+next_link link s = cond (is_link s) (filter has_target (s ∷ [])) link
+
+pub open_link-push : (before : List (List ℕ)) (s : List ℕ)
+    → open_link (before ++ s ∷ []) ≡ next_link (open_link before) s
+open_link-push before s = grind (arith, cases_Bool, filter-append, last_one-push, append-nil)
+
+-- it is one of the sequences, so what holds of these holds of it
+pub link-among : (P : List ℕ → Type 0) (before : List (List ℕ)) → All P (filter is_link before)
+    → All P (open_link before)
+link-among P before all =
+    let links = filter is_link before in
+    All-filter has_target P (drop (length links - 1) links) (All-drop P (length links - 1) links all)
+
+-- and it sets no style
+pub link-plain : (before : List (List ℕ)) → All (λ s. is_style s ≡ false) (open_link before)
+link-plain before =
+    link-among (λ s. is_style s ≡ false) before
+    (All-weaker (λ s. is_link s ≡ true) (λ s. is_style s ≡ false) (λ s is. link-no_style s is)
+    (filter is_link before) (filter_passes is_link before))

@@ -1,18 +1,17 @@
--- The texts of settings: what the first fields of parameters keep, and that a setting is its own
--- first one.
-use Rattle.textwrap_text.proofs.Common.{All-cons, and_parts, cases_Bool, nat_tests, starts_with, []}
-use Rattle.textwrap_text.proofs.Common.{All-nil, arith, codes, length, list_all, nat_eq, take_all}
-use Rattle.textwrap_text.proofs.Common.{All, Bool, List, cond, drop, false, refl, subst, take, true}
-use Rattle.textwrap_text.proofs.Common.{ap, suc, sym, zero, ◌+◌, ◌-◌, ◌<◌, ◌==◌, ◌∙◌, ◌∷◌, ◌≡◌, ◌≢◌}
-use Rattle.textwrap_text.proofs.Common.{ℕ, ◌≤◌}
+-- The fields of parameters, as the table of the settings and as a pen read them, and settings, each
+-- of which is its own first one.
+use Rattle.textwrap_text.proofs.Common.{All, All-cons, All-nil, Bool, List, [], and_parts, ap}
+use Rattle.textwrap_text.proofs.Common.{arith, cases_Bool, codes, cond, drop, false, length}
+use Rattle.textwrap_text.proofs.Common.{list_all, map, min, nat_eq, nat_tests, not, refl, rules}
+use Rattle.textwrap_text.proofs.Common.{starts_with, suc, sym, take, take_all, take_while, true}
+use Rattle.textwrap_text.proofs.Common.{zero, ℕ, ◌++◌, ◌+◌, ◌-◌, ◌<◌, ◌==◌, ◌∙◌, ◌∷◌, ◌≡◌, ◌≢◌, ◌≤◌}
+use Rattle.textwrap_styles.proofs.Common.{between, digits_value, fields, first_of, is_ascii_digit}
+use Rattle.textwrap_styles.proofs.Common.{is_in_range, numbers_of, settings}
 use Rattle.std.proofs.lemmas.List.Sums.{take_while-cons}
-use Rattle.std.specs.Char.{is_ascii_digit}
-use Rattle.std.specs.Prelude.{min, nat_le}
-use Rattle.std.specs.Str.Parse.{digits_value}
-use Rattle.std.specs.List.{prefix_len, take_while}
-use Rattle.textwrap_styles.proofs.Common.{is_in_range}
-use Rattle.textwrap_styles.specs.Settings.{color_fields, first_setting, settings_past, taken_fields}
-use Rattle.textwrap_styles.specs.Settings.{code, details, fields, settings}
+use Rattle.std.specs.Prelude.{nat_le}
+use Rattle.textwrap_styles.specs.Pen.{with_first}
+use Rattle.textwrap_styles.specs.Settings.{code, color_fields, details, first_setting}
+use Rattle.textwrap_styles.specs.Settings.{settings_past, taken_fields}
 
 -- ---- the first fields of parameters
 
@@ -31,8 +30,7 @@ fields-again n (c ∷ cs) = grind (arith, cases_Bool, fields-again n cs, fields-
 pub fields-all : (p : ℕ → Bool) (n : ℕ) (t : List ℕ) → list_all p t ≡ true
     → list_all p (fields n t) ≡ true
 fields-all p n [] all = refl
-fields-all p n (c ∷ cs) all =
-    grind (arith, cases_Bool, fields-all p n cs, fields-all p (n - 1) cs)
+fields-all p n (c ∷ cs) all = search (rules, arith, fields-all p n cs, fields-all p (n - 1) cs)
 
 -- a semicolon is no digit
 semicolon-no_digit : (c : ℕ) → (c == 0x3B) ≡ true → is_ascii_digit c ≡ false
@@ -63,15 +61,7 @@ fields-code n t = ap (λ ds. min 255 (digits_value 10 ds)) (fields-digits n t)
 pub details-cons : (c : ℕ) (cs : List ℕ)
     → details (c ∷ cs) ≡ cond (is_ascii_digit c) (details cs) (c ∷ cs)
 unfolding details
-details-cons c cs = by (is_ascii_digit c)
-  where
-    by : (b : Bool) → drop (cond b (1 + prefix_len is_ascii_digit cs) 0) (c ∷ cs)
-        ≡ cond b (drop (prefix_len is_ascii_digit cs) cs) (c ∷ cs)
-    by true =
-        let next : 1 + prefix_len is_ascii_digit cs ≡ suc (prefix_len is_ascii_digit cs) =
-        omega arith in
-        ap (λ k. drop k (c ∷ cs)) next
-    by false = refl
+details-cons c cs = grind (arith, cases_Bool, nat_tests)
 
 pub details-nil : details [] ≡ []
 unfolding details
@@ -123,45 +113,26 @@ fields-colon n (c ∷ cs) = grind (arith, cases_Bool, nat_tests)
 -- the number behind the first of them
 fields-mode : (n : ℕ) (t : List ℕ) → 2 ≤ n → code (drop 1 (fields n t)) ≡ code (drop 1 t)
 fields-mode n [] more = refl
-fields-mode n (c ∷ cs) more =
-    grind (arith, cases_Bool, nat_tests, fields-code n cs, fields-code (n - 1) cs)
+fields-mode n (c ∷ cs) more = grind (arith, cases_Bool, nat_tests, fields-code)
 
 -- so many of one more
 fields-same : (n : ℕ) (t : List ℕ) → 1 ≤ n → fields n (fields (n + 1) t) ≡ fields n t
 fields-same n [] some = refl
-fields-same n (c ∷ cs) some =
-    let less : n - 1 + 1 ≡ n = omega arith in
-    let others : 1 ≤ n - 1 → fields (n - 1) (fields n cs) ≡ fields (n - 1) cs =
-    λ more. ap (λ k. fields (n - 1) (fields k cs)) (sym less) ∙ fields-same (n - 1) cs more in
-    grind (arith, cases_Bool, nat_tests, fields-same n cs some, others)
+fields-same n (c ∷ cs) some = search (rules, arith, fields-same (n - 1) cs, fields-same n cs some)
 
 -- which are longer, where so many are not all
 fields-longer : (n : ℕ) (t : List ℕ) → 1 ≤ n → length (fields n t) < length t
     → length (fields n t) < length (fields (n + 1) t)
 fields-longer n [] some more = absurd (omega arith)
 fields-longer n (c ∷ cs) some more =
-    let less : n - 1 + 1 ≡ n = omega arith in
-    let others : 1 ≤ n - 1 → length (fields (n - 1) cs) < length cs
-    → length (fields (n - 1) cs) < length (fields n cs) =
-    λ one all. subst (λ k. length (fields (n - 1) cs) < length (fields k cs)) less
-    (fields-longer (n - 1) cs one all) in
-    grind (arith, cases_Bool, nat_tests, fields-longer n cs some, others)
+    grind (arith, cases_Bool, nat_tests, fields-longer (n - 1) cs, fields-longer n cs some)
 
 -- ---- the first setting is its own first one
 
 color-again : (t : List ℕ) (mode n : ℕ) → color_fields t mode ≡ n → n ≢ 0
     → color_fields (fields n t) mode ≡ n
 unfolding color_fields
-color-again t mode n is some =
-    grind (
-      arith,
-      cases_Bool,
-      nat_tests,
-      fields-same 4 t (omega arith),
-      fields-longer 4 t (omega arith),
-      fields-same 2 t (omega arith),
-      fields-longer 2 t (omega arith),
-    )
+color-again t mode n is some = grind (arith, cases_Bool, nat_tests, fields-same, fields-longer)
 
 color-least : (t : List ℕ) (mode : ℕ) → color_fields t mode ≢ 0 → 2 ≤ color_fields t mode
 unfolding color_fields
@@ -170,29 +141,24 @@ color-least t mode some = grind (arith, cases_Bool, nat_tests)
 pub taken-again : (t : List ℕ) (n : ℕ) → n ≡ taken_fields t → n ≢ 0 → taken_fields (fields n t) ≡ n
 unfolding taken_fields
 taken-again t n is some =
-    let mode = code (drop 1 (details t)) in
-    grind (
+    search (
+      rules,
       arith,
-      cases_Bool,
-      nat_tests,
-      fields-code n t,
-      fields-details n t,
-      fields-colon n (details t),
-      fields-mode n (details t),
-      color-again t mode n,
-      color-least t mode,
+      fields-code,
+      fields-details,
+      fields-colon,
+      fields-mode,
+      color-again,
+      color-least,
     )
 
 pub first-again : (t : List ℕ) → first_setting (first_setting t) ≡ first_setting t
 unfolding first_setting
-first-again t =
-    let n = taken_fields t in
-    grind (arith, cases_Bool, nat_tests, taken-again t n refl, fields-again n t)
+first-again t = grind (arith, cases_Bool, nat_tests, taken-again, fields-again)
 
 pub first-take : (t : List ℕ) → take (length (first_setting t)) t ≡ first_setting t
 unfolding first_setting
-first-take t =
-    grind (arith, cases_Bool, fields-take (taken_fields t) t, take_all (length t) t (omega arith))
+first-take t = grind (arith, cases_Bool, nat_tests, fields-take, take_all)
 
 pub first-len : (t : List ℕ) → length (first_setting t) ≤ length t
 unfolding first_setting
@@ -261,3 +227,128 @@ past-settings (suc n) (c ∷ cs) all =
 pub are-settings : (t : List ℕ) → list_all (is_in_range 0x30 0x3B) t ≡ true
     → All IsSetting (settings t)
 are-settings t all = past-settings 0 (0x3B ∷ t) all
+
+-- ---- texts between characters
+
+pub between-some : (sign : ℕ) (t : List ℕ) → 1 ≤ length (between sign t)
+between-some sign [] = omega arith
+between-some sign (c ∷ cs) = grind (arith, cases_Bool, nat_tests, between-some sign cs)
+
+texts-len : (c : ℕ) (texts : List (List ℕ)) → 1 ≤ length texts
+    → length (with_first c texts) ≡ length texts
+texts-len c [] some = absurd (omega arith)
+texts-len c (t ∷ texts) some = refl
+
+first-append : (c : ℕ) (xs ys : List (List ℕ)) → 1 ≤ length xs
+    → with_first c (xs ++ ys) ≡ with_first c xs ++ ys
+first-append c [] ys some = absurd (omega arith)
+first-append c (t ∷ texts) ys some = refl
+
+pub between-append : (a b : List ℕ)
+    → between 0x3B (a ++ 0x3B ∷ b) ≡ between 0x3B a ++ between 0x3B b
+between-append [] b = refl
+between-append (c ∷ a) b = search (rules, arith, between-append a b, between-some, first-append)
+
+-- ---- how many there are
+
+pub fields-few : (n : ℕ) (t : List ℕ) → 1 ≤ n → fields n t ≡ t → length (between 0x3B t) ≤ n
+fields-few n [] some all = omega arith
+fields-few n (c ∷ cs) some all =
+    search (rules, arith, fields-few n cs some, fields-few (n - 1) cs, texts-len, between-some)
+
+pub fields-many : (n : ℕ) (t : List ℕ) → 1 ≤ n → length (fields n t) < length t
+    → n < length (between 0x3B t)
+fields-many n [] some more = absurd (omega arith)
+fields-many n (c ∷ cs) some more =
+    search (rules, arith, fields-many n cs some, fields-many (n - 1) cs, texts-len, between-some)
+
+drop-past : (c : ℕ) (xs cs : List ℕ)
+    → drop (length (c ∷ xs) + 1) (c ∷ cs) ≡ drop (length xs + 1) cs
+drop-past c xs cs = grind (arith, cases_Bool, nat_tests)
+
+-- a semicolon follows them, where they are not all
+pub fields-split : (n : ℕ) (t : List ℕ) → length (fields n t) < length t
+    → t ≡ fields n t ++ 0x3B ∷ drop (length (fields n t) + 1) t
+fields-split n [] more = absurd (omega arith)
+fields-split n (c ∷ cs) more =
+    grind (arith, cases_Bool, nat_tests, fields-split n cs, fields-split (n - 1) cs, drop-past)
+
+-- ---- the number that parameters begin with
+
+abbrev pub first_text : List (List ℕ) → List ℕ
+first_text [] = []
+first_text (t ∷ texts) = t
+
+pub first_text-first : (c : ℕ) (texts : List (List ℕ))
+    → first_text (with_first c texts) ≡ c ∷ first_text texts
+first_text-first c [] = refl
+first_text-first c (t ∷ texts) = refl
+
+pub text-cons : (sign c : ℕ) (t : List ℕ) → first_text (between sign (c ∷ t))
+    ≡ cond (c == sign) [] (c ∷ first_text (between sign t))
+text-cons sign c t = grind (arith, cases_Bool, first_text-first)
+
+-- the field that parameters begin with
+abbrev pub first_field : List ℕ → List ℕ
+first_field t = first_text (between 0x3B t)
+
+abbrev pub InRange : List ℕ → Type 0
+InRange t = list_all (is_in_range 0x30 0x3B) t ≡ true
+
+digit-step : (c : ℕ) (digits field : List ℕ) → is_in_range 0x30 0x3B c ≡ true
+    → digits ≡ first_text (between 0x3A field)
+    → cond (is_ascii_digit c) (c ∷ digits) []
+    ≡ first_text (between 0x3A (cond (c == 0x3B) [] (c ∷ field)))
+digit-step c digits field range are = grind (arith, cases_Bool, nat_tests, text-cons)
+
+digits-first : (t : List ℕ) → InRange t
+    → take_while is_ascii_digit t ≡ first_text (between 0x3A (first_field t))
+digits-first [] all = refl
+digits-first (c ∷ cs) all =
+    let parts = and_parts (is_in_range 0x30 0x3B c) (list_all (is_in_range 0x30 0x3B) cs) all in
+    take_while-cons is_ascii_digit c cs
+    ∙ digit-step c (take_while is_ascii_digit cs) (first_field cs) parts.0
+    (digits-first cs parts.1)
+    ∙ sym (ap (λ f. first_text (between 0x3A f)) (text-cons 0x3B c cs))
+
+pub first-value : (texts : List (List ℕ))
+    → first_of (map (digits_value 10) texts) ≡ digits_value 10 (first_text texts)
+first-value [] = refl
+first-value (t ∷ texts) = refl
+
+-- the first number of the first field
+abbrev pub first_number : List ℕ → ℕ
+first_number t = first_of (numbers_of (first_field t))
+
+pub code-first : (t : List ℕ) → InRange t → code t ≡ min 255 (first_number t)
+unfolding code
+code-first t all = grind (arith, cases_Bool, nat_tests, digits-first, first-value)
+
+-- ---- colons, and what follows a number without
+
+abbrev pub has_colon : List ℕ → Bool
+has_colon t = starts_with nat_eq (details t) (codes ":")
+
+pub colon-first : (t : List ℕ) → InRange t
+    → has_colon t ≡ not (length (between 0x3A (first_field t)) == 1)
+colon-first [] all = ap (λ l. starts_with nat_eq l (codes ":")) details-nil
+colon-first (c ∷ cs) all =
+    let parts = and_parts (is_in_range 0x30 0x3B c) (list_all (is_in_range 0x30 0x3B) cs) all in
+    let others = colon-first cs parts.1 in
+    let range = parts.0 in
+    let some = between-some 0x3A (first_field cs) in
+    grind (arith, cases_Bool, nat_tests, others, range, details-cons, first_text-first, some, texts-len)
+
+pub between-rest : (t : List ℕ) → InRange t → has_colon t ≡ false → 1 < length (between 0x3B t)
+    → between 0x3B t ≡ first_field t ∷ between 0x3B (drop 1 (details t))
+between-rest [] all none more = absurd (omega arith)
+between-rest (c ∷ cs) all none more =
+    let parts = and_parts (is_in_range 0x30 0x3B c) (list_all (is_in_range 0x30 0x3B) cs) all in
+    let range = parts.0 in
+    let some = between-some 0x3B cs in
+    let len = texts-len c (between 0x3B cs) some in
+    let rest = details-cons c cs in
+    let others : has_colon cs ≡ false → 1 < length (between 0x3B cs)
+    → between 0x3B cs ≡ first_field cs ∷ between 0x3B (drop 1 (details cs)) =
+    between-rest cs parts.1 in
+    grind (arith, cases_Bool, nat_tests, others, range, rest, len)

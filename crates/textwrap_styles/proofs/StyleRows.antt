@@ -1,15 +1,80 @@
--- Worked rows on what sequences leave open, and on what the visible characters of a text are written
--- with. In a text `\u{1b}` is ESC.
-use Rattle.textwrap_text.proofs.Common.{codes, false, refl, true, ◌∷◌, ◌≡◌, []}
-use Rattle.textwrap_styles.proofs.Common.{carried_lines, has_target, is_link, is_style, open_styles}
-use Rattle.textwrap_styles.proofs.Common.{Built, Slice}
-use Rattle.textwrap_styles.specs.Pen.{plain_pen, with_code, with_field}
-use Rattle.textwrap_styles.specs.Penned.{penned_lines, plain_rendition}
-use Rattle.textwrap_styles.specs.Settings.{code, color_fields, details, first_setting, is_color_code}
-use Rattle.textwrap_styles.specs.Settings.{is_end, is_ending_code, is_unknown, kind_of}
-use Rattle.textwrap_styles.specs.Settings.{kind_of_code, number, replaces, taken_fields, takes_back}
+-- Worked rows on what parameters do to the plain pen, on what sequences leave open, and on what the
+-- visible characters of a text are written with. In a text `\u{1b}` is ESC.
+use Rattle.textwrap_text.proofs.Common.{List, [], codes, false, refl, true, ℕ, ◌++◌, ◌∷◌, ◌≡◌}
+use Rattle.textwrap_styles.proofs.Common.{Pen, apply, carried_lines, has_target, is_link, is_style}
+use Rattle.textwrap_styles.proofs.Common.{open_settings, open_styles, penned_lines, plain_pen}
+use Rattle.textwrap_styles.proofs.Common.{plain_rendition, settings}
 use Rattle.std.specs.Str.{chars}
+use Rattle.textwrap_layout.specs.Paragraph.{Built, Slice}
+use Rattle.textwrap_styles.specs.Pen.{Direct, Indexed, Other, color_of, is_whole_color, with_code}
+use Rattle.textwrap_styles.specs.Pen.{with_color, with_field, with_parts}
+use Rattle.textwrap_styles.specs.Settings.{code, color_fields, details, first_setting}
+use Rattle.textwrap_styles.specs.Settings.{is_color_code, is_end, is_ending_code, is_unknown}
+use Rattle.textwrap_styles.specs.Settings.{kind_of, kind_of_code, number, replaces, taken_fields}
+use Rattle.textwrap_styles.specs.Settings.{takes_back}
 use lib.Utf8.{encode}
+
+abbrev Gives : List ℕ → Pen → Type 0
+Gives parameters pen = apply parameters plain_pen ≡ pen
+
+-- 22 ends bold and faint, and nothing else; 39 ends the foreground, and 49 the background; 24 ends
+-- every underline, but not its colour, which 59 ends
+ended : Gives (codes "1;2;3;22") (record plain_pen { italic = true })
+    × Gives (codes "31;42;39") (record plain_pen { background = Indexed 2 })
+    × Gives (codes "31;42;49") (record plain_pen { foreground = Indexed 1 })
+    × Gives (codes "4;58;5;9;24") (record plain_pen { underline_color = Indexed 9 })
+    × Gives (codes "21;58;5;9;59") (record plain_pen { underline = 2 })
+    × Gives (codes "4:3") (record plain_pen { underline = 3 })
+    × Gives (codes "4:3;4:0") plain_pen
+unfolding with_field with_code with_parts is_whole_color with_color color_of
+ended = (refl, refl, refl, refl, refl, refl, refl)
+
+-- colours of the table, and by red, green and blue, with a space of colours or without one between
+-- colons; what follows them is read on. A colour that is not whole does nothing, and takes what
+-- follows. 90 to 107 are the eight colours behind the first
+colors : Gives (codes "38;5;196;1") (record plain_pen { foreground = Indexed 196; bold = true })
+    × Gives (codes "48;2;1;2;3;7") (record plain_pen { background = Direct 1 2 3; inverse = true })
+    × Gives (codes "38:2::1:2:3;58:5:7")
+    (record plain_pen { foreground = Direct 1 2 3; underline_color = Indexed 7 })
+    × Gives (codes "48:2:4:5:6") (record plain_pen { background = Direct 4 5 6 })
+    × Gives (codes "38:3:1:2:3") (record plain_pen { foreground = Other (3 ∷ 1 ∷ 2 ∷ 3 ∷ []) })
+    × Gives (codes "1;38;2;31") (record plain_pen { bold = true })
+    × Gives (codes "91;102") (record plain_pen { foreground = Indexed 9; background = Indexed 10 })
+unfolding with_field with_code with_parts is_whole_color with_color color_of
+colors = (refl, refl, refl, refl, refl, refl, refl)
+
+-- 0, no number and no parameter end all, and what is unknown is passed over
+all-ended : Gives (codes "1;4:3;38;5;1;0;53") (record plain_pen { overlined = true })
+    × Gives (codes "1;;53") (record plain_pen { overlined = true })
+    × (apply [] (apply (codes "1;31") plain_pen) ≡ plain_pen)
+    × Gives (codes "1:2;56;200;31") (record plain_pen { foreground = Indexed 1 })
+unfolding with_field with_code with_parts is_whole_color with_color color_of
+all-ended = (refl, refl, refl, refl)
+
+-- the others, each set and ended
+others-set : Gives (codes "3;6;7;8;9;12;52;53;2")
+    (record plain_pen {
+      italic = true;
+      blink = 2;
+      inverse = true;
+      hidden = true;
+      crossed_out = true;
+      font = 2;
+      framed = 2;
+      overlined = true;
+      faint = true;
+    })
+    × Gives (codes "3;6;7;8;9;12;52;53;2;23;25;27;28;29;10;54;55;22") plain_pen
+unfolding with_field with_code
+others-set = (refl, refl)
+
+-- ---- worked rows on what the table leaves open
+
+colors-ended : open_settings (settings (codes "4:3;4:0;38:5:1;39;48:5:1;49;58:2:1:2:3;59;38;5;1;39"
+    ++ codes ";48;2;1;2;3;49;58;5;1;59"))
+    ≡ []
+unfolding first_setting taken_fields code details kind_of kind_of_code is_color_code is_unknown color_fields takes_back replaces is_end is_ending_code number
+colors-ended = refl
 
 bold-is_style : is_style (codes "\u{1b}[1m") ≡ true
 bold-is_style = refl

@@ -1,26 +1,23 @@
 -- Settings that are open, each written as a sequence: what the sequences set, and that each is a text
 -- by itself.
-use Rattle.textwrap_text.proofs.Common.{All-append, All-cons, append-nil, cases_Bool, length-append}
-use Rattle.textwrap_text.proofs.Common.{All-head, All-nil, All-tail, and_parts, flat_map, nat_tests}
-use Rattle.textwrap_text.proofs.Common.{Bool, List, arith, cond, false, length, list_all, subst, []}
-use Rattle.textwrap_text.proofs.Common.{All, inl, map, refl, suc, sym, take, true, zero, ◌++◌}
-use Rattle.textwrap_text.proofs.Common.{ap, ℕ, ◌<◌, ◌∙◌, ◌∷◌, ◌≡◌}
-use Rattle.textwrap_styles.proofs.Common.{is_in_range, is_style, open_styles, style_parameters}
-use Rattle.textwrap_styles.proofs.Common.{IsWhole, ends, is_link, units}
+use Rattle.textwrap_text.proofs.Common.{All, All-append, All-cons, All-head, All-nil, All-tail}
+use Rattle.textwrap_text.proofs.Common.{Bool, IsAscii, IsUtf8-from_ascii, List, Sequence, []}
+use Rattle.textwrap_text.proofs.Common.{and_parts, ap, append-nil, arith, cases_Bool, chars-IsAscii}
+use Rattle.textwrap_text.proofs.Common.{cond, false, flat_map, inl, length, length-append, list_all}
+use Rattle.textwrap_text.proofs.Common.{map, nat_tests, refl, subst, suc, sym, take, take-append-le}
+use Rattle.textwrap_text.proofs.Common.{true, units, zero, ℕ, ◌++◌, ◌<◌, ◌∙◌, ◌∷◌, ◌≡◌}
+use Rattle.textwrap_styles.proofs.Common.{IsWhole, chars, is_in_range, is_link, is_style}
+use Rattle.textwrap_styles.proofs.Common.{open_settings, open_styles, settings, settings_of}
+use Rattle.textwrap_styles.proofs.Common.{style_parameters, written}
+use Rattle.std.proofs.lemmas.Str.Ascii.{IsAscii-from_all}
 use Rattle.textwrap_styles.proofs.OpenSettings.{all-open, settings-again}
 use Rattle.textwrap_styles.proofs.SequenceTexts.{IsSequence}
 use Rattle.textwrap_styles.proofs.Sequences.{style-is, style-no_link, style_parameters-is}
-use Rattle.textwrap_styles.proofs.SettingTexts.{are-settings, IsSetting, settings-one}
-use Rattle.textwrap_styles.specs.Styles.{settings_of, written}
-use Rattle.textwrap_styles.specs.Settings.{open_settings, settings}
-use Rattle.std.proofs.lemmas.List.{take-append-le}
+use Rattle.textwrap_styles.proofs.SettingTexts.{IsSetting, are-settings, settings-one}
 use Rattle.textwrap_text.proofs.Lists.Parts.{last-append}
-use Rattle.textwrap_text.specs.Lists.{last}
-use Rattle.textwrap_text.specs.Units.{is_control_end, Sequence}
-use Rattle.std.proofs.lemmas.Str.{IsUtf8-from_ascii, chars-IsAscii}
-use Rattle.std.proofs.lemmas.Str.Ascii.{IsAscii-from_all}
-use Rattle.std.specs.Str.{IsAscii, chars}
 use Rattle.textwrap_text.proofs.Units.Texts.{units_unique}
+use Rattle.textwrap_text.specs.Lists.{last}
+use Rattle.textwrap_text.specs.Units.{ends, is_control_end}
 
 -- ---- a setting that is written as a sequence
 

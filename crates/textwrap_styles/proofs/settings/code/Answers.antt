@@ -1,11 +1,11 @@
 use Rattle.textwrap_styles.proofs.settings.code.Goals as goal
-use Rattle.textwrap_text.proofs.Common.{arith, cases_Bool, get_or, length, nat_tests, take, true}
-use Rattle.textwrap_text.proofs.Common.{◌<◌, ◌≡◌, ℕ, ◌≤◌, ◌-◌, ◌∙◌, ap, List}
+use Rattle.textwrap_text.proofs.Common.{List, ap, arith, cases_Bool, get_or, get_or-take, length}
+use Rattle.textwrap_text.proofs.Common.{length-take-le, nat_tests, prefix_len, take, true, ℕ, ◌-◌}
+use Rattle.textwrap_text.proofs.Common.{◌<◌, ◌∙◌, ◌≡◌, ◌≤◌}
+use Rattle.textwrap_styles.proofs.Common.{is_ascii_digit}
 use Rattle.std.proofs.lemmas.Int.Digits.{digits_value_more}
-use Rattle.std.proofs.lemmas.List.{get_or-take, length-take-le}
 use Rattle.std.proofs.lemmas.List.Sums.{prefix_len-le-length, prefix_len_passes}
-use Rattle.std.specs.Char.{digit_value, is_ascii_digit}
-use Rattle.std.specs.List.{prefix_len}
+use Rattle.std.specs.Char.{digit_value}
 
 -- an ASCII digit and its value
 record IsDigit (c : ℕ) : Type 0 where

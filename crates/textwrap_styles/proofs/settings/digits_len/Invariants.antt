@@ -1,7 +1,6 @@
 use Rattle.textwrap_styles.proofs.settings.digits_len.Given as goal
-use Rattle.textwrap_text.proofs.Common.{drop, ◌+◌, ◌≡◌}
-use Rattle.std.specs.Char.{is_ascii_digit}
-use Rattle.std.specs.List.{prefix_len}
+use Rattle.textwrap_text.proofs.Common.{drop, prefix_len, ◌+◌, ◌≡◌}
+use Rattle.textwrap_styles.proofs.Common.{is_ascii_digit}
 
 -- all so far are digits
 abbrev pub invariant-loop-at : goal.invariant-loop-at

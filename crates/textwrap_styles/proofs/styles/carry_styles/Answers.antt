@@ -1,8 +1,8 @@
 use Rattle.textwrap_styles.proofs.styles.carry_styles.Goals as goal
-use Rattle.textwrap_text.proofs.Common.{rules, drop, ◌++◌, ◌∙◌, ◌≡◌, ap}
-use Rattle.textwrap_styles.proofs.Common.{sequences}
+use Rattle.textwrap_text.proofs.Common.{ap, drop, rules, ◌++◌, ◌∙◌, ◌≡◌}
+use Rattle.textwrap_styles.proofs.Common.{closing, sequences}
 use Rattle.textwrap_styles.proofs.CarriedLines.{carries-more, line-is}
-use Rattle.textwrap_styles.specs.Styles.{closing, opening}
+use Rattle.textwrap_styles.specs.Styles.{opening}
 
 pub loop-line-preserved : goal.loop-line-preserved
 loop-line-preserved g c =

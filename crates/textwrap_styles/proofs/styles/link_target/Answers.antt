@@ -1,10 +1,13 @@
 use Rattle.textwrap_styles.proofs.styles.link_target.Goals as goal
-use Rattle.textwrap_text.proofs.Common.{nat_tests, length, nat_lt, arith, codes, false, subst, true}
-use Rattle.textwrap_text.proofs.Common.{◌==◌, sym, ◌∙◌, ◌≡◌, ap}
-use Rattle.textwrap_styles.proofs.Common.{split_once_first, position_or_len, stripped_prefix}
-use Rattle.textwrap_styles.proofs.Common.{any-position, MatchOption, after_first, is_link}
-use Rattle.textwrap_styles.proofs.Sequences.{link-cases, IsAround}
+use Rattle.textwrap_text.proofs.Common.{ap, arith, codes, false, length, nat_lt, nat_tests}
+use Rattle.textwrap_text.proofs.Common.{position_or_len, subst, sym, true, ◌==◌, ◌∙◌, ◌≡◌}
+use Rattle.textwrap_styles.proofs.Common.{is_link}
+use Rattle.std.proofs.lemmas.Str.Pattern.{split_once_first}
+use Rattle.std.specs.List.{after_first}
+use Rattle.std.specs.Option.{MatchOption}
+use Rattle.textwrap_styles.proofs.Sequences.{IsAround, link-cases}
 use Rattle.textwrap_styles.proofs.styles.link_target.Goals.{After-or}
+use Rattle.textwrap_text.proofs.Lists.Parts.{any-position, stripped_prefix}
 
 -- what is found of either end says whether it is a link
 cases : (c : After-or) → MatchOption c.or.result (is_link c.args.sequence.now ≡ false)

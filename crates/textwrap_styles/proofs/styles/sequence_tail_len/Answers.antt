@@ -1,8 +1,8 @@
 use Rattle.textwrap_styles.proofs.styles.sequence_tail_len.Goals as goal
 use Rattle.textwrap_text.proofs.Common.{◌≢◌}
-use Rattle.textwrap_text.specs.declared.escapes.State.TheVariants.{Text}
-use Rattle.textwrap_styles.proofs.Sequences.{read_to-start, read_to-step, read_to-end}
+use Rattle.textwrap_styles.proofs.Sequences.{read_to-end, read_to-start, read_to-step}
 use Rattle.textwrap_styles.proofs.styles.sequence_tail_len.Goals.{in-Text, in_default}
+use Rattle.textwrap_text.specs.declared.escapes.State.TheVariants.{Text}
 
 pub loop-at-init : goal.loop-at-init
 loop-at-init c =

@@ -1,6 +1,6 @@
 use Rattle.textwrap_styles.proofs.styles.sequence_tail_len.Given as goal
 use Rattle.textwrap_text.proofs.Common.{char_indices_offset}
-use Rattle.textwrap_styles.proofs.Common.{char_indices_rest}
+use Rattle.std.specs.Str.Iter.{char_indices_rest}
 use Rattle.textwrap_styles.proofs.Sequences.{IsReadTo}
 
 -- the iterator has left what the reader has not read

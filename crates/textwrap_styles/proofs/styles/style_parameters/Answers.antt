@@ -1,9 +1,9 @@
 use Rattle.textwrap_styles.proofs.styles.style_parameters.Goals as goal
-use Rattle.textwrap_text.proofs.Common.{codes, ◌++◌, sym, ◌∙◌, ◌≡◌, ap}
-use Rattle.textwrap_styles.proofs.Common.{stripped_prefix, stripped_suffix, is_in_range, is_style}
-use Rattle.textwrap_styles.proofs.Common.{list_all}
+use Rattle.textwrap_text.proofs.Common.{ap, codes, list_all, sym, ◌++◌, ◌∙◌, ◌≡◌}
+use Rattle.textwrap_styles.proofs.Common.{is_in_range, is_style}
 use Rattle.textwrap_styles.proofs.Sequences.{not_style, style-is}
 use Rattle.textwrap_styles.proofs.styles.style_parameters.Goals.{In_ok-parameters}
+use Rattle.textwrap_text.proofs.Lists.Parts.{stripped_prefix, stripped_suffix}
 
 pub returns-in_err-parameters-clause-style : goal.returns-in_err-parameters-clause-style
 returns-in_err-parameters-clause-style c =

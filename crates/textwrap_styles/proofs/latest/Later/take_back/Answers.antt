@@ -1,6 +1,6 @@
 use Rattle.textwrap_styles.proofs.latest.Later.take_back.Goals as goal
 use Rattle.textwrap_text.proofs.Common.{arith, cases_Bool}
-use Rattle.textwrap_styles.proofs.LaterSettings.{any-known, known-below}
+use Rattle.textwrap_styles.proofs.OpenSettings.{any-known, known-below}
 use Rattle.textwrap_styles.specs.Settings.{number}
 
 pub returns-then-self-number : goal.returns-then-self-number

@@ -1,10 +1,10 @@
 use Rattle.textwrap_styles.proofs.styles.OpenStyles.push_opening.Goals as goal
-use Rattle.textwrap_text.proofs.Common.{append-nil, append_assoc, arith, codes, get_or, length, map}
-use Rattle.textwrap_text.proofs.Common.{map-append, take}
-use Rattle.textwrap_text.proofs.Common.{take_more, Bor, List, ◌+◌, ◌++◌, ◌<◌, ◌≡◌, ℕ}
-use Rattle.textwrap_styles.proofs.Common.{concat, concat-append}
+use Rattle.textwrap_text.proofs.Common.{Bor, List, append-nil, append_assoc, arith, codes, get_or}
+use Rattle.textwrap_text.proofs.Common.{length, map, map-append, take, take_more, ℕ, ◌++◌, ◌+◌, ◌<◌}
+use Rattle.textwrap_text.proofs.Common.{◌≡◌}
+use Rattle.textwrap_styles.proofs.Common.{concat, written}
+use Rattle.std.proofs.lemmas.List.Folds.{concat-append}
 use Rattle.textwrap_styles.proofs.OpenSettings.{texts}
-use Rattle.textwrap_styles.specs.Styles.{written}
 
 -- the settings so far, one after the other, and one more
 written-more : (ss : List (Bor (List ℕ))) (n : ℕ) (d : Bor (List ℕ))

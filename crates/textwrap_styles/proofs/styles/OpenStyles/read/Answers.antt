@@ -1,13 +1,11 @@
 use Rattle.textwrap_styles.proofs.styles.OpenStyles.read.Goals as goal
-use Rattle.textwrap_text.proofs.Common.{append-nil, append_assoc, flat_map, refl, rules, subst}
-use Rattle.textwrap_text.proofs.Common.{◌++◌, sym, ◌∙◌, ◌∷◌, ◌≡◌, [], ap, List, ℕ}
-use Rattle.std.specs.List.{after_last}
-use Rattle.textwrap_styles.proofs.OpenSettings.{effect-again, resets}
-use Rattle.textwrap_styles.specs.Styles.{settings_of}
-use Rattle.textwrap_styles.specs.OpenStyles.{IsKeptAfter, IsReadTo}
-use Rattle.textwrap_styles.proofs.Common.{open_link, sequences}
-use Rattle.textwrap_styles.specs.Settings.{in_effect, latest, open_settings}
+use Rattle.textwrap_text.proofs.Common.{List, [], after_last, ap, append-nil, append_assoc}
+use Rattle.textwrap_text.proofs.Common.{flat_map, refl, rules, subst, sym, ℕ, ◌++◌, ◌∙◌, ◌∷◌, ◌≡◌}
+use Rattle.textwrap_styles.proofs.Common.{IsKeptAfter, in_effect, latest, open_link, open_settings}
+use Rattle.textwrap_styles.proofs.Common.{sequences, settings_of}
 use Rattle.textwrap_layout.proofs.Text.Sinks.{on_ok_both}
+use Rattle.textwrap_styles.proofs.OpenSettings.{effect-again, resets}
+use Rattle.textwrap_styles.specs.OpenStyles.{IsReadTo}
 use Rattle.textwrap_styles.specs.declared.styles.OpenStyles.{OpenStyles}
 
 -- what is kept where a line begins is read up to there

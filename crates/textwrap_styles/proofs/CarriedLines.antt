@@ -1,18 +1,17 @@
 -- Lines whose styles are carried: their bytes, what they show, and whole lines under indents.
 use Rattle.textwrap_text.proofs.Common.{All, All-append, All-cons, All-drop, All-head, All-nil}
-use Rattle.textwrap_text.proofs.Common.{All-tail, All-weaker, Bool, IsUtf8, IsUtf8-drop, List, []}
-use Rattle.textwrap_text.proofs.Common.{ap, append-nil, append_assoc, arith, cases_Bool, chars-nil}
-use Rattle.textwrap_text.proofs.Common.{columns, cond, drop, drop_at, drop_more, false, flat_map}
-use Rattle.textwrap_text.proofs.Common.{fold, get_or, inl, inr, length, length-append, map}
-use Rattle.textwrap_text.proofs.Common.{map-append, nat_eq, nat_tests, nil_from_length, refl}
-use Rattle.textwrap_text.proofs.Common.{starts_with, subst, sum_by, sym, take, take-append-drop}
-use Rattle.textwrap_text.proofs.Common.{take_at, text_width, true, units, ℕ, ◌++◌, ◌+◌, ◌<◌, ◌==◌}
-use Rattle.textwrap_text.proofs.Common.{◌∙◌, ◌∷◌, ◌≡◌, ◌≤◌}
+use Rattle.textwrap_text.proofs.Common.{All-tail, All-weaker, IsUtf8, IsUtf8-drop, List, [], ap}
+use Rattle.textwrap_text.proofs.Common.{append-nil, append_assoc, arith, cases_Bool, chars-nil}
+use Rattle.textwrap_text.proofs.Common.{cond, drop, drop_at, drop_more, flat_map, fold, get_or, inl}
+use Rattle.textwrap_text.proofs.Common.{inr, length, length-append, map, map-append, nat_eq}
+use Rattle.textwrap_text.proofs.Common.{nat_tests, nil_from_length, refl, rules, starts_with, subst}
+use Rattle.textwrap_text.proofs.Common.{sym, take, take-append-drop, take_at, text_width, units, ℕ}
+use Rattle.textwrap_text.proofs.Common.{◌++◌, ◌+◌, ◌<◌, ◌==◌, ◌∙◌, ◌∷◌, ◌≡◌, ◌≤◌}
 use Rattle.textwrap_styles.proofs.Common.{All-filter, IsWhole, Rendition, carried_lines, chars}
-use Rattle.textwrap_styles.proofs.Common.{closing, concat, fold-append, is_link, link_end}
-use Rattle.textwrap_styles.proofs.Common.{open_link, open_styles, penned_lines, penned_text}
-use Rattle.textwrap_styles.proofs.Common.{plain_rendition, rendition_of, sequence_of, sequences}
-use Rattle.textwrap_styles.proofs.Common.{style_end, with_sequence}
+use Rattle.textwrap_styles.proofs.Common.{closing, concat, fold-append, link_end, open_link}
+use Rattle.textwrap_styles.proofs.Common.{open_styles, penned_lines, penned_text, plain_rendition}
+use Rattle.textwrap_styles.proofs.Common.{rendition_of, sequence_of, sequences, style_end}
+use Rattle.textwrap_styles.proofs.Common.{with_sequence}
 use Rattle.std.proofs.lemmas.List.Folds.{concat-append, flat_map-map}
 use Rattle.std.specs.Cow.{cow_str_bytes}
 use Rattle.std.specs.declared.borrow.CowStr.{CowStr}
@@ -81,15 +80,7 @@ carried-parts indent before line =
 
 closing-short : (before : List (List ℕ))
     → length (closing before) ≤ length style_end + length link_end
-closing-short before =
-    by (length (open_styles before) == 0) (length (open_link before) == 0)
-  where
-    by : (plain unlinked : Bool) → length (cond plain [] style_end ++ cond unlinked [] link_end)
-        ≤ length style_end + length link_end
-    by true true = omega arith
-    by true false = omega arith
-    by false true = omega arith
-    by false false = omega arith
+closing-short before = search (rules, arith)
 
 -- it is longer by what sets anew what is open, and what ends that, at most
 pub carried-len : (indent : List ℕ) (before : List (List ℕ)) (line : List ℕ)
@@ -127,26 +118,17 @@ module _ (indent : List ℕ) (before : List (List ℕ)) (line : List ℕ) (are :
   ends = closing_sequences (before ++ sequences text)
 
   all-starts : All IsSequence starts
-  all-starts =
-      All-append IsSequence (open_link before) (open_styles before)
-      (link-among IsSequence before (All-filter is_link IsSequence before are))
-      (styles-sequences before)
+  all-starts = search (rules, arith, All-append, link-among, All-filter, styles-sequences)
 
   all-ends : All IsSequence ends
   all-ends = closing-sequences (before ++ sequences text)
 
   begun : rendition_of (sequences front ++ starts) ≡ rendition_of before
-  begun =
-      fold-append with_sequence plain_rendition (sequences front) starts
-      ∙ ap (λ now. fold with_sequence now starts) may.plain
-      ∙ styles-pen before
+  begun = search (rules, arith, fold-append, styles-pen)
 
   pub carried-penned : penned_text plain_rendition (line_bytes (carried_line indent before line))
       ≡ penned_text plain_rendition front ++ penned_text (rendition_of before) text
-  carried-penned =
-      ap (penned_text plain_rendition) (carried-bytes indent before line)
-      ∙ parts-penned front text starts ends may.front may.text all-starts all-ends
-      (rendition_of before) begun
+  carried-penned = search (rules, arith, carried-bytes, parts-penned, all-starts, all-ends, begun)
 
   pub carried-plain : EndsPlain (line_bytes (carried_line indent before line))
   carried-plain =
@@ -165,10 +147,7 @@ module _ (indent : List ℕ) (before : List (List ℕ)) (line : List ℕ) (are :
 
   pub carried-wide : text_width (line_bytes (carried_line indent before line)) ≡ text_width line
   carried-wide =
-      ap text_width (carried-bytes indent before line)
-      ∙ ap (sum_by columns) (parts-visible front text starts ends may.front may.text all-starts
-      all-ends)
-      ∙ ap text_width (take-append-drop (indent_end indent line) line)
+      search (rules, arith, carried-bytes, parts-visible, all-starts, all-ends, take-append-drop)
 
 -- ---- lines whose styles are carried, one after another
 
@@ -202,11 +181,7 @@ are_carried (line ∷ lines) indent later before are (may, rest) =
     let one = carried-penned indent before line are may in
     let next = fold-append with_sequence plain_rendition before (sequences text) in
     record {
-      shown = ap (λ first. first ∷ map (λ l. penned_text plain_rendition (line_bytes l))
-          (carried_lines later later now lines)) one
-          ∙ ap (λ ls. (penned_text plain_rendition (before_text indent line)
-          ++ penned_text (rendition_of before) text) ∷ ls)
-          (others.shown ∙ ap (λ r. penned_lines later later r lines) next);
+      shown = search (rules, arith);
       plain = All-cons (λ l. EndsPlain (line_bytes l)) (carried_line indent before line)
           (carried_lines later later now lines) (carried-plain indent before line are may)
           others.plain;

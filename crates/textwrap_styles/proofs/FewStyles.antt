@@ -3,7 +3,7 @@ use Rattle.textwrap_text.proofs.Common.{All, All-append, All-cons, All-head, All
 use Rattle.textwrap_text.proofs.Common.{All-weaker, Bool, List, [], after_last, arith, cases_Bool}
 use Rattle.textwrap_text.proofs.Common.{codes, cond, drop, eqb, false, filter, flat_map, inl, inr}
 use Rattle.textwrap_text.proofs.Common.{length, length-append, length-map, length-take, list_any}
-use Rattle.textwrap_text.proofs.Common.{map, nat_tests, not, refl, subst, suc, sym, true}
+use Rattle.textwrap_text.proofs.Common.{map, nat_tests, not, refl, rules, subst, suc, sym, true}
 use Rattle.textwrap_text.proofs.Common.{true≢false, zero, ℕ, ◌*◌, ◌+◌, ◌-◌, ◌<◌, ◌==◌, ◌∙◌, ◌∷◌}
 use Rattle.textwrap_text.proofs.Common.{◌≡◌, ◌≤◌}
 use Rattle.textwrap_styles.proofs.Common.{All-filter, concat, has_target, is_link, is_style}
@@ -97,15 +97,7 @@ places-distinct (s ∷ ss) all =
 places-below : (ss : List (List ℕ)) (q : ℕ)
     → list_any (eqb q) (map place (filter known ss)) ≡ true → q < 15
 places-below [] q is = absurd (true≢false (sym is))
-places-below (s ∷ ss) q is = by (known s) refl is (places-below ss q)
-  where
-    by : (own : Bool) → known s ≡ own
-        → list_any (eqb q) (map place (cond own (s ∷ filter known ss) (filter known ss))) ≡ true
-        → (list_any (eqb q) (map place (filter known ss)) ≡ true → q < 15) → q < 15
-    by false own is others = others is
-    by true own is others =
-        let below = known-below (kind_of s) in
-        grind (arith, cases_Bool, nat_tests, below, own, is, others)
+places-below (s ∷ ss) q is = search (rules, arith, places-below ss q, known-below)
 
 pub few-known : (before : List (List ℕ)) → length (known_settings before) ≤ 15
 few-known before =
@@ -132,10 +124,7 @@ past-short (suc n) (c ∷ cs) most short = past-short n cs most (omega (arith, s
 
 settings-short : (t : List ℕ) (most : ℕ) → length t ≤ most
     → All (λ s. length s ≤ most) (settings t)
-settings-short t most short =
-    let s = first_setting t in
-    All-cons (λ s. length s ≤ most) s (settings_past (length s) t)
-    (omega (arith, first-len t, short)) (past-short (length s) t most short)
+settings-short t most short = search (rules, arith, All-cons, first-len, past-short)
 
 -- written, a setting has three bytes more
 abbrev IsShort : ℕ → List ℕ → Type 0

@@ -2,7 +2,7 @@
 -- ends something sets them as in the plain pen.
 use Rattle.textwrap_text.proofs.Common.{Bool, List, [], ap, arith, cases_Bool, drop, eqb-true}
 use Rattle.textwrap_text.proofs.Common.{false, fold, inl, inr, length, length-map, list_all, map}
-use Rattle.textwrap_text.proofs.Common.{min, nat_tests, prefix_len, refl, subst, sym, true}
+use Rattle.textwrap_text.proofs.Common.{min, nat_tests, prefix_len, refl, rules, subst, sym, true}
 use Rattle.textwrap_text.proofs.Common.{true≢false, ℕ, ◌+◌, ◌<◌, ◌==◌, ◌||◌, ◌∙◌, ◌∷◌, ◌≡◌, ◌≢◌}
 use Rattle.textwrap_text.proofs.Common.{◌≤◌, ◌⊎◌}
 use Rattle.textwrap_styles.proofs.Common.{Color, Pen, Reset, apply, between, digits_value, fields}
@@ -223,10 +223,7 @@ module _ (t : List ℕ) (is : IsSetting t) (known : is_unknown (kind_of t) ≡ f
   field = first_field t
 
   number-is : first_number t ≡ code t
-  number-is =
-      code-same (code t) (first_number t) (code-first t is.range)
-      (λ far. true≢false (sym far-unknown ∙ sym (ap (λ c. is_unknown (kind_of_code c)) far)
-      ∙ sym (ap is_unknown (kind-code t known)) ∙ known))
+  number-is = search (rules, arith, code-same, first_number, code-first, far-unknown, kind-code)
 
   -- ---- a number by itself
 
@@ -270,13 +267,7 @@ module _ (t : List ℕ) (is : IsSetting t) (known : is_unknown (kind_of t) ≡ f
   colon-read : has_colon t ≡ true → (p : Pen)
       → read t p ≡ alone (with_parts (code t) (drop 1 (numbers_of field)) p)
   colon-read colon p =
-      let all = colon-first t is.range in
-      let len = field-len t is in
-      let more : (length (numbers_of field) == 1) ≡ false =
-      grind (arith, cases_Bool, nat_tests) in
-      read-one t is (colon-taken colon) p
-      ∙ field-parts p (numbers_of field) more
-      ∙ ap (λ n. alone (with_parts n (drop 1 (numbers_of field)) p)) number-is
+      search (rules, arith, colon-first, field-len, read-one, colon-taken, field-parts, number-is)
 
   colon-known : has_colon t ≡ true → Known t
   colon-known colon = elim (cases_Bool (code t == 4)) [
@@ -371,11 +362,7 @@ module _ (t : List ℕ) (is : IsSetting t) (known : is_unknown (kind_of t) ≡ f
 
   color-known : has_colon t ≡ false → is_color_code (code t) ≡ true → Known t
   color-known none color =
-      let taken = color-taken none color in
-      elim (color-cases t (code rest) (ap (λ n. n == 0) (sym taken) ∙ taken-some t known)) [
-        | inl (five, three, more) ↦ indexed-known none color (taken ∙ three) five more
-        | inr (two, five, more) ↦ direct-known none color (taken ∙ five) two more
-      ]
+      search (rules, arith, color-taken, color-cases, taken-some, indexed-known, direct-known)
 
   pub all-known : Known t
   all-known = grind (arith, cases_Bool, nat_tests, has_colon, colon-known, color-known, plain-known)
@@ -384,10 +371,4 @@ module _ (t : List ℕ) (is : IsSetting t) (known : is_unknown (kind_of t) ≡ f
   pub reset-end : (number (kind_of t) == number Reset) ≡ true → is_end t ≡ true
   unfolding is_color_code is_ending_code
   reset-end reset =
-      let zero : code t ≡ 0 = eqb-true (code t) 0 (sym (kind-reset (code t))
-      ∙ ap (λ k. number k == number Reset) (sym (kind-code t known)) ∙ reset) in
-      elim (cases_Bool (has_colon t)) [
-        | inl colon ↦ absurd (true≢false (sym (colon-code colon)
-            ∙ ap (λ c. (c == 4) || is_color_code c) zero))
-        | inr none ↦ plain-end none ∙ ap is_ending_code zero
-      ]
+      search (rules, arith, eqb-true, kind-reset, kind-code, has_colon, colon-code, plain-end)

@@ -1,13 +1,13 @@
 -- What is open gives, set anew, the pen and the link of all sequences, and what ends it gives a plain
 -- pen and no link.
-use Rattle.textwrap_text.proofs.Common.{All, All-head, All-tail, Bool, List, [], ap, arith}
-use Rattle.textwrap_text.proofs.Common.{cases_Bool, cond, eqb-true, false, flat_map, fold, length}
-use Rattle.textwrap_text.proofs.Common.{ltb-false, nil_from_length, refl, sym, true, ℕ, ◌++◌, ◌==◌}
-use Rattle.textwrap_text.proofs.Common.{◌∙◌, ◌∷◌, ◌≡◌}
-use Rattle.textwrap_styles.proofs.Common.{Pen, Rendition, apply, fold-append, has_target, is_link}
-use Rattle.textwrap_styles.proofs.Common.{is_style, link_end, open_link, open_styles, plain_pen}
-use Rattle.textwrap_styles.proofs.Common.{plain_rendition, rendition_of, settings, settings_of}
-use Rattle.textwrap_styles.proofs.Common.{style_end, style_parameters, with_sequence}
+use Rattle.textwrap_text.proofs.Common.{All, All-head, All-tail, Bool, List, [], ap, arith, cond}
+use Rattle.textwrap_text.proofs.Common.{eqb-true, false, flat_map, fold, length, ltb-false}
+use Rattle.textwrap_text.proofs.Common.{nil_from_length, refl, rules, sym, true, ℕ, ◌++◌, ◌==◌, ◌∙◌}
+use Rattle.textwrap_text.proofs.Common.{◌∷◌, ◌≡◌}
+use Rattle.textwrap_styles.proofs.Common.{Pen, Rendition, apply, fold-append, is_link, is_style}
+use Rattle.textwrap_styles.proofs.Common.{link_end, open_link, open_styles, plain_pen}
+use Rattle.textwrap_styles.proofs.Common.{plain_rendition, rendition_of, settings_of, style_end}
+use Rattle.textwrap_styles.proofs.Common.{style_parameters, with_sequence}
 use Rattle.textwrap_styles.proofs.OpenSettings.{after-more}
 use Rattle.textwrap_styles.proofs.PenOpen.{open-pen, parameters-pen, pen_by, run-append}
 use Rattle.textwrap_styles.proofs.SequenceTexts.{closing_sequences}
@@ -54,12 +54,7 @@ links-stay (s ∷ ss) link none =
 -- ---- the styles that are open
 
 sequence-pen : (s : List ℕ) (p : Pen) → with_style p s ≡ pen_by p (settings_of s)
-sequence-pen s p = by (is_style s) refl
-  where
-    by : (style : Bool) → is_style s ≡ style → cond style (apply (style_parameters s) p) p
-        ≡ pen_by p (cond style (settings (style_parameters s)) [])
-    by false is = refl
-    by true is = parameters-pen (style_parameters s) (grind (arith, cases_Bool, is)) p
+sequence-pen s p = search (rules, arith, pen_by, parameters-pen)
 
 sequences-pen : (before : List (List ℕ)) (p : Pen)
     → fold with_style p before ≡ pen_by p (flat_map settings_of before)
@@ -73,26 +68,14 @@ sequences-pen (s ∷ before) p =
 open-styles-pen : (before : List (List ℕ))
     → fold with_style plain_pen (open_styles before) ≡ fold with_style plain_pen before
 open-styles-pen before =
-    sequences-pen (open_styles before) plain_pen
-    ∙ ap (pen_by plain_pen) (open-back before)
-    ∙ open-pen (flat_map settings_of before) (all-settings before)
-    ∙ sym (sequences-pen before plain_pen)
+    search (rules, arith, sequences-pen, pen_by, open-back, open-pen, all-settings)
 
 -- ---- the link that is open
 
 next-link : (s : List ℕ) (link : List (List ℕ)) (address : List ℕ)
     → fold with_link [] link ≡ address
     → fold with_link [] (next_link link s) ≡ with_link address s
-next-link s link address same = by (is_link s) (has_target s) refl refl
-  where
-    by : (sets target : Bool) → is_link s ≡ sets → has_target s ≡ target
-        → fold with_link [] (cond sets (cond target (s ∷ []) []) link)
-        ≡ cond sets (link_target s) address
-    by false target is has = same
-    by true true is has = ap (λ b. cond b (link_target s) []) is
-    by true false is none =
-        sym (nil_from_length (link_target s)
-        (omega (arith, ltb-false 0 (length (link_target s)) none)))
+next-link s link address same = search (rules, arith, nil_from_length, ltb-false)
 
 links-left : (before link : List (List ℕ)) (address : List ℕ) → fold with_link [] link ≡ address
     → fold with_link [] (fold next_link link before) ≡ fold with_link address before
@@ -130,12 +113,7 @@ ends-plain : (now : Rendition) (plain unlinked : Bool) → (plain ≡ true → n
     → fold with_sequence now (cond plain [] (style_end ∷ []) ++ cond unlinked [] (link_end ∷ []))
     ≡ plain_rendition
 unfolding with_field with_code
-ends-plain now true true pen link = both now plain_rendition (pen refl) (link refl)
-ends-plain now true false pen link =
-    ap (λ p. record { pen = p; link = [] }) (pen refl)
-ends-plain now false true pen link =
-    ap (λ l. record { pen = plain_pen; link = l }) (link refl)
-ends-plain now false false pen link = refl
+ends-plain now x1 x2 pen link = search (rules, arith, both)
 
 pub ended : (before : List (List ℕ))
     → rendition_of (before ++ closing_sequences before) ≡ plain_rendition

@@ -5,8 +5,8 @@ use Rattle.textwrap_text.proofs.Common.{TextUnit, Visible, [], ap, append-nil, a
 use Rattle.textwrap_text.proofs.Common.{characters, chars-append, chars-nil, chars_from_encodes}
 use Rattle.textwrap_text.proofs.Common.{codes, cond, encode_utf8_all, encodes-chars, false}
 use Rattle.textwrap_text.proofs.Common.{flat_map, flat_map-append, fold, inl, length, map, refl}
-use Rattle.textwrap_text.proofs.Common.{subst, sym, take, true, units, visible_of, ℕ, ◌++◌, ◌==◌}
-use Rattle.textwrap_text.proofs.Common.{◌∙◌, ◌∷◌, ◌≡◌}
+use Rattle.textwrap_text.proofs.Common.{rules, subst, sym, take, true, units, visible_of, ℕ, ◌++◌}
+use Rattle.textwrap_text.proofs.Common.{◌==◌, ◌∙◌, ◌∷◌, ◌≡◌}
 use Rattle.textwrap_styles.proofs.Common.{IsWhole, Rendition, closing, concat, link_end, open_link}
 use Rattle.textwrap_styles.proofs.Common.{open_styles, penned_text, plain_rendition, rendition_of}
 use Rattle.textwrap_styles.proofs.Common.{sequence_of, sequences, style_end, with_sequence}
@@ -70,10 +70,7 @@ units-sequences (Sequence cs ∷ us) utf8 whole =
 
 -- the sequences of a text
 pub text-sequences : (text : List ℕ) → IsWholeText text → All IsSequence (sequences text)
-text-sequences text whole =
-    units-sequences (units (chars text))
-    (subst IsUtf8 (sym (ap encode_utf8_all (units-tile (chars text)) ∙ encodes-chars text whole.0))
-    whole.0) whole.1
+text-sequences text whole = search (rules, arith, units-sequences, units-tile, encodes-chars)
 
 -- ---- sequences in a row
 
@@ -81,11 +78,7 @@ abbrev pub sequence_units : List (List ℕ) → List TextUnit
 sequence_units xs = map (λ s. Sequence (chars s)) xs
 
 sequence-whole : (s : List ℕ) → IsSequence s → IsWholeText s
-sequence-whole s is = (
-  is.utf8,
-  subst (All IsWhole) (sym is.unit)
-      (All-cons IsWhole (Sequence (chars s)) [] is.whole (All-nil IsWhole)),
-)
+sequence-whole s is = search (rules, arith, All-cons)
 
 pub concat-units : (xs : List (List ℕ)) → All IsSequence xs
     → units (chars (concat xs)) ≡ sequence_units xs
@@ -180,16 +173,7 @@ module _ (front text : List ℕ) (starts ends : List (List ℕ)) (front_whole : 
   parts-units : units (chars (front ++ concat starts ++ text ++ concat ends))
       ≡ units (chars front) ++ sequence_units starts ++ units (chars text) ++ sequence_units ends
   parts-units =
-      let start = concat starts in
-      let started = concat-whole starts are_starts in
-      let first = whole_text-append front start front_whole started in
-      let second = whole_text-append (front ++ start) text first text_whole in
-      text_units-append (front ++ start ++ text) (concat ends) second
-      ∙ ap (λ us. us ++ units (chars (concat ends))) (text_units-append (front ++ start) text first
-      ∙ ap (λ us. us ++ units (chars text)) (text_units-append front start front_whole
-      ∙ ap (λ us. units (chars front) ++ us) (concat-units starts are_starts)))
-      ∙ ap (λ us. units (chars front) ++ sequence_units starts ++ units (chars text) ++ us)
-      (concat-units ends are_ends)
+      search (rules, arith, concat-whole, whole_text-append, text_units-append, concat-units)
 
   pub parts-sequences : sequences (front ++ concat starts ++ text ++ concat ends)
       ≡ sequences front ++ starts ++ sequences text ++ ends
@@ -221,10 +205,7 @@ module _ (front text : List ℕ) (starts ends : List (List ℕ)) (front_whole : 
       ap rendition_of (flat_map-append sequence_of us ss
       ∙ ap (λ xs. sequences front ++ xs) (units-again starts are_starts)) ∙ is in
       let first : penned_units plain_rendition (us ++ ss) ≡ penned_text plain_rendition front =
-      penned-append us ss plain_rendition
-      ∙ ap (λ cs. penned_text plain_rendition front ++ cs)
-      (sequences-show starts (rendition_of (sequences front)))
-      ∙ append-nil (penned_text plain_rendition front) in
+      search (rules, arith, penned-append, sequences-show, append-nil) in
       ap (penned_units plain_rendition) parts-units
       ∙ penned-append all (sequence_units ends) plain_rendition
       ∙ ap (λ cs. penned_units plain_rendition all ++ cs)

@@ -8,9 +8,9 @@ use Rattle.textwrap_text.proofs.Common.{cond, drop, drop-append-add, drop-drop, 
 use Rattle.textwrap_text.proofs.Common.{encode_ascii, encode_utf8_all, ends_with, eqb, escape_len}
 use Rattle.textwrap_text.proofs.Common.{false, filter, filter-append, flat_map, length}
 use Rattle.textwrap_text.proofs.Common.{length-append, list_all, list_any, nat_eq, next_of, refl}
-use Rattle.textwrap_text.proofs.Common.{slice_range, starts_with, subst, suc, sym, take}
-use Rattle.textwrap_text.proofs.Common.{take-append-drop, take_all, take_at, taken_in, true, units}
-use Rattle.textwrap_text.proofs.Common.{ℕ, ◌&&◌, ◌++◌, ◌+◌, ◌-◌, ◌==◌, ◌||◌, ◌∙◌, ◌∷◌, ◌≡◌, ◌≢◌}
+use Rattle.textwrap_text.proofs.Common.{rules, slice_range, subst, suc, sym, take, take-append-drop}
+use Rattle.textwrap_text.proofs.Common.{take_all, take_at, taken_in, true, units, ℕ, ◌++◌, ◌+◌, ◌-◌}
+use Rattle.textwrap_text.proofs.Common.{◌==◌, ◌||◌, ◌∙◌, ◌∷◌, ◌≡◌, ◌≢◌}
 use Rattle.textwrap_styles.proofs.Common.{All-filter, chars, has_target, is_in_range, is_link}
 use Rattle.textwrap_styles.proofs.Common.{is_style, open_link, sequence_of, sequences}
 use Rattle.textwrap_styles.proofs.Common.{style_parameters}
@@ -32,12 +32,7 @@ use Rattle.textwrap_words.proofs.Word.Breaking.{units_past-skip}
 -- ---- a style is no link
 
 pub style-no_link : (s : List ℕ) → is_style s ≡ true → is_link s ≡ false
-style-no_link s is =
-    let starts = starts_with nat_eq s (codes "\u{1b}[") in
-    let ended = ends_with nat_eq s (codes "m") in
-    let set = list_all (is_in_range 0x30 0x3B) (style_parameters s) in
-    let front = (and_parts starts ended (and_parts (starts && ended) set is).0).0 in
-    ap is_link (starts_with-rest (codes "\u{1b}[") s front)
+style-no_link s is = search (rules, arith, and_parts, starts_with-rest)
 
 pub link-no_style : (s : List ℕ) → is_link s ≡ true → is_style s ≡ false
 link-no_style s is = grind (arith, cases_Bool, style-no_link)
@@ -99,17 +94,7 @@ around : (fields ending : List ℕ) (rings : Bool)
     → ends_with nat_eq (link_start ++ (fields ++ ending)) bell ≡ rings
     → (rings || ends_with nat_eq (link_start ++ (fields ++ ending)) terminator) ≡ true
     → length ending ≡ cond rings 1 2 → IsAround (link_start ++ (fields ++ ending)) fields
-around fields ending rings rung ended size =
-    let whole = link_start ++ (fields ++ ending) in
-    let len : length whole - 4 - cond rings 1 2 ≡ length fields =
-    omega (arith, length-append fields ending, size) in
-    let are : link_fields whole ≡ fields =
-    ap (λ b. take (length whole - 4 - cond b 1 2) (fields ++ ending)) rung
-    ∙ ap (λ k. take k (fields ++ ending)) len ∙ take_at fields ending (length fields) refl in
-    record {
-      are = are;
-      is = grind (arith, rung, ended, are);
-    }
+around fields ending rings rung ended size = search (rules, arith, length-append, take_at)
 
 around-bell : (fields : List ℕ) → IsAround (link_start ++ (fields ++ bell)) fields
 around-bell fields =

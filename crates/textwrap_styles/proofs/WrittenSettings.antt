@@ -4,8 +4,9 @@ use Rattle.textwrap_text.proofs.Common.{All, All-append, All-cons, All-head, All
 use Rattle.textwrap_text.proofs.Common.{Bool, IsAscii, IsUtf8-from_ascii, List, Sequence, []}
 use Rattle.textwrap_text.proofs.Common.{and_parts, ap, append-nil, arith, cases_Bool, chars-IsAscii}
 use Rattle.textwrap_text.proofs.Common.{cond, false, flat_map, inl, length, length-append, list_all}
-use Rattle.textwrap_text.proofs.Common.{map, nat_tests, refl, subst, suc, sym, take, take-append-le}
-use Rattle.textwrap_text.proofs.Common.{true, units, zero, ℕ, ◌++◌, ◌<◌, ◌∙◌, ◌∷◌, ◌≡◌}
+use Rattle.textwrap_text.proofs.Common.{map, nat_tests, refl, rules, subst, suc, sym, take}
+use Rattle.textwrap_text.proofs.Common.{take-append-le, true, units, zero, ℕ, ◌++◌, ◌<◌, ◌∙◌, ◌∷◌}
+use Rattle.textwrap_text.proofs.Common.{◌≡◌}
 use Rattle.textwrap_styles.proofs.Common.{IsWhole, chars, is_in_range, is_link, is_style}
 use Rattle.textwrap_styles.proofs.Common.{open_settings, open_styles, settings, settings_of}
 use Rattle.textwrap_styles.proofs.Common.{style_parameters, written}
@@ -113,22 +114,12 @@ last-open (c ∷ d ∷ cs) all =
 
 unended : (s : List ℕ) → list_all (is_in_range 0x30 0x3B) s ≡ true → (k : ℕ)
     → k < length (91 ∷ (s ++ 109 ∷ [])) → ends (take k (91 ∷ (s ++ 109 ∷ []))) ≡ false
-unended s all zero within = refl
-unended s all (suc k) within =
-    let len = length-append s (109 ∷ []) in
-    let front : take k (s ++ 109 ∷ []) ≡ take k s =
-    take-append-le k s (109 ∷ []) (omega (arith, len)) in
-    ap (λ l. is_control_end (last l)) front
-    ∙ last-open (take k s) (take-all (is_in_range 0x30 0x3B) k s all)
+unended s all x2 within = search (rules, arith, length-append, take-append-le, last-open, take-all)
 
 written-sequence : (s : List ℕ) → IsSetting s → IsSequence (written s)
 written-sequence s is =
     let body = 91 ∷ (s ++ 109 ∷ []) in
-    let all : All (λ b. b < 128) (27 ∷ body) =
-    All-cons (λ b. b < 128) 27 body (omega arith)
-    (All-cons (λ b. b < 128) 91 (s ++ 109 ∷ []) (omega arith)
-    (All-append (λ b. b < 128) s (109 ∷ []) (small s is.range)
-    (All-cons (λ b. b < 128) 109 [] (omega arith) (All-nil (λ b. b < 128))))) in
+    let all : All (λ b. b < 128) (27 ∷ body) = search (rules, arith, All-cons, All-append, small) in
     let ended : ends body ≡ true = ap is_control_end (last-append s (109 ∷ []) (omega arith)) in
     ascii-sequence body (IsAscii-from_all (27 ∷ body) all) ended (unended s is.range)
 

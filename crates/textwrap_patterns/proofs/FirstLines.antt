@@ -7,16 +7,17 @@ use Rattle.textwrap_patterns.proofs.Common.{Bool, List, ℕ, [], ap, arith, case
 use Rattle.textwrap_patterns.proofs.Common.{inl, inr, length, refl, subst, suc, sym, true, ⊤, ◌++◌, ◌∙◌, ◌∷◌}
 use Rattle.textwrap_patterns.proofs.Common.{◌≡◌, ◌⊎◌, ◌≤◌}
 use Rattle.textwrap_patterns.proofs.FirstWrong.{IsJudged, command-none, judged, of-word, wrong-says}
-use Rattle.textwrap_patterns.proofs.Skipped.{comment-skipped, list-behind, start-said}
+use Rattle.textwrap_patterns.proofs.Skipped.{comment-skipped, first-step, list-step, section_of}
 use Rattle.textwrap_patterns.specs.Charsets.{names_charset, plain_name}
 use Rattle.textwrap_patterns.specs.Entries.{Said, Pattern, Changed, Exception, Left, Right, CompoundLeft, CompoundRight}
-use Rattle.textwrap_patterns.specs.Entries.{NextGroup, Nothing, Wrong, begins, list_said, other_said}
-use Rattle.textwrap_patterns.specs.Faults.{IsFirstWrong, IsWrong, IsWrongLine, begins_word, groups_in}
-use Rattle.textwrap_patterns.specs.Faults.{is_of_line}
+use Rattle.textwrap_patterns.specs.Entries.{NextGroup, Nothing, Wrong, begins, is_exception, is_start, list_said, other_said}
+use Rattle.textwrap_patterns.specs.Faults.{IsFirstWrong, IsWrong, IsWrongLine, are_among, begins_word, groups_in}
+use Rattle.textwrap_patterns.specs.Faults.{is_hyphened, is_of_line}
 use Rattle.textwrap_patterns.specs.Listed.{Listed}
-use Rattle.textwrap_patterns.specs.Parsing.{Outcome, and_then, count_fault, counted_on, ended, is_skipped, is_tex, line_said}
+use Rattle.textwrap_patterns.specs.Parsing.{Outcome, and_then, counted_on, ended, end_fault, is_skipped, is_tex, listed_said}
 use Rattle.textwrap_patterns.specs.Parsing.{no_patterns, parsed, unmarked, with_all, with_lines}
-use Rattle.textwrap_patterns.specs.declared.entries.Section.TheVariants.{Start, Listing}
+use Rattle.textwrap_patterns.specs.declared.entries.Section.{Section}
+use Rattle.textwrap_patterns.specs.declared.entries.Section.TheVariants.{Start, Listing, Words}
 use Rattle.textwrap_patterns.specs.declared.errors.Fault.{Fault}
 use Rattle.textwrap_patterns.specs.declared.errors.Fault.TheVariants as fault
 use Rattle.textwrap_patterns.specs.declared.errors.ParseError.TheVariants.{Memory, Line}
@@ -93,85 +94,79 @@ room-kept h k line ls same (inr (joints, few)) = inr (same ∙ joints, omega (ar
 
 -- it says nothing that is wrong
 abbrev pub IsRight : Said → Type 0
-IsRight (Pattern p) = ⊤
-IsRight (Changed p) = ⊤
-IsRight (Exception e) = ⊤
-IsRight (Left n) = ⊤
-IsRight (Right n) = ⊤
-IsRight (CompoundLeft n) = ⊤
-IsRight (CompoundRight n) = ⊤
-IsRight NextGroup = ⊤
-IsRight Nothing = ⊤
 IsRight (Wrong f) = ⊥
-
-unright : (line : List ℕ) (said : Said) → list_said Listing line ≡ said → IsRight said → (g : Fault)
-    → IsWrong g line → ⊥
-unright line said is right g wrong = subst IsRight (sym is ∙ (wrong-says g line wrong).1) right
+IsRight _ = ⊤
 
 abbrev pub fault_said : Said → Fault
-fault_said (Pattern p) = fault.Empty
-fault_said (Changed p) = fault.Empty
-fault_said (Exception e) = fault.Empty
-fault_said (Left n) = fault.Empty
-fault_said (Right n) = fault.Empty
-fault_said (CompoundLeft n) = fault.Empty
-fault_said (CompoundRight n) = fault.Empty
-fault_said NextGroup = fault.Empty
-fault_said Nothing = fault.Empty
 fault_said (Wrong f) = f
+fault_said _ = fault.Empty
 
-group-is : (m : ℕ) (line : List ℕ) (h : Listed) (ls : List (List ℕ)) → is_group_line line ≡ true
-    → list_said Listing (trim line) ≡ NextGroup → Room h (line ∷ ls)
-    → IsLine m (NextGroup ∷ []) h ls (λ f. IsWrong f (trim line))
-group-is m line h ls group is (inl none) =
-    absurd (omega (arith, none, counted is_group_line line ls true group))
-group-is m line h ls group is (inr (joints, few)) = inr (
-  record h { joints = h.patterns; patterns = [] },
-  rw joints refl,
-  inl (omega (arith, few, counted is_group_line line ls true group)),
-  unright (trim line) NextGroup is tt,
-)
+-- a section of a list behind its first line
+module _ (among : Bool) (section : Section) (start : is_start section ≡ false)
+    (same : (cs : List ℕ) → is_exception section cs ≡ (among || is_hyphened cs)) where
+  unright : (line : List ℕ) (said : Said) → list_said section line ≡ said → IsRight said → (g : Fault)
+      → IsWrong among g line → ⊥
+  unright line said is right g wrong =
+      subst IsRight (sym is ∙ (wrong-says among section start same g line wrong).1) right
 
-goes-on : (m : ℕ) (line : List ℕ) (h k : Listed) (ls : List (List ℕ)) (said : Said)
-    → with_all m (said ∷ []) h ≡ Ok k → length k.joints ≡ length h.joints → IsRight said
-    → list_said Listing (trim line) ≡ said → Room h (line ∷ ls)
-    → IsLine m (said ∷ []) h ls (λ f. IsWrong f (trim line))
-goes-on m line h k ls said told same right is room =
-    inr (k, told, room-kept h k line ls same room, unright (trim line) said is right)
+  group-is : (m : ℕ) (line : List ℕ) (h : Listed) (ls : List (List ℕ)) → is_group_line line ≡ true
+      → list_said section (trim line) ≡ NextGroup → Room h (line ∷ ls)
+      → IsLine m (NextGroup ∷ []) h ls (λ f. IsWrong among f (trim line))
+  group-is m line h ls group is (inl none) =
+      absurd (omega (arith, none, counted is_group_line line ls true group))
+  group-is m line h ls group is (inr (joints, few)) = inr (
+    record h { joints = h.patterns; patterns = [] },
+    rw joints refl,
+    inl (omega (arith, few, counted is_group_line line ls true group)),
+    unright (trim line) NextGroup is tt,
+  )
 
-said-is : (m : ℕ) (line : List ℕ) (h : Listed) (ls : List (List ℕ)) (said : Said) → IsJudged (trim line) said
-    → list_said Listing (trim line) ≡ said → Room h (line ∷ ls)
-    → IsLine m (said ∷ []) h ls (λ f. IsWrong f (trim line))
-said-is m line h ls (Pattern p) judge is room =
-    goes-on m line h (record h { patterns = h.patterns ++ p ∷ [] }) ls (Pattern p) refl refl tt is room
-said-is m line h ls (Changed p) judge is room = goes-on m line h
-    (record h { patterns = h.patterns ++ p ∷ []; changed = counted_on h.changed }) ls (Changed p) refl refl tt is room
-said-is m line h ls (Exception e) judge is room =
-    goes-on m line h (record h { exceptions = h.exceptions ++ e ∷ [] }) ls (Exception e) refl refl tt is room
-said-is m line h ls (Left n) judge is room =
-    goes-on m line h (record h { left = n }) ls (Left n) refl refl tt is room
-said-is m line h ls (Right n) judge is room =
-    goes-on m line h (record h { right = n }) ls (Right n) refl refl tt is room
-said-is m line h ls (CompoundLeft n) judge is room =
-    goes-on m line h (record h { compound_left = n }) ls (CompoundLeft n) refl refl tt is room
-said-is m line h ls (CompoundRight n) judge is room =
-    goes-on m line h (record h { compound_right = n }) ls (CompoundRight n) refl refl tt is room
-said-is m line h ls NextGroup judge is room = group-is m line h ls judge is room
-said-is m line h ls Nothing judge is room = goes-on m line h h ls Nothing refl refl tt is room
-said-is m line h ls (Wrong f) judge is room =
-    inl (f, refl, judge, λ g wrong. ap fault_said (sym ((wrong-says g (trim line) wrong).1) ∙ is))
+  goes-on : (m : ℕ) (line : List ℕ) (h k : Listed) (ls : List (List ℕ)) (said : Said)
+      → with_all m (said ∷ []) h ≡ Ok k → length k.joints ≡ length h.joints → IsRight said
+      → list_said section (trim line) ≡ said → Room h (line ∷ ls)
+      → IsLine m (said ∷ []) h ls (λ f. IsWrong among f (trim line))
+  goes-on m line h k ls said told same right is room =
+      inr (k, told, room-kept h k line ls same room, unright (trim line) said is right)
 
-unshown : (line : List ℕ) → is_skipped line ≡ true → (g : Fault) → IsWrong g line → ⊥
-unshown line skipped g wrong =
-    false≢true (sym ((wrong-says g line wrong).0) ∙ comment-skipped line ∙ skipped)
+  said-is : (m : ℕ) (line : List ℕ) (h : Listed) (ls : List (List ℕ)) (said : Said) → IsJudged among (trim line) said
+      → list_said section (trim line) ≡ said → Room h (line ∷ ls)
+      → IsLine m (said ∷ []) h ls (λ f. IsWrong among f (trim line))
+  said-is m line h ls (Pattern p) judge is room =
+      goes-on m line h (record h { patterns = h.patterns ++ p ∷ [] }) ls (Pattern p) refl refl tt is room
+  said-is m line h ls (Changed p) judge is room = goes-on m line h
+      (record h { patterns = h.patterns ++ p ∷ []; changed = counted_on h.changed }) ls (Changed p) refl refl tt is room
+  said-is m line h ls (Exception e) judge is room =
+      goes-on m line h (record h { exceptions = h.exceptions ++ e ∷ [] }) ls (Exception e) refl refl tt is room
+  said-is m line h ls (Left n) judge is room =
+      goes-on m line h (record h { left = n }) ls (Left n) refl refl tt is room
+  said-is m line h ls (Right n) judge is room =
+      goes-on m line h (record h { right = n }) ls (Right n) refl refl tt is room
+  said-is m line h ls (CompoundLeft n) judge is room =
+      goes-on m line h (record h { compound_left = n }) ls (CompoundLeft n) refl refl tt is room
+  said-is m line h ls (CompoundRight n) judge is room =
+      goes-on m line h (record h { compound_right = n }) ls (CompoundRight n) refl refl tt is room
+  said-is m line h ls NextGroup judge is room = group-is m line h ls judge is room
+  said-is m line h ls Nothing judge is room = goes-on m line h h ls Nothing refl refl tt is room
+  said-is m line h ls (Wrong f) judge is room =
+      inl (f, refl, judge, λ g wrong. ap fault_said (sym ((wrong-says among section start same g (trim line) wrong).1) ∙ is))
 
-line-by : (m : ℕ) (line : List ℕ) (h : Listed) (ls : List (List ℕ)) (b : Bool) → is_skipped (trim line) ≡ b
-    → Room h (line ∷ ls)
-    → IsLine m (if b then [] else list_said Listing (trim line) ∷ []) h ls (λ f. IsWrong f (trim line))
-line-by m line h ls true is room =
-    inr (h, refl, room-kept h h line ls refl room, unshown (trim line) is)
-line-by m line h ls false is room = said-is m line h ls (list_said Listing (trim line))
-    (judged (trim line) (comment-skipped (trim line) ∙ is)) refl room
+  unshown : (line : List ℕ) → is_skipped line ≡ true → (g : Fault) → IsWrong among g line → ⊥
+  unshown line skipped g wrong =
+      false≢true (sym ((wrong-says among section start same g line wrong).0) ∙ comment-skipped line ∙ skipped)
+
+  line-by : (m : ℕ) (line : List ℕ) (h : Listed) (ls : List (List ℕ)) (b : Bool) → is_skipped (trim line) ≡ b
+      → Room h (line ∷ ls)
+      → IsLine m (if b then [] else list_said section (trim line) ∷ []) h ls (λ f. IsWrong among f (trim line))
+  line-by m line h ls true is room =
+      inr (h, refl, room-kept h h line ls refl room, unshown (trim line) is)
+  line-by m line h ls false is room = said-is m line h ls (list_said section (trim line))
+      (judged among section start same (trim line) (comment-skipped (trim line) ∙ is)) refl room
+
+-- and so among exceptions, or not
+line-of : (m : ℕ) (among : Bool) (line : List ℕ) (h : Listed) (ls : List (List ℕ)) → Room h (line ∷ ls)
+    → IsLine m (listed_said (section_of among) (trim line)) h ls (λ f. IsWrong among f (trim line))
+line-of m true line h ls room = line-by true Words refl (λ cs. refl) m line h ls (is_skipped (trim line)) refl room
+line-of m false line h ls room = line-by false Listing refl (λ cs. refl) m line h ls (is_skipped (trim line)) refl room
 
 -- ---- the first line
 
@@ -214,15 +209,15 @@ first-said line is = rw is refl
 
 first-by : (line : List ℕ) (ls : List (List ℕ)) (b c : Bool) → is_skipped (trim line) ≡ b
     → names_charset (plain_name (trim line)) ≡ c → Room no_patterns (line ∷ ls)
-    → IsLine 1 (if b then [] else list_said Start (trim line) ∷ []) no_patterns ls (λ f. IsWrongLine 0 f line)
+    → IsLine 1 (if b then [] else list_said Start (trim line) ∷ []) no_patterns ls (λ f. IsWrongLine false 0 f line)
 first-by line ls true c is name room = inr (
   no_patterns,
   refl,
   room-kept no_patterns no_patterns line ls refl room,
-  λ g wrong. unshown (trim line) is g wrong.0,
+  λ g wrong. unshown false Listing refl (λ cs. refl) (trim line) is g wrong.0,
 )
 first-by line ls false true is name room =
-    subst (λ said. IsLine 1 (said ∷ []) no_patterns ls (λ f. IsWrongLine 0 f line)) (sym (charset-said (trim line) name))
+    subst (λ said. IsLine 1 (said ∷ []) no_patterns ls (λ f. IsWrongLine false 0 f line)) (sym (charset-said (trim line) name))
     (inr (
       record no_patterns { right = 2 },
       refl,
@@ -230,11 +225,11 @@ first-by line ls false true is name room =
       λ g wrong. false≢true (sym wrong.1 ∙ name),
     ))
 first-by line ls false false is name room =
-    subst (λ said. IsLine 1 (said ∷ []) no_patterns ls (λ f. IsWrongLine 0 f line)) (sym (first-said (trim line) name))
-    (with_name (line-by 1 line no_patterns ls false is room))
+    subst (λ said. IsLine 1 (said ∷ []) no_patterns ls (λ f. IsWrongLine false 0 f line)) (sym (first-said (trim line) name))
+    (with_name (line-by false Listing refl (λ cs. refl) 1 line no_patterns ls false is room))
   where
-    with_name : IsLine 1 (list_said Listing (trim line) ∷ []) no_patterns ls (λ f. IsWrong f (trim line))
-        → IsLine 1 (list_said Listing (trim line) ∷ []) no_patterns ls (λ f. IsWrongLine 0 f line)
+    with_name : IsLine 1 (list_said Listing (trim line) ∷ []) no_patterns ls (λ f. IsWrong false f (trim line))
+        → IsLine 1 (list_said Listing (trim line) ∷ []) no_patterns ls (λ f. IsWrongLine false 0 f line)
     with_name (inl (f, told, wrong, one)) = inl (f, told, (wrong, name), λ g other. one g other.0)
     with_name (inr (k, told, left, none)) = inr (k, told, left, λ g other. none g other.0)
 
@@ -258,44 +253,52 @@ ended-own k n None h f none own told = false≢true (ap is_told told)
 ended-own k n (Some g) h f none own told =
     false≢true (sym none ∙ ap is_of_line (ap fault_told told) ∙ own)
 
-lines-iff : (k : ℕ) (ls : List (List ℕ)) (h : Listed) (n : ℕ) (f : Fault) → Room h ls → is_of_line f ≡ true
-    → (with_lines (suc k) Listing ls h ≡ Err (Line n f)) ↔ IsFirstWrong (suc k) ls n f
-lines-iff k [] h n f room own = (
-  ended-own (suc k) n (count_fault (length h.patterns) (length h.exceptions)) h f (counts-own _ _) own,
+lines-iff : (k : ℕ) (among : Bool) (ls : List (List ℕ)) (h : Listed) (n : ℕ) (f : Fault) → Room h ls
+    → is_of_line f ≡ true
+    → (with_lines (suc k) (section_of among) ls h ≡ Err (Line n f)) ↔ IsFirstWrong among (suc k) ls n f
+lines-iff k among [] h n f room own = (
+  ended-own (suc k) n (end_fault (section_of among) (length h.patterns) (length h.exceptions)) h f (end-own among) own,
   λ never. absurd never,
 )
-lines-iff k (line ∷ ls) h n f room own =
+  where
+    end-own : (x : Bool) → own_of (end_fault (section_of x) (length h.patterns) (length h.exceptions)) ≡ false
+    end-own true = counts-own _ _
+    end-own false = counts-own _ _
+lines-iff k among (line ∷ ls) h n f room own =
     let m = suc (suc k) in
-    let W : Fault → Type 0 = λ g. IsWrong g (trim line) in
-    let is : IsLine m (line_said Listing line) h ls W = line-by m line h ls (is_skipped (trim line)) refl room in
+    let saids = listed_said (section_of among) (trim line) in
+    let next = are_among among (trim line) in
+    let W : Fault → Type 0 = λ g. IsWrong among g (trim line) in
+    let is : IsLine m saids h ls W = line-of m among line h ls room in
     let rest : (j : Listed) → Room j ls
-    → (with_lines m Listing ls j ≡ Err (Line n f)) ↔ IsFirstWrong m ls n f =
-    λ j more. lines-iff (suc k) ls j n f more own in (
-      line-to m n f (line_said Listing line) h (λ j. Room j ls) W (IsFirstWrong m ls n f) (with_lines m Listing ls) rest is,
-      line-from m n f (line_said Listing line) h (λ j. Room j ls) W (IsFirstWrong m ls n f) (with_lines m Listing ls) rest is,
+    → (with_lines m (section_of next) ls j ≡ Err (Line n f)) ↔ IsFirstWrong next m ls n f =
+    λ j more. lines-iff (suc k) next ls j n f more own in
+    subst (λ o. (o ≡ Err (Line n f)) ↔ IsFirstWrong among (suc k) (line ∷ ls) n f)
+    (sym (list-step (suc k) among line ls h)) (
+      line-to m n f saids h (λ j. Room j ls) W (IsFirstWrong next m ls n f) (with_lines m (section_of next) ls) rest is,
+      line-from m n f saids h (λ j. Room j ls) W (IsFirstWrong next m ls n f) (with_lines m (section_of next) ls) rest is,
     )
 
 first-iff : (first : List ℕ) (ls : List (List ℕ)) (n : ℕ) (f : Fault) → is_tex first ≡ false
     → groups_in (first ∷ ls) ≤ 1 → is_of_line f ≡ true
-    → (with_lines 0 Start (first ∷ ls) no_patterns ≡ Err (Line n f)) ↔ IsFirstWrong 0 (first ∷ ls) n f
+    → (with_lines 0 Start (first ∷ ls) no_patterns ≡ Err (Line n f)) ↔ IsFirstWrong false 0 (first ∷ ls) n f
 first-iff first ls n f list few own =
-    let W : Fault → Type 0 = λ g. IsWrongLine 0 g first in
-    let is : IsLine 1 (line_said Start first) no_patterns ls W =
-    subst (λ saids. IsLine 1 saids no_patterns ls W) (sym (start-said first list))
-    (first-by first ls (is_skipped (trim first)) (names_charset (plain_name (trim first))) refl refl
-    (inr (refl, few))) in
+    let saids = listed_said Start (trim first) in
+    let next = are_among false (trim first) in
+    let W : Fault → Type 0 = λ g. IsWrongLine false 0 g first in
+    let is : IsLine 1 saids no_patterns ls W =
+    first-by first ls (is_skipped (trim first)) (names_charset (plain_name (trim first))) refl refl (inr (refl, few)) in
     let rest : (j : Listed) → Room j ls
-    → (with_lines 1 Listing ls j ≡ Err (Line n f)) ↔ IsFirstWrong 1 ls n f =
-    λ j room. lines-iff 0 ls j n f room own in
-    subst (λ s. (and_then (with_all 1 (line_said Start first) no_patterns) (with_lines 1 s ls) ≡ Err (Line n f))
-    ↔ IsFirstWrong 0 (first ∷ ls) n f) (sym (list-behind first list)) (
-      line-to 1 n f (line_said Start first) no_patterns (λ j. Room j ls) W (IsFirstWrong 1 ls n f) (with_lines 1 Listing ls) rest is,
-      line-from 1 n f (line_said Start first) no_patterns (λ j. Room j ls) W (IsFirstWrong 1 ls n f) (with_lines 1 Listing ls) rest is,
+    → (with_lines 1 (section_of next) ls j ≡ Err (Line n f)) ↔ IsFirstWrong next 1 ls n f =
+    λ j room. lines-iff 0 next ls j n f room own in
+    subst (λ o. (o ≡ Err (Line n f)) ↔ IsFirstWrong false 0 (first ∷ ls) n f) (sym (first-step first ls list)) (
+      line-to 1 n f saids no_patterns (λ j. Room j ls) W (IsFirstWrong next 1 ls n f) (with_lines 1 (section_of next) ls) rest is,
+      line-from 1 n f saids no_patterns (λ j. Room j ls) W (IsFirstWrong next 1 ls n f) (with_lines 1 (section_of next) ls) rest is,
     )
 
 pub errors-of-lines : (text first : List ℕ) (more : List (List ℕ)) (n : ℕ) (f : Fault) → is_tex first ≡ false
     → lines (unmarked text) ≡ first ∷ more → groups_in (first ∷ more) ≤ 1 → is_of_line f ≡ true
-    → (parsed text ≡ Err (Line n f)) ↔ IsFirstWrong 0 (first ∷ more) n f
+    → (parsed text ≡ Err (Line n f)) ↔ IsFirstWrong false 0 (first ∷ more) n f
 errors-of-lines text first more n f list are few own =
-    subst (λ ls. (with_lines 0 Start ls no_patterns ≡ Err (Line n f)) ↔ IsFirstWrong 0 (first ∷ more) n f) (sym are)
+    subst (λ ls. (with_lines 0 Start ls no_patterns ≡ Err (Line n f)) ↔ IsFirstWrong false 0 (first ∷ more) n f) (sym are)
     (first-iff first more n f list few own)

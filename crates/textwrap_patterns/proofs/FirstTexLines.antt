@@ -5,7 +5,7 @@ use Rattle.std.specs.List.{slice_split}
 use Rattle.std.specs.Str.Lines.{lines}
 use Rattle.textwrap_text.proofs.Common.{ne_eqb}
 use Rattle.textwrap_patterns.proofs.Common.{Bool, List, ℕ, [], ap, arith, false, false≢true, inl, inr, length, map}
-use Rattle.textwrap_patterns.proofs.Common.{refl, subst, suc, sym, true, ⊤, ◌<◌, ◌∙◌, ◌∷◌, ◌≡◌, ◌++◌}
+use Rattle.textwrap_patterns.proofs.Common.{refl, subst, suc, sym, true, ⊤, ◌∙◌, ◌∷◌, ◌≡◌, ◌++◌}
 use Rattle.textwrap_patterns.proofs.FirstLines.{IsRight, IsStep, fault_said, fault_told, is_told, line-from, line-to}
 use Rattle.textwrap_patterns.proofs.FirstWrong.{IsJudgedWord, word-judged, word-wrong}
 use Rattle.textwrap_patterns.proofs.Skipped.{bare-text, with_bare}
@@ -20,8 +20,8 @@ use Rattle.textwrap_patterns.specs.Parsing.{no_patterns, opened, opened_text, ou
 use Rattle.textwrap_patterns.specs.Parsing.{fault_said as fault_saids, tex_said, text_said, unmarked}
 use Rattle.textwrap_patterns.specs.Parsing.{words_said}
 use Rattle.textwrap_patterns.specs.declared.entries.Section.{Section}
-use Rattle.textwrap_patterns.specs.declared.entries.Section.TheVariants.{Start, Listing, Preamble, Minima}
-use Rattle.textwrap_patterns.specs.declared.entries.Section.TheVariants.{Patterns, Exceptions, Behind}
+use Rattle.textwrap_patterns.specs.declared.entries.Section.TheVariants.{Preamble, Minima}
+use Rattle.textwrap_patterns.specs.declared.entries.Section.TheVariants.{Patterns, Exceptions}
 use Rattle.textwrap_patterns.specs.declared.errors.Fault.{Fault}
 use Rattle.textwrap_patterns.specs.declared.errors.Fault.TheVariants as fault
 use Rattle.textwrap_patterns.specs.declared.errors.ParseError.TheVariants.{Line}
@@ -48,41 +48,41 @@ module _ (section : Section) (exception : Bool) (same : (cs : List ℕ) → is_e
       never g (inl here) = none g here
       never g (inr (before, later)) = nothing g later
 
-  unwrong : (word : List ℕ) (said : Said) → 0 < length word → word_said section word ≡ said → IsRight said
+  unwrong : (word : List ℕ) (said : Said) → word_said section word ≡ said → IsRight said
       → (g : Fault) → ¬ IsWrongWord exception g word
-  unwrong word said some is right g wrong = subst IsRight (sym is ∙ word-wrong section word g (λ e. some)
+  unwrong word said is right g wrong = subst IsRight (sym is ∙ word-wrong section word g
       (subst (λ b. IsWrongWord b g word) (sym (same word)) wrong)) right
 
   by-said : (m : ℕ) (word : List ℕ) (words : List (List ℕ)) (h : Listed) (more : List Said) (said : Said)
-      → 0 < length word → word_said section word ≡ said → IsJudgedWord exception word said
+      → word_said section word ≡ said → IsJudgedWord exception word said
       → ((k : Listed) → IsStep Anything m more k (λ f. IsFirstWrongWord exception f words))
       → IsStep Anything m (said ∷ more) h (λ f. IsFirstWrongWord exception f (word ∷ words))
-  by-said m word words h more (Pattern p) some is judge rest =
+  by-said m word words h more (Pattern p) is judge rest =
       let k = record h { patterns = h.patterns ++ p ∷ [] } in
-      goes-on m word words k more (unwrong word (Pattern p) some is tt) (rest k)
-  by-said m word words h more (Changed p) some is judge rest =
+      goes-on m word words k more (unwrong word (Pattern p) is tt) (rest k)
+  by-said m word words h more (Changed p) is judge rest =
       let k = record h { patterns = h.patterns ++ p ∷ []; changed = counted_on h.changed } in
-      goes-on m word words k more (unwrong word (Changed p) some is tt) (rest k)
-  by-said m word words h more (Exception e) some is judge rest =
+      goes-on m word words k more (unwrong word (Changed p) is tt) (rest k)
+  by-said m word words h more (Exception e) is judge rest =
       let k = record h { exceptions = h.exceptions ++ e ∷ [] } in
-      goes-on m word words k more (unwrong word (Exception e) some is tt) (rest k)
-  by-said m word words h more (Left n) some is judge rest =
-      let k = record h { left = n } in goes-on m word words k more (unwrong word (Left n) some is tt) (rest k)
-  by-said m word words h more (Right n) some is judge rest =
-      let k = record h { right = n } in goes-on m word words k more (unwrong word (Right n) some is tt) (rest k)
-  by-said m word words h more (CompoundLeft n) some is judge rest =
+      goes-on m word words k more (unwrong word (Exception e) is tt) (rest k)
+  by-said m word words h more (Left n) is judge rest =
+      let k = record h { left = n } in goes-on m word words k more (unwrong word (Left n) is tt) (rest k)
+  by-said m word words h more (Right n) is judge rest =
+      let k = record h { right = n } in goes-on m word words k more (unwrong word (Right n) is tt) (rest k)
+  by-said m word words h more (CompoundLeft n) is judge rest =
       let k = record h { compound_left = n } in
-      goes-on m word words k more (unwrong word (CompoundLeft n) some is tt) (rest k)
-  by-said m word words h more (CompoundRight n) some is judge rest =
+      goes-on m word words k more (unwrong word (CompoundLeft n) is tt) (rest k)
+  by-said m word words h more (CompoundRight n) is judge rest =
       let k = record h { compound_right = n } in
-      goes-on m word words k more (unwrong word (CompoundRight n) some is tt) (rest k)
-  by-said m word words h more NextGroup some is judge rest = absurd judge
-  by-said m word words h more Nothing some is judge rest =
-      goes-on m word words h more (unwrong word Nothing some is tt) (rest h)
-  by-said m word words h more (Wrong f) some is judge rest = inl (f, refl, inl judge, only)
+      goes-on m word words k more (unwrong word (CompoundRight n) is tt) (rest k)
+  by-said m word words h more NextGroup is judge rest = absurd judge
+  by-said m word words h more Nothing is judge rest =
+      goes-on m word words h more (unwrong word Nothing is tt) (rest h)
+  by-said m word words h more (Wrong f) is judge rest = inl (f, refl, inl judge, only)
     where
       only : (g : Fault) → IsFirstWrongWord exception g (word ∷ words) → g ≡ f
-      only g (inl here) = ap fault_said (sym (word-wrong section word g (λ e. some)
+      only g (inl here) = ap fault_said (sym (word-wrong section word g
           (subst (λ b. IsWrongWord b g word) (sym (same word)) here)) ∙ is)
       only g (inr (before, later)) = absurd (before f judge)
 
@@ -94,10 +94,9 @@ module _ (section : Section) (exception : Bool) (same : (cs : List ℕ) → is_e
   words-are m ((c ∷ cs) ∷ words) h =
       let word = c ∷ cs in
       rw (ne_eqb (length word) 0 (λ none. absurd (omega (arith, none)))) (by-said m word
-      (filter (λ word. not (is_empty word)) words) h (words_said section words) (word_said section word)
-      (omega arith) refl
+      (filter (λ word. not (is_empty word)) words) h (words_said section words) (word_said section word) refl
       (subst (λ b. IsJudgedWord b word (word_said section word)) (same word)
-      (word-judged section word (λ e. omega arith)))
+      (word-judged section word))
       (λ k. words-are m words k))
 
 -- ---- lines
@@ -110,13 +109,9 @@ step-as m saids h V W to from (inr (k, is, room, none)) = inr (k, is, tt, λ g o
 
 same-group : (section : Section) → is_group section ≡ true → (cs : List ℕ)
     → is_exception section cs ≡ has_exceptions section
-same-group Start is cs = absurd (false≢true is)
-same-group Listing is cs = absurd (false≢true is)
-same-group Preamble is cs = absurd (false≢true is)
-same-group Minima is cs = absurd (false≢true is)
 same-group Patterns is cs = refl
 same-group Exceptions is cs = refl
-same-group Behind is cs = absurd (false≢true is)
+same-group _ is cs = absurd (false≢true is)
 
 abbrev or_empty : Option Fault → Fault
 or_empty None = fault.Empty
@@ -174,13 +169,11 @@ counts-end false false = refl
 
 ends : (section : Section) (patterns exceptions : ℕ) → is_end (end_fault section patterns exceptions) ≡ true
 unfolding is_end
-ends Start patterns exceptions = counts-end _ _
-ends Listing patterns exceptions = counts-end _ _
 ends Preamble patterns exceptions = refl
 ends Minima patterns exceptions = refl
 ends Patterns patterns exceptions = refl
 ends Exceptions patterns exceptions = refl
-ends Behind patterns exceptions = counts-end _ _
+ends _ patterns exceptions = counts-end _ _
 
 never-ended : (k n : ℕ) (o : Option Fault) (h : Listed) (f : Fault) → is_end o ≡ true → is_of_end f ≡ false
     → ended k o h ≡ Err (Line n f) → ⊥

@@ -90,7 +90,9 @@ first-place len (place ∷ places) some = elim (cases_Bool (nat_lt 0 len)) [
     below p l is = le-ltb p l (omega (arith, ltb-false 0 l is))
 
 -- an exception has each hyphen between two letters, if no part between hyphens is empty
-pub exception-gap : (cs : List ℕ) → 0 < length cs
+pub exception-gap : (cs : List ℕ)
     → are_places (length (letters_between cs)) 0 (hyphens_past 0 cs) ≡ not (has_gap cs)
-exception-gap cs some = first-place (length (letters_between cs)) (hyphens_past 0 cs) (places-or 0 cs some)
-    ∙ (gaps cs).1 (length (letters_between cs)) 0 (omega arith)
+exception-gap [] = refl
+exception-gap (c ∷ cs) = let word = c ∷ cs in
+    first-place (length (letters_between word)) (hyphens_past 0 word) (places-or 0 word (omega arith))
+    ∙ (gaps word).1 (length (letters_between word)) 0 (omega arith)

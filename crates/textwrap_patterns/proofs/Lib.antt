@@ -6,6 +6,7 @@ pub mod FirstTexLines
 pub mod FirstWrong
 pub mod Gaps
 pub mod Said
+pub mod Sections
 pub mod Skipped
 pub mod Words
 pub mod Writing

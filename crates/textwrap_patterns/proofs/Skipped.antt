@@ -1,28 +1,28 @@
 -- Lines that say nothing.
-use Rattle.std.specs.Prelude.{Option, None, Some, Ok, Err, ◌==◌, if◌then◌else◌, is_some}
+use Rattle.std.specs.Prelude.{Option, None, Some, Ok, Err, ◌==◌, ◌&&◌, ◌||◌, if◌then◌else◌, is_some, not}
 use Rattle.std.specs.Str.{trim}
 use Rattle.std.specs.Str.Lines.{lines}
 use Rattle.textwrap_patterns.proofs.Common.{All, All-head, All-tail, Bool, List, ℕ, [], ap, arith, cases_Bool, false}
-use Rattle.textwrap_patterns.proofs.Common.{inl, inr, length, map, refl, subst, suc, sym, true, false≢true}
+use Rattle.textwrap_patterns.proofs.Common.{inl, inr, length, map, nat_tests, refl, suc, sym, true, false≢true}
 use Rattle.textwrap_patterns.proofs.Common.{◌++◌, ◌∙◌, ◌∷◌, ◌≡◌}
 use Rattle.textwrap_patterns.specs.Entries.{Said, Pattern, Changed, Exception, Left, Right, CompoundLeft}
 use Rattle.textwrap_patterns.specs.Entries.{CompoundRight, NextGroup, Nothing, Wrong}
-use Rattle.textwrap_patterns.specs.Faults.{is_comment}
+use Rattle.textwrap_patterns.specs.Faults.{are_among, has_exceptions, is_comment, is_mark, is_silent}
 use Rattle.textwrap_patterns.specs.Laws.{AreListed, AreTex, uncommented, without_line}
 use Rattle.textwrap_patterns.specs.Listed.{Listed}
-use Rattle.textwrap_patterns.specs.Parsing.{Outcome, after_mark, and_then, closed, comment_in, counted_on, exceptions_mark, end_fault, ended, is_list}
+use Rattle.textwrap_patterns.specs.Parsing.{Outcome, after_mark, and_then, begins_exceptions, closed, ends_exceptions, comment_in, counted_on, exceptions_mark, end_fault, ended, is_list}
 use Rattle.textwrap_patterns.specs.Parsing.{is_closed, is_group, is_minima, is_skipped, is_tex, line_said, listed_said}
 use Rattle.textwrap_patterns.specs.Parsing.{names_minima, opened, patterns_mark, opened_text, parsed, section_after}
 use Rattle.textwrap_patterns.specs.Parsing.{tex_after, tex_said, unmarked, with_all, with_lines, no_patterns}
 use Rattle.textwrap_patterns.specs.declared.entries.Section.{Section}
-use Rattle.textwrap_patterns.specs.declared.entries.Section.TheVariants.{Start, Listing, Preamble}
+use Rattle.textwrap_patterns.specs.declared.entries.Section.TheVariants.{Start, Listing, Words, Preamble}
 use Rattle.textwrap_patterns.specs.declared.entries.Section.TheVariants.{Patterns, Exceptions}
 use Rattle.textwrap_patterns.specs.declared.entries.Section.TheVariants.{Behind, Minima}
 use Rattle.textwrap_patterns.specs.declared.errors.Fault.{Fault}
 
 -- ---- the numbers of lines
 
-all-shifted : (n m : ℕ) (saids : List Said) (h : Listed) (next other : Listed → Outcome)
+pub all-shifted : (n m : ℕ) (saids : List Said) (h : Listed) (next other : Listed → Outcome)
     → ((k : Listed) → without_line (next k) ≡ without_line (other k))
     → without_line (and_then (with_all n saids h) next) ≡ without_line (and_then (with_all m saids h) other)
 all-shifted n m [] h next other same = same h
@@ -65,37 +65,84 @@ lines-shifted n m section (line ∷ more) h =
 
 -- ---- lists
 
-pub comment-skipped : (line : List ℕ) → is_comment line ≡ is_skipped line
+pub comment-skipped : (line : List ℕ) → is_silent line ≡ is_skipped line
 comment-skipped [] = refl
 comment-skipped (b ∷ bs) = grind arith
 
-line-skipped : (n : ℕ) (before after : List (List ℕ)) (line : List ℕ) (h : Listed)
-    → is_comment (trim line) ≡ true
-    → without_line (with_lines n Listing (before ++ line ∷ after) h)
-    ≡ without_line (with_lines n Listing (before ++ after) h)
-line-skipped n [] after line h is =
-    rw (sym (comment-skipped (trim line)) ∙ is) (lines-shifted (suc n) n Listing after h)
-line-skipped n (first ∷ before) after line h is =
-    all-shifted (suc n) (suc n) (line_said Listing first) h
-    (with_lines (suc n) Listing (before ++ line ∷ after)) (with_lines (suc n) Listing (before ++ after))
-    (λ k. line-skipped (suc n) before after line k is)
+-- among exceptions or not
+abbrev pub section_of : Bool → Section
+section_of true = Words
+section_of false = Listing
 
-pub list-behind : (first : List ℕ) → is_tex first ≡ false → section_after Start first ≡ Listing
-list-behind first is = rw is refl
+by-marks : (among begins ends : Bool) → (if begins then Words else if ends then Listing else section_of among)
+    ≡ section_of (begins || (among && not ends))
+by-marks among true ends = refl
+by-marks true false true = refl
+by-marks true false false = refl
+by-marks false false true = refl
+by-marks false false false = refl
 
-first-skipped : (first line : List ℕ) (before after : List (List ℕ)) → is_tex first ≡ false
-    → is_comment (trim line) ≡ true
-    → without_line (with_lines 0 Start (first ∷ before ++ line ∷ after) no_patterns)
-    ≡ without_line (with_lines 0 Start (first ∷ before ++ after) no_patterns)
-first-skipped first line before after list is = subst (λ section.
-    without_line (and_then first_said (with_lines 1 section (before ++ line ∷ after)))
-    ≡ without_line (and_then first_said (with_lines 1 section (before ++ after))))
-    (sym (list-behind first list)) (all-shifted 1 1 (line_said Start first) no_patterns
-    (with_lines 1 Listing (before ++ line ∷ after)) (with_lines 1 Listing (before ++ after))
-    (λ k. line-skipped 1 before after line k is))
+-- a line of a list, and where the next is read
+pub list-step : (n : ℕ) (among : Bool) (line : List ℕ) (more : List (List ℕ)) (h : Listed)
+    → with_lines n (section_of among) (line ∷ more) h
+    ≡ and_then (with_all (suc n) (listed_said (section_of among) (trim line)) h)
+    (with_lines (suc n) (section_of (are_among among (trim line))) more)
+list-step n true line more h =
+    ap (λ s. and_then (with_all (suc n) (listed_said Words (trim line)) h) (with_lines (suc n) s more))
+    (by-marks true (begins_exceptions (trim line)) (ends_exceptions (trim line)))
+list-step n false line more h =
+    ap (λ s. and_then (with_all (suc n) (listed_said Listing (trim line)) h) (with_lines (suc n) s more))
+    (by-marks false (begins_exceptions (trim line)) (ends_exceptions (trim line)))
+
+-- and so the first
+pub first-step : (first : List ℕ) (more : List (List ℕ)) → is_tex first ≡ false
+    → with_lines 0 Start (first ∷ more) no_patterns
+    ≡ and_then (with_all 1 (listed_said Start (trim first)) no_patterns)
+    (with_lines 1 (section_of (are_among false (trim first))) more)
+first-step first more list =
+    rw list (ap (λ s. and_then (with_all 1 (listed_said Start (trim first)) no_patterns) (with_lines 1 s more))
+    (by-first (begins_exceptions (trim first)) (ends_exceptions (trim first))))
   where
-    first_said : Outcome
-    first_said = with_all 1 (line_said Start first) no_patterns
+    by-first : (begins ends : Bool) → (if begins then Words else Listing)
+        ≡ section_of (begins || (false && not ends))
+    by-first true ends = refl
+    by-first false ends = refl
+
+-- a comment ends and begins no exceptions
+comment-among : (among : Bool) (line : List ℕ) → is_comment line ≡ true → are_among among line ≡ among
+comment-among true [] is = refl
+comment-among false [] is = refl
+comment-among among (b ∷ bs) is = rw (other 0x5C refl refl, other 0x7D refl refl) (stays among)
+  where
+    other : (c : ℕ) → (0x25 == c) ≡ false → (0x23 == c) ≡ false → (b == c) ≡ false
+    other c one two = grind (arith, nat_tests)
+
+    stays : (x : Bool) → (x && true) ≡ x
+    stays true = refl
+    stays false = refl
+
+line-skipped : (n : ℕ) (among : Bool) (before after : List (List ℕ)) (line : List ℕ) (h : Listed)
+    → is_comment (trim line) ≡ true
+    → without_line (with_lines n (section_of among) (before ++ line ∷ after) h)
+    ≡ without_line (with_lines n (section_of among) (before ++ after) h)
+line-skipped n among [] after line h is =
+    ap without_line (list-step n among line after h)
+    ∙ ap (λ saids. without_line (and_then (with_all (suc n) saids h)
+    (with_lines (suc n) (section_of (are_among among (trim line))) after))) silent
+    ∙ ap (λ x. without_line (with_lines (suc n) (section_of x) after h)) (comment-among among (trim line) is)
+    ∙ lines-shifted (suc n) n (section_of among) after h
+  where
+    silent : listed_said (section_of among) (trim line) ≡ []
+    silent = rw (sym (comment-skipped (trim line)) ∙ ap (λ b. b || is_mark (trim line)) is) refl
+line-skipped n among (first ∷ before) after line h is =
+    ap without_line (list-step n among first (before ++ line ∷ after) h)
+    ∙ all-shifted (suc n) (suc n) (listed_said (section_of among) (trim first)) h
+    (with_lines (suc n) next (before ++ line ∷ after)) (with_lines (suc n) next (before ++ after))
+    (λ k. line-skipped (suc n) (are_among among (trim first)) before after line k is)
+    ∙ ap without_line (sym (list-step n among first (before ++ after) h))
+  where
+    next : Section
+    next = section_of (are_among among (trim first))
 
 pub lists-skipped : (text other first line : List ℕ) (before after : List (List ℕ))
     → is_tex first ≡ false → is_comment (trim line) ≡ true
@@ -104,41 +151,54 @@ pub lists-skipped : (text other first line : List ℕ) (before after : List (Lis
     → without_line (parsed text) ≡ without_line (parsed other)
 lists-skipped text other first line before after list is whole less =
     ap (λ ls. without_line (with_lines 0 Start ls no_patterns)) whole
-    ∙ first-skipped first line before after list is
+    ∙ ap without_line (first-step first (before ++ line ∷ after) list)
+    ∙ all-shifted 1 1 (listed_said Start (trim first)) no_patterns (with_lines 1 next (before ++ line ∷ after))
+    (with_lines 1 next (before ++ after))
+    (λ k. line-skipped 1 (are_among false (trim first)) before after line k is)
+    ∙ ap without_line (sym (first-step first (before ++ after) list))
     ∙ ap (λ ls. without_line (with_lines 0 Start ls no_patterns)) (sym less)
+  where
+    next : Section
+    next = section_of (are_among false (trim first))
 
 -- ---- blanks
 
-then-same : (o : Outcome) (next other : Listed → Outcome) → ((k : Listed) → next k ≡ other k)
+pub then-same : (o : Outcome) (next other : Listed → Outcome) → ((k : Listed) → next k ≡ other k)
     → and_then o next ≡ and_then o other
 then-same (Ok k) next other same = same k
 then-same (Err e) next other same = refl
 
-pub start-said : (first : List ℕ) → is_tex first ≡ false → line_said Start first ≡ listed_said Start (trim first)
-start-said first is = rw is refl
-
 -- what lines of a list say without the blanks on their sides
 abbrev with_trimmed : ℕ → Section → List (List ℕ) → Listed → Outcome
 with_trimmed n section [] h = ended n (end_fault section (length h.patterns) (length h.exceptions)) h
-with_trimmed n section (line ∷ more) h =
-    and_then (with_all (suc n) (listed_said section line) h) (with_trimmed (suc n) Listing more)
+with_trimmed n section (line ∷ more) h = and_then (with_all (suc n) (listed_said section line) h)
+    (with_trimmed (suc n) (section_of (are_among (has_exceptions section) line)) more)
 
-trimmed-lines : (n : ℕ) (ls : List (List ℕ)) (h : Listed)
-    → with_lines n Listing ls h ≡ with_trimmed n Listing (map trim ls) h
-trimmed-lines n [] h = refl
-trimmed-lines n (line ∷ more) h = then-same (with_all (suc n) (listed_said Listing (trim line)) h)
-    (with_lines (suc n) Listing more) (with_trimmed (suc n) Listing (map trim more)) (trimmed-lines (suc n) more)
+trimmed-lines : (n : ℕ) (among : Bool) (ls : List (List ℕ)) (h : Listed)
+    → with_lines n (section_of among) ls h ≡ with_trimmed n (section_of among) (map trim ls) h
+trimmed-lines n among [] h = refl
+trimmed-lines n true (line ∷ more) h = list-step n true line more h
+    ∙ then-same (with_all (suc n) (listed_said Words (trim line)) h) (with_lines (suc n) (section_of next) more)
+    (with_trimmed (suc n) (section_of next) (map trim more)) (trimmed-lines (suc n) next more)
+  where
+    next : Bool
+    next = are_among true (trim line)
+trimmed-lines n false (line ∷ more) h = list-step n false line more h
+    ∙ then-same (with_all (suc n) (listed_said Listing (trim line)) h) (with_lines (suc n) (section_of next) more)
+    (with_trimmed (suc n) (section_of next) (map trim more)) (trimmed-lines (suc n) next more)
+  where
+    next : Bool
+    next = are_among false (trim line)
 
 trimmed-text : (ls : List (List ℕ)) → AreListed ls
     → with_lines 0 Start ls no_patterns ≡ with_trimmed 0 Start (map trim ls) no_patterns
 trimmed-text [] are = refl
-trimmed-text (first ∷ more) are =
-    ap (λ saids. and_then (with_all 1 saids no_patterns) (with_lines 1 (section_after Start first) more))
-    (start-said first are)
-    ∙ ap (λ s. and_then (with_all 1 (listed_said Start (trim first)) no_patterns) (with_lines 1 s more))
-    (list-behind first are)
-    ∙ then-same (with_all 1 (listed_said Start (trim first)) no_patterns) (with_lines 1 Listing more)
-    (with_trimmed 1 Listing (map trim more)) (trimmed-lines 1 more)
+trimmed-text (first ∷ more) are = first-step first more are
+    ∙ then-same (with_all 1 (listed_said Start (trim first)) no_patterns) (with_lines 1 (section_of next) more)
+    (with_trimmed 1 (section_of next) (map trim more)) (trimmed-lines 1 next more)
+  where
+    next : Bool
+    next = are_among false (trim first)
 
 pub blanks-skipped : (text other : List ℕ) → AreListed (lines (unmarked text)) → AreListed (lines (unmarked other))
     → map trim (lines (unmarked text)) ≡ map trim (lines (unmarked other)) → parsed text ≡ parsed other
@@ -179,11 +239,10 @@ tex-line : (section : Section) (line : List ℕ) → IsOfTex section → names_m
     × (section_after section line ≡ tex_after section (uncommented line))
 tex-line Start line is none = absurd (false≢true (sym is.0))
 tex-line Listing line is none = absurd (false≢true (sym is.0))
+tex-line Words line is none = absurd (false≢true (sym is.0))
 tex-line Preamble line is none = rw none (refl, refl)
 tex-line Minima line is none = absurd (false≢true (sym is.1))
-tex-line Patterns line is none = (refl, refl)
-tex-line Exceptions line is none = (refl, refl)
-tex-line Behind line is none = (refl, refl)
+tex-line _ line is none = (refl, refl)
 
 -- what lines of TeX say, by what stands before their comments
 abbrev pub with_bare : ℕ → Section → List (List ℕ) → Listed → Outcome

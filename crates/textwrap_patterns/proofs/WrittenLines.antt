@@ -23,12 +23,13 @@ use Rattle.textwrap_patterns.specs.Letters.{folded}
 use Rattle.textwrap_patterns.specs.Places.{AreInnerPlaces}
 use Rattle.textwrap_patterns.proofs.Common.{true, ℕ, ◌+◌, ◌++◌, ◌<◌, ◌∙◌, ◌∷◌, ◌≡◌, ◌≢◌, ◌≤◌}
 use Rattle.textwrap_patterns.proofs.Words.{AreShown, Bare, bare, is_shown, shown-parts}
-use Rattle.textwrap_patterns.proofs.Skipped.{comment-skipped}
 use Rattle.textwrap_patterns.specs.Dictionaries.{hyphened, is_bare, pattern_line, text_of_lines}
 use Rattle.textwrap_patterns.specs.Entries.{Said, command_said, is_command, is_sign, word_said}
 use Rattle.textwrap_patterns.specs.Changes.{before}
+use Rattle.textwrap_patterns.proofs.Skipped.{comment-skipped}
+use Rattle.textwrap_patterns.specs.Faults.{is_silent}
 use Rattle.textwrap_patterns.specs.Parsing.{before_comment, is_closed, is_group}
-use Rattle.textwrap_patterns.specs.Parsing.{line_said, listed_said, section_after, tex_after, tex_said}
+use Rattle.textwrap_patterns.specs.Parsing.{line_said, list_after, listed_said, section_after, tex_after, tex_said}
 use Rattle.textwrap_patterns.specs.declared.entries.Section.{Section}
 use Rattle.textwrap_patterns.specs.declared.entries.Section.TheVariants.{Listing}
 use Rattle.textwrap_patterns.specs.declared.entries.Section.TheVariants.{Patterns, Exceptions}
@@ -120,9 +121,9 @@ shown-ink c is = let parts = shown-parts c is in rw (parts.0, unblank c parts.2)
 pub word-ink : (cs : List ℕ) → AreShown cs → AreInk cs
 word-ink cs are = All-weaker (λ c. is_shown c ≡ true) (λ c. is_ink c ≡ true) shown-ink cs are
 
--- a byte with which no comment and no word of libhyphen begins
+-- a byte with which a comment, a word of libhyphen or a line that begins or ends exceptions begins
 abbrev pub is_low : ℕ → Bool
-is_low b = is_ascii_uppercase b || ((b == 0x25) || (b == 0x23))
+is_low b = (is_ascii_uppercase b || ((b == 0x25) || (b == 0x23))) || ((b == 0x5C) || (b == 0x7D))
 
 or-none : (x y : Bool) → (x || y) ≡ false → (x ≡ false) × (y ≡ false)
 or-none false y is = (refl, is)
@@ -147,10 +148,15 @@ no-command b [] other = refl
 no-command b (c ∷ cs) other = rw other refl
 
 low-said : (b : ℕ) (bs cs : List ℕ) → is_low b ≡ false → chars (b ∷ bs) ≡ cs
-    → listed_said Listing (b ∷ bs) ≡ word_said Listing cs ∷ []
+    → (listed_said Listing (b ∷ bs) ≡ word_said Listing cs ∷ []) × (list_after Listing (b ∷ bs) ≡ Listing)
 low-said b bs cs low are =
-    let parts = or-none (is_ascii_uppercase b) ((b == 0x25) || (b == 0x23)) low in
-    rw (sym (comment-skipped (b ∷ bs)) ∙ parts.1, command-none b bs parts.0, no-command b bs parts.0, are) refl
+    let both = or-none (is_ascii_uppercase b || ((b == 0x25) || (b == 0x23))) ((b == 0x5C) || (b == 0x7D)) low in
+    let parts = or-none (is_ascii_uppercase b) ((b == 0x25) || (b == 0x23)) both.0 in
+    let marks = or-none (b == 0x5C) (b == 0x7D) both.1 in
+    let silent : is_silent (b ∷ bs) ≡ false = rw (parts.1, marks.0, marks.1) refl in (
+      rw (sym (comment-skipped (b ∷ bs)) ∙ silent, command-none b bs parts.0, no-command b bs parts.0, are) refl,
+      rw (marks.0, marks.1) refl,
+    )
 
 -- a line says this alone in a section, and the next is read in it
 abbrev pub IsRead : Section → List ℕ → Said → Type 0
@@ -159,25 +165,22 @@ IsRead section line said = (line_said section line ≡ said ∷ []) × (section_
 -- what a line of a list says that is a word, and where the next is read
 pub list-word : (cs : List ℕ) (b : ℕ) (bs : List ℕ) → AreShown cs → encode_utf8_all cs ≡ b ∷ bs
     → is_low b ≡ false → IsRead Listing (encode_utf8_all cs) (word_said Listing cs)
-list-word cs b bs shown is low = (
-  ap (listed_said Listing) (trim-ink cs ink ∙ is)
-      ∙ low-said b bs cs low (ap chars (sym is) ∙ chars-ink cs ink),
-  refl,
-)
-  where
-    ink : AreInk cs
-    ink = word-ink cs shown
+list-word cs b bs shown is low =
+    let ink : AreInk cs = word-ink cs shown in
+    let said = low-said b bs cs low (ap chars (sym is) ∙ chars-ink cs ink) in
+    let line = trim-ink cs ink ∙ is in
+    (ap (listed_said Listing) line ∙ said.0, ap (list_after Listing) line ∙ said.1)
 
 -- ---- words in groups of TeX
 
 unsigned : (c : ℕ) → is_sign c ≡ false
-    → (is_whitespace c ≡ false) × ((c == 0x7D) ≡ false) × ((c == 0x25) ≡ false)
+    → (is_whitespace c ≡ false) × ((c == 0x7D) ≡ false) × ((c == 0x25) ≡ false) × ((c == 0x5C) ≡ false)
 unsigned c none =
     let one = or-none ((((is_whitespace c || (c == 0x7B)) || (c == 0x7D)) || (c == 0x5C)) || (c == 0x25)) (c == 0xFFFD) none in
     let two = or-none (((is_whitespace c || (c == 0x7B)) || (c == 0x7D)) || (c == 0x5C)) (c == 0x25) one.0 in
     let three = or-none ((is_whitespace c || (c == 0x7B)) || (c == 0x7D)) (c == 0x5C) two.0 in
     let four = or-none (is_whitespace c || (c == 0x7B)) (c == 0x7D) three.0 in
-    ((or-none (is_whitespace c) (c == 0x7B) four.0).0, four.1, two.1)
+    ((or-none (is_whitespace c) (c == 0x7B) four.0).0, four.1, two.1, three.1)
 
 prefix-all : (p : ℕ → Bool) (cs : List ℕ) → All (λ c. p c ≡ true) cs → prefix_len p cs ≡ length cs
 prefix-all p [] are = refl
@@ -240,7 +243,13 @@ pub record IsBegun (bytes : List ℕ) : Type 0 where
   pub low : is_low first ≡ false
 
 high-low : (b : ℕ) → 128 ≤ b → is_low b ≡ false
-high-low b high = rw (le-leb-false b high, ne_eqb b 0x25 (omega (arith, high)), ne_eqb b 0x23 (omega (arith, high))) refl
+high-low b high = rw (
+  le-leb-false b high,
+  ne_eqb b 0x25 (omega (arith, high)),
+  ne_eqb b 0x23 (omega (arith, high)),
+  ne_eqb b 0x5C (omega (arith, high)),
+  ne_eqb b 0x7D (omega (arith, high)),
+) refl
   where
     le-leb-false : (c : ℕ) → 128 ≤ c → is_ascii_uppercase c ≡ false
     le-leb-false c le = grind (arith, nat_tests)
@@ -265,7 +274,8 @@ upper-changed c same = elim (cases_Bool (is_ascii_uppercase c)) [
 ]
 
 bare-low : (c : ℕ) → Bare c → is_low c ≡ false
-bare-low c b = rw (upper-changed c b.plain.same, (unsigned c b.plain.sign).2, b.hash) refl
+bare-low c b = let none = unsigned c b.plain.sign in
+    rw (upper-changed c b.plain.same, none.2, b.hash, none.3, none.1) refl
 
 digit-low : (level : ℕ) → nat_lt level 10 ≡ true → is_low (level + 0x30) ≡ false
 digit-low level lt = not-true (is_low (level + 0x30)) (each-of (λ c. not (is_low c)) 48 10 (level + 0x30) refl

@@ -131,9 +131,9 @@ silent section next line rest h n none after =
     ap (λ saids. and_then (with_all (suc n) saids h) (with_lines (suc n) (section_after section line) rest)) none
     ∙ ap (λ s. with_lines (suc n) s rest h) after
 
-next-group : line_said Listing (encode_utf8_all (codes "NEXTLEVEL")) ≡ NextGroup ∷ []
+next-group : IsRead Listing (encode_utf8_all (codes "NEXTLEVEL")) NextGroup
 unfolding trim_start trim_end chars lib.Utf8.encode
-next-group = refl
+next-group = (refl, refl)
 
 groups-read : (joints : List PatternText) (rest : List (List ℕ)) (right : ℕ) (k : Listed) → All IsPattern joints
     → ((n : ℕ) → with_lines n Listing rest (record (listed [] [] 2 right) { joints = joints }) ≡ Ok k)
@@ -145,7 +145,9 @@ groups-read (p ∷ ps) rest right k are behind n =
     ∙ append_assoc (map encode_utf8_all (pattern_lines (p ∷ ps))) (encode_utf8_all (codes "NEXTLEVEL") ∷ []) rest)
     ∙ patterns-read Listing listed-pattern (p ∷ ps) (encode_utf8_all (codes "NEXTLEVEL") ∷ rest)
     (listed [] [] 2 right) k are (λ m. ap (λ saids. and_then (with_all (suc m) saids (listed (p ∷ ps) [] 2 right))
-    (with_lines (suc m) Listing rest)) next-group ∙ behind (suc m)) n
+    (with_lines (suc m) (section_after Listing (encode_utf8_all (codes "NEXTLEVEL"))) rest)) next-group.0
+    ∙ ap (λ s. and_then (with_all (suc m) (NextGroup ∷ []) (listed (p ∷ ps) [] 2 right)) (with_lines (suc m) s rest))
+    next-group.1 ∙ behind (suc m)) n
 
 -- ---- texts
 

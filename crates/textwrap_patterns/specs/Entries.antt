@@ -19,9 +19,9 @@ use Rattle.textwrap_patterns.specs.declared.changes.Region.{Region}
 use Rattle.textwrap_patterns.specs.declared.entries.Entry as program
 use Rattle.textwrap_patterns.specs.declared.entries.Entry.TheVariants as entry
 use Rattle.textwrap_patterns.specs.declared.entries.Section.{Section}
-use Rattle.textwrap_patterns.specs.declared.entries.Section.TheVariants.{Start, Listing}
-use Rattle.textwrap_patterns.specs.declared.entries.Section.TheVariants.{Preamble, Minima, Patterns}
-use Rattle.textwrap_patterns.specs.declared.entries.Section.TheVariants.{Exceptions, Behind}
+use Rattle.textwrap_patterns.specs.declared.entries.Section.TheVariants.{Start, Words}
+use Rattle.textwrap_patterns.specs.declared.entries.Section.TheVariants.{Patterns}
+use Rattle.textwrap_patterns.specs.declared.entries.Section.TheVariants.{Exceptions}
 use Rattle.textwrap_patterns.specs.declared.errors.Fault.{Fault}
 use Rattle.textwrap_patterns.specs.declared.errors.Fault.TheVariants.{NoHyphen, Number, Replacement}
 use Rattle.textwrap_patterns.specs.declared.errors.Fault.TheVariants.{Sign, TooLong, Hyphens, Word}
@@ -105,13 +105,10 @@ pattern_said cs =
 
 -- groups hold either patterns or exceptions; elsewhere an exception has a hyphen and no digit
 abbrev pub is_exception : Section → List ℕ → Bool
-is_exception Start cs = has_hyphen cs && not (has_digit cs)
-is_exception Listing cs = has_hyphen cs && not (has_digit cs)
-is_exception Preamble cs = has_hyphen cs && not (has_digit cs)
-is_exception Minima cs = has_hyphen cs && not (has_digit cs)
+is_exception Words cs = true
 is_exception Patterns cs = false
 is_exception Exceptions cs = true
-is_exception Behind cs = has_hyphen cs && not (has_digit cs)
+is_exception _ cs = has_hyphen cs && not (has_digit cs)
 
 -- a pattern without the hyphens at which letters change
 abbrev pub changed_by : Option Region → PatternText → Said
@@ -152,12 +149,7 @@ number_said said number = number_or_fault said (number_of (trim number))
 
 abbrev pub is_start : Section → Bool
 is_start Start = true
-is_start Listing = false
-is_start Preamble = false
-is_start Minima = false
-is_start Patterns = false
-is_start Exceptions = false
-is_start Behind = false
+is_start _ = false
 
 abbrev pub begins : List ℕ → List ℕ → Bool
 begins start line = starts_with nat_eq line start

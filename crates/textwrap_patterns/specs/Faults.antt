@@ -8,13 +8,12 @@ use Rattle.textwrap_patterns.specs.Changes.{number_of, text_before}
 use Rattle.textwrap_patterns.specs.Charsets.{names_charset, plain_name}
 use Rattle.textwrap_patterns.specs.Entries.{are_joints, begins, changes_at, has_digit, has_hyphen}
 use Rattle.textwrap_patterns.specs.Entries.{has_sign, has_slash, is_command, is_hyphen_sign}
-use Rattle.textwrap_patterns.specs.Parsing.{closed_text, is_group, opened, opened_text, outside_fault}
+use Rattle.textwrap_patterns.specs.Parsing.{begins_exceptions, closed_text, ends_exceptions, is_group, opened, opened_text, outside_fault}
 use Rattle.textwrap_patterns.specs.Parsing.{tex_after}
 use Rattle.textwrap_patterns.specs.Written.{letters_written}
 use Rattle.textwrap_patterns.specs.declared.entries.Section.{Section}
-use Rattle.textwrap_patterns.specs.declared.entries.Section.TheVariants.{Start, Listing, Preamble}
-use Rattle.textwrap_patterns.specs.declared.entries.Section.TheVariants.{Minima, Patterns, Exceptions}
-use Rattle.textwrap_patterns.specs.declared.entries.Section.TheVariants.{Behind}
+use Rattle.textwrap_patterns.specs.declared.entries.Section.TheVariants.{Words}
+use Rattle.textwrap_patterns.specs.declared.entries.Section.TheVariants.{Exceptions}
 use Rattle.textwrap_patterns.specs.declared.errors.Fault.{Fault}
 use Rattle.textwrap_patterns.specs.declared.errors.Fault.TheVariants as fault
 
@@ -34,13 +33,20 @@ begins_word line =
     || (begins (codes "COMPOUNDLEFTHYPHENMIN") line || (begins (codes "COMPOUNDRIGHTHYPHENMIN") line
     || (begins (codes "NOHYPHEN") line || begins (codes "NEXTLEVEL") line))))
 
--- neither a comment nor such a word
+-- what begins exceptions or ends them
+abbrev pub is_mark : List ℕ → Bool
+is_mark line = begins_exceptions line || ends_exceptions line
+
+abbrev pub is_silent : List ℕ → Bool
+is_silent line = is_comment line || is_mark line
+
+-- neither these nor such a word
 abbrev pub IsOther : List ℕ → Type 0
-IsOther line = (is_comment line ≡ false) × (begins_word line ≡ false)
+IsOther line = (is_silent line ≡ false) × (begins_word line ≡ false)
 
 -- a pattern or an exception, if nothing is wrong
 abbrev pub IsItem : List ℕ → Type 0
-IsItem line = (is_comment line ≡ false) × (begins_word line ≡ false) × (is_command line ≡ false)
+IsItem line = (is_silent line ≡ false) × (begins_word line ≡ false) × (is_command line ≡ false)
 
 -- with a slash, and without signs
 abbrev pub IsSlashed : List ℕ → Type 0
@@ -64,15 +70,11 @@ is_empty (c ∷ cs) = false
 
 -- nothing stands between two hyphens, or beside one at an end
 abbrev pub has_gap : List ℕ → Bool
-has_gap cs = list_any is_empty (slice_split is_hyphen_sign cs)
+has_gap [] = false
+has_gap (c ∷ cs) = list_any is_empty (slice_split is_hyphen_sign (c ∷ cs))
 
 -- as an exception or as a pattern, a word is wrong in this way
 abbrev pub IsWrongWord : Bool → Fault → List ℕ → Type 0
-IsWrongWord exception fault.Charset cs = ⊥
-IsWrongWord exception fault.NextLevel cs = ⊥
-IsWrongWord exception fault.NoHyphen cs = ⊥
-IsWrongWord exception fault.Word cs = ⊥
-IsWrongWord exception fault.Number cs = ⊥
 IsWrongWord exception fault.Replacement cs =
     IsSlashed cs × ((exception ≡ true) ⊎ (changes_at cs ≡ None))
 IsWrongWord exception fault.Sign cs = has_sign cs ≡ true
@@ -80,48 +82,35 @@ IsWrongWord exception fault.TooLong cs =
     (exception ≡ false)
     × ((IsClean cs × IsLong cs) ⊎ (IsSlashed cs × (changes_at cs ≢ None) × IsLong (text_before 0x2F cs)))
 IsWrongWord exception fault.Hyphens cs = IsClean cs × (exception ≡ true) × (has_gap cs ≡ true)
-IsWrongWord exception fault.Brace cs = ⊥
-IsWrongWord exception fault.Input cs = ⊥
-IsWrongWord exception fault.NoGroup cs = ⊥
-IsWrongWord exception fault.Unclosed cs = ⊥
-IsWrongWord exception fault.Empty cs = ⊥
-IsWrongWord exception fault.TooMany cs = ⊥
+IsWrongWord exception _ cs = ⊥
 
--- a line without the blanks on its sides is wrong in this way
-abbrev pub IsWrong : Fault → List ℕ → Type 0
-IsWrong fault.Charset line = ⊥
-IsWrong fault.NextLevel line = ⊥
-IsWrong fault.NoHyphen line =
+-- a line without the blanks on its sides, among exceptions or not, is wrong in this way
+abbrev pub IsWrong : Bool → Fault → List ℕ → Type 0
+IsWrong among fault.NoHyphen line =
     (rest : List ℕ) × (line ≡ codes "NOHYPHEN" ++ rest) × (are_joints (chars rest) ≡ false)
-IsWrong fault.Word line = IsOther line × (is_command line ≡ true)
-IsWrong fault.Number line =
+IsWrong among fault.Word line = IsOther line × (is_command line ≡ true)
+IsWrong among fault.Number line =
     LacksNumber (codes "LEFTHYPHENMIN") line ⊎ (LacksNumber (codes "RIGHTHYPHENMIN") line
     ⊎ (LacksNumber (codes "COMPOUNDLEFTHYPHENMIN") line ⊎ LacksNumber (codes "COMPOUNDRIGHTHYPHENMIN") line))
-IsWrong fault.Replacement line =
-    IsItem line × IsWrongWord (is_hyphened (chars line)) fault.Replacement (chars line)
-IsWrong fault.Sign line = IsItem line × IsWrongWord (is_hyphened (chars line)) fault.Sign (chars line)
-IsWrong fault.TooLong line =
-    IsItem line × IsWrongWord (is_hyphened (chars line)) fault.TooLong (chars line)
-IsWrong fault.Hyphens line =
-    IsItem line × IsWrongWord (is_hyphened (chars line)) fault.Hyphens (chars line)
-IsWrong fault.Brace line = ⊥
-IsWrong fault.Input line = ⊥
-IsWrong fault.NoGroup line = ⊥
-IsWrong fault.Unclosed line = ⊥
-IsWrong fault.Empty line = ⊥
-IsWrong fault.TooMany line = ⊥
+IsWrong among fault line = IsItem line × IsWrongWord (among || is_hyphened (chars line)) fault (chars line)
 
 -- the first line may name a charset, whatever else it is
-abbrev pub IsWrongLine : ℕ → Fault → List ℕ → Type 0
-IsWrongLine zero fault line = IsWrong fault (trim line) × (names_charset (plain_name (trim line)) ≡ false)
-IsWrongLine (suc n) fault line = IsWrong fault (trim line)
+abbrev pub IsWrongLine : Bool → ℕ → Fault → List ℕ → Type 0
+IsWrongLine among zero fault line =
+    IsWrong among fault (trim line) × (names_charset (plain_name (trim line)) ≡ false)
+IsWrongLine among (suc n) fault line = IsWrong among fault (trim line)
+
+-- whether the lines behind this one are exceptions
+abbrev pub are_among : Bool → List ℕ → Bool
+are_among among line = begins_exceptions line || (among && not (ends_exceptions line))
 
 -- of lines behind so many others, the one of this number is the first that is wrong
-abbrev pub IsFirstWrong : ℕ → List (List ℕ) → ℕ → Fault → Type 0
-IsFirstWrong before [] n fault = ⊥
-IsFirstWrong before (line ∷ more) n fault =
-    ((n ≡ suc before) × IsWrongLine before fault line)
-    ⊎ (((other : Fault) → ¬ IsWrongLine before other line) × IsFirstWrong (suc before) more n fault)
+abbrev pub IsFirstWrong : Bool → ℕ → List (List ℕ) → ℕ → Fault → Type 0
+IsFirstWrong among before [] n fault = ⊥
+IsFirstWrong among before (line ∷ more) n fault =
+    ((n ≡ suc before) × IsWrongLine among before fault line)
+    ⊎ (((other : Fault) → ¬ IsWrongLine among before other line)
+    × IsFirstWrong (are_among among (trim line)) (suc before) more n fault)
 
 -- how many lines begin a second group
 abbrev pub groups_in : List (List ℕ) → ℕ
@@ -129,8 +118,6 @@ groups_in ls = length (filter (λ line. begins (codes "NEXTLEVEL") (trim line)) 
 
 -- those of a line, and neither of two nor of a text
 abbrev pub is_of_line : Fault → Bool
-is_of_line fault.Charset = false
-is_of_line fault.NextLevel = false
 is_of_line fault.NoHyphen = true
 is_of_line fault.Word = true
 is_of_line fault.Number = true
@@ -138,12 +125,7 @@ is_of_line fault.Replacement = true
 is_of_line fault.Sign = true
 is_of_line fault.TooLong = true
 is_of_line fault.Hyphens = true
-is_of_line fault.Brace = false
-is_of_line fault.Input = false
-is_of_line fault.NoGroup = false
-is_of_line fault.Unclosed = false
-is_of_line fault.Empty = false
-is_of_line fault.TooMany = false
+is_of_line _ = false
 
 -- ---- texts of TeX
 
@@ -159,13 +141,9 @@ IsFirstWrongWord exception fault (word ∷ words) =
     ⊎ (((other : Fault) → ¬ IsWrongWord exception other word) × IsFirstWrongWord exception fault words)
 
 abbrev pub has_exceptions : Section → Bool
-has_exceptions Start = false
-has_exceptions Listing = false
-has_exceptions Preamble = false
-has_exceptions Minima = false
-has_exceptions Patterns = false
+has_exceptions Words = true
 has_exceptions Exceptions = true
-has_exceptions Behind = false
+has_exceptions _ = false
 
 -- a line without its comment is wrong in a word of its group, or outside of groups by itself
 abbrev pub IsWrongTex : Section → Fault → List ℕ → Type 0
@@ -185,18 +163,8 @@ IsFirstWrongTex section before (line ∷ more) n fault =
 
 -- those of a whole text
 abbrev pub is_of_end : Fault → Bool
-is_of_end fault.Charset = false
-is_of_end fault.NextLevel = false
-is_of_end fault.NoHyphen = false
-is_of_end fault.Word = false
-is_of_end fault.Number = false
-is_of_end fault.Replacement = false
-is_of_end fault.Sign = false
-is_of_end fault.TooLong = false
-is_of_end fault.Hyphens = false
-is_of_end fault.Brace = false
-is_of_end fault.Input = false
 is_of_end fault.NoGroup = true
 is_of_end fault.Unclosed = true
 is_of_end fault.Empty = true
 is_of_end fault.TooMany = true
+is_of_end _ = false

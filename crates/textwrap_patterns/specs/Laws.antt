@@ -13,6 +13,7 @@ use Rattle.textwrap_patterns.specs.Faults.{is_of_line}
 use Rattle.textwrap_patterns.specs.Listed.{ExceptionText, Listed, PatternText, listed}
 use Rattle.textwrap_patterns.specs.Parsing.{Outcome, before_comment, comment_in, is_tex, names_minima}
 use Rattle.textwrap_patterns.specs.Parsing.{parsed, unmarked}
+use Rattle.textwrap_patterns.specs.Sections.{IsReadFrom}
 use Rattle.textwrap_patterns.specs.Written.{letters_written, levels_written}
 use Rattle.textwrap_patterns.specs.declared.changes.Region.{Region}
 use Rattle.textwrap_patterns.specs.declared.entries.Section.{Section}
@@ -72,7 +73,7 @@ abbrev pub ErrorsAreOfLines : Type 0
 ErrorsAreOfLines =
     (text first : List ℕ) (more : List (List ℕ)) (n : ℕ) (fault : Fault) → is_tex first ≡ false
     → lines (unmarked text) ≡ first ∷ more → groups_in (first ∷ more) ≤ 1 → is_of_line fault ≡ true
-    → (parsed text ≡ Err (Line n fault)) ↔ IsFirstWrong 0 (first ∷ more) n fault
+    → (parsed text ≡ Err (Line n fault)) ↔ IsFirstWrong false 0 (first ∷ more) n fault
 
 -- and so in a text of TeX in which no comment begins the numbers of letters, each line in its section
 abbrev pub ErrorsOfTexAreOfLines : Type 0
@@ -80,6 +81,14 @@ ErrorsOfTexAreOfLines =
     (text : List ℕ) (n : ℕ) (fault : Fault) → AreTex (lines (unmarked text)) → is_of_end fault ≡ false
     → (parsed text ≡ Err (Line n fault))
     ↔ IsFirstWrongTex Preamble 0 (map uncommented (lines (unmarked text))) n fault
+
+-- ---- sections
+
+-- a text of TeX in which no comment begins the numbers of letters is read as its parts say, if it has such
+abbrev pub SectionsAreRead : Type 0
+SectionsAreRead =
+    (text : List ℕ) (h : Listed) → AreTex (lines (unmarked text))
+    → (parsed text ≡ Ok h) ↔ IsReadFrom (map uncommented (lines (unmarked text))) h
 
 -- ---- letters that change
 

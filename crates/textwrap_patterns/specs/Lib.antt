@@ -8,4 +8,5 @@ pub mod Letters
 pub mod Listed
 pub mod Parsing
 pub mod Places
+pub mod Sections
 pub mod Written

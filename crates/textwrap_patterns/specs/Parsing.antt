@@ -18,7 +18,7 @@ use Rattle.textwrap_patterns.specs.Listed.{Listed, exception_view, listed}
 use Rattle.textwrap_patterns.specs.Listed.{pattern_view}
 use Rattle.textwrap_patterns.specs.Written.{is_digit}
 use Rattle.textwrap_patterns.specs.declared.entries.Section.{Section}
-use Rattle.textwrap_patterns.specs.declared.entries.Section.TheVariants.{Start, Listing, Preamble}
+use Rattle.textwrap_patterns.specs.declared.entries.Section.TheVariants.{Start, Listing, Words, Preamble}
 use Rattle.textwrap_patterns.specs.declared.entries.Section.TheVariants.{Patterns, Exceptions}
 use Rattle.textwrap_patterns.specs.declared.entries.Section.TheVariants.{Behind, Minima}
 use Rattle.textwrap_patterns.specs.declared.errors.Fault.{Fault}
@@ -66,10 +66,24 @@ with_all n (said ∷ more) h = and_then (with_said n said h) (with_all n more)
 
 -- ---- lists
 
--- an empty line and a comment
+-- the lines that begin exceptions and end them
+abbrev pub begins_exceptions : List ℕ → Bool
+begins_exceptions line = bytes_eq line (codes "\\hyphenation{")
+
+abbrev pub ends_exceptions : List ℕ → Bool
+ends_exceptions line = bytes_eq line (codes "}")
+
+-- an empty line, a comment, and such a line
 abbrev pub is_skipped : List ℕ → Bool
 is_skipped line =
-    (length line == 0) || ((slice_index line 0 == 0x25) || (slice_index line 0 == 0x23))
+    ((length line == 0) || ((slice_index line 0 == 0x25) || (slice_index line 0 == 0x23)))
+    || (begins_exceptions line || ends_exceptions line)
+
+abbrev pub list_after : Section → List ℕ → Section
+list_after section line =
+    if begins_exceptions line then Words
+    else if is_start section || ends_exceptions line then Listing
+    else section
 
 abbrev pub listed_said : Section → List ℕ → List Said
 listed_said section line = if is_skipped line then [] else list_said section line ∷ []
@@ -94,13 +108,9 @@ abbrev pub exceptions_mark : List ℕ
 exceptions_mark = codes "\\hyphenation{"
 
 abbrev pub is_group : Section → Bool
-is_group Start = false
-is_group Listing = false
-is_group Preamble = false
-is_group Minima = false
 is_group Patterns = true
 is_group Exceptions = true
-is_group Behind = false
+is_group _ = false
 
 -- the section once a line opened a group, and the text of the line that stands in the group
 abbrev pub opened : Section → List ℕ → Section
@@ -205,12 +215,7 @@ is_tex line = (slice_index line 0 == 0x25) || (slice_index line 0 == 0x5C)
 
 abbrev pub is_minima : Section → Bool
 is_minima Minima = true
-is_minima Start = false
-is_minima Listing = false
-is_minima Preamble = false
-is_minima Patterns = false
-is_minima Exceptions = false
-is_minima Behind = false
+is_minima _ = false
 
 -- the section in which a line is read
 abbrev pub entered : Section → List ℕ → Section
@@ -221,21 +226,13 @@ entered section line =
 
 abbrev pub is_preamble : Section → Bool
 is_preamble Preamble = true
-is_preamble Start = false
-is_preamble Listing = false
-is_preamble Minima = false
-is_preamble Patterns = false
-is_preamble Exceptions = false
-is_preamble Behind = false
+is_preamble _ = false
 
 abbrev pub is_list : Section → Bool
 is_list Start = true
 is_list Listing = true
-is_list Preamble = false
-is_list Minima = false
-is_list Patterns = false
-is_list Exceptions = false
-is_list Behind = false
+is_list Words = true
+is_list _ = false
 
 -- a line of a text of TeX, which in its header says how many letters stay, or begins this
 abbrev pub begins_minima : Section → List ℕ → Bool
@@ -260,7 +257,7 @@ said_in section line =
 
 abbrev pub section_behind : Section → List ℕ → Section
 section_behind section line =
-    if is_list section then Listing else header_after section line
+    if is_list section then list_after section (trim line) else header_after section line
 
 abbrev pub line_said : Section → List ℕ → List Said
 line_said section line = said_in (entered section line) line
@@ -276,13 +273,11 @@ count_fault patterns exceptions =
     else None
 
 abbrev pub end_fault : Section → ℕ → ℕ → Option Fault
-end_fault Start patterns exceptions = count_fault patterns exceptions
-end_fault Listing patterns exceptions = count_fault patterns exceptions
 end_fault Preamble patterns exceptions = Some NoGroup
 end_fault Minima patterns exceptions = Some NoGroup
 end_fault Patterns patterns exceptions = Some Unclosed
 end_fault Exceptions patterns exceptions = Some Unclosed
-end_fault Behind patterns exceptions = count_fault patterns exceptions
+end_fault _ patterns exceptions = count_fault patterns exceptions
 
 -- it is told of the last line, and of the first of a text without lines
 abbrev pub ended : ℕ → Option Fault → Listed → Outcome

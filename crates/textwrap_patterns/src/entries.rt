@@ -32,6 +32,8 @@ pub enum Section {
     Start,
     /// In a list of patterns and exceptions.
     Listing,
+    /// In a list, behind `\hyphenation{`, where each line is an exception.
+    Words,
     /// In a text of TeX, before its first group.
     Preamble,
     /// In the comments there, where they say how many letters stay before a hyphen and behind it.
@@ -293,7 +295,7 @@ fn is_exception(section: Section, word: &[char]) -> bool
 {
     match section {
         Section::Patterns => false,
-        Section::Exceptions => true,
+        Section::Words | Section::Exceptions => true,
         _ => has_hyphen(word) && !has_digit(word),
     }
 }

@@ -1,7 +1,7 @@
 //! Laws of the definitions on dictionaries.
 ghost use Rattle.textwrap_patterns.specs.Laws.{BlanksOfListsAreSkipped, ChangesAllowNoHyphen, CommentsOfListsAreSkipped};
 ghost use Rattle.textwrap_patterns.specs.Laws.{CommentsOfTexAreSkipped};
-ghost use Rattle.textwrap_patterns.specs.Laws.{ErrorsAreOfLines, ErrorsOfTexAreOfLines, ListsAreRead, NamedListsAreRead, TexIsRead};
+ghost use Rattle.textwrap_patterns.specs.Laws.{ErrorsAreOfLines, ErrorsOfTexAreOfLines, ListsAreRead, NamedListsAreRead, SectionsAreRead, TexIsRead};
 
 /// A line that is empty or a comment makes no difference behind the first of a list, but to the
 /// numbers of lines in errors. Nor do blanks on the sides of its lines, or comments in a text of TeX in
@@ -24,6 +24,12 @@ pub fn changes_allow_no_hyphen()
 pub fn errors_are_of_lines()
     ensures lists { ErrorsAreOfLines }
     ensures tex { ErrorsOfTexAreOfLines }
+{}
+
+/// A text of TeX without minima in its header is read exactly where its lines are those outside of groups
+/// and whole groups, one at least; and as what the words of these groups say, in order.
+pub fn sections_are_read()
+    ensures { SectionsAreRead }
 {}
 
 /// A text that is written from any patterns and exceptions is read as these: a list, with the minima

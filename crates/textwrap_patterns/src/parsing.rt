@@ -10,7 +10,8 @@ ghost use Rattle.textwrap_patterns.specs.Parsing.{Reads, after_mark, before_comm
 ghost use Rattle.textwrap_patterns.specs.Parsing.{closed_text, comment_in, count_fault, end_fault, ended};
 ghost use Rattle.textwrap_patterns.specs.Parsing.{entered, first_number, has_input, header_after};
 ghost use Rattle.textwrap_patterns.specs.Parsing.{has_opening, header_said, is_group, is_list, is_minima, is_preamble};
-ghost use Rattle.textwrap_patterns.specs.Parsing.{is_skipped, is_tex, line_said};
+ghost use Rattle.textwrap_patterns.specs.Parsing.{begins_exceptions, ends_exceptions, is_skipped, is_tex};
+ghost use Rattle.textwrap_patterns.specs.Parsing.{line_said, list_after};
 ghost use Rattle.textwrap_patterns.specs.Parsing.{listed_said, minimum_said, names_group, names_minima};
 ghost use Rattle.textwrap_patterns.specs.Parsing.{no_patterns, opened, opened_text, outside_fault};
 ghost use Rattle.textwrap_patterns.specs.Parsing.{parsed, parsed_in, reading_view, said_in, section_after};
@@ -193,7 +194,7 @@ impl<A: Allocator + Copy> Reading<A> {
     {
         if is_list(section) {
             self.read_listed(alloc, number, section, line.trim())?;
-            return Ok(Section::Listing);
+            return Ok(list_after(section, line.trim()));
         }
         self.read_header(alloc, number, section, line)
     }
@@ -469,7 +470,7 @@ fn is_tex(line: &[u8]) -> bool
 fn is_list(section: Section) -> bool
     ensures { result ≡ is_list section }
 {
-    matches!(section, Section::Start | Section::Listing)
+    matches!(section, Section::Start | Section::Listing | Section::Words)
 }
 
 fn is_group(section: Section) -> bool
@@ -478,14 +479,43 @@ fn is_group(section: Section) -> bool
     matches!(section, Section::Patterns | Section::Exceptions)
 }
 
-/// Whether a line of a list says nothing: it is empty or a comment.
+/// Whether a line of a list says nothing: it is empty, a comment, or begins or ends exceptions.
 fn is_skipped(line: &str) -> bool
     ensures { result ≡ is_skipped line.now }
 {
     match line.as_bytes() {
-        [first, ..] => *first == b'%' || *first == b'#',
+        [first, ..] => *first == b'%'
+            || *first == b'#'
+            || begins_exceptions(line)
+            || ends_exceptions(line),
         [] => true,
     }
+}
+
+/// The section behind a line of a list.
+fn list_after(section: Section, line: &str) -> Section
+    ensures { result ≡ list_after section line.now }
+{
+    if begins_exceptions(line) {
+        Section::Words
+    } else if is_start(section) || ends_exceptions(line) {
+        Section::Listing
+    } else {
+        section
+    }
+}
+
+/// Whether the lines behind this one of a list are exceptions.
+fn begins_exceptions(line: &str) -> bool
+    ensures { result ≡ begins_exceptions line.now }
+{
+    line == "\\hyphenation{"
+}
+
+fn ends_exceptions(line: &str) -> bool
+    ensures { result ≡ ends_exceptions line.now }
+{
+    line == "}"
 }
 
 /// The line without its comment.

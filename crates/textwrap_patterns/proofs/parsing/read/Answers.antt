@@ -1,8 +1,10 @@
 use Rattle.std.proofs.Common.{ap₂, Bor}
-use Rattle.textwrap_patterns.proofs.Common.{[], ap, arith, drop, drop_more, get_or, List, map, suc, sym, ℕ, ◌+◌}
+use Rattle.textwrap_text.proofs.Common.{drop_all}
+use Rattle.textwrap_patterns.proofs.Common.{[], ap, arith, drop, drop_more, get_or, length, List, map, subst, suc, sym, ℕ, ◌+◌, ◌≤◌}
 use Rattle.textwrap_patterns.proofs.Common.{◌≡◌, ◌∙◌}
 use Rattle.textwrap_patterns.proofs.Said.{lines-refused}
-use Rattle.textwrap_patterns.specs.Parsing.{and_then, line_said, parsed, reading_view, section_after}
+use Rattle.textwrap_patterns.specs.Parsing.{Reads, and_then, end_fault, ended, line_said, parsed, reading_view}
+use Rattle.textwrap_patterns.specs.Parsing.{section_after}
 use Rattle.textwrap_patterns.specs.Parsing.{with_all, with_lines}
 use Rattle.textwrap_patterns.specs.declared.entries.Section.{Section}
 use Rattle.textwrap_patterns.proofs.parsing.read.Goals as goal
@@ -43,3 +45,16 @@ returns-in_err-section g c =
     ∙ ap (λ ls. with_lines i section (map (λ line. line.now) ls) read)
     (sym (drop_more items i none (omega (arith, c.loop-i-test.true)))) ∙ c.loop-i.invariant)
     c.in_err-section.ensures.said c.from_residual-in_err-section.ensures.1
+
+pub returns : goal.returns
+returns g c =
+    let items = c.deref-line-items.result.now in
+    let i = c.loop-i.i in
+    let section = c.loop-i.section in
+    let read = reading_view c.loop-i.reading in
+    let fault = end_fault section (length read.patterns) (length read.exceptions) in
+    let past : length items ≤ i = omega (arith, c.loop-i-test.false) in
+    let all : c.len.result ≡ i = omega (arith, past) in
+    subst (λ o. Reads o reading_view c.end.result) (ap (λ n. ended n fault read) all
+    ∙ ap (λ ls. with_lines i section (map (λ line. line.now) ls) read) (sym (drop_all i items past)) ∙ c.loop-i.invariant)
+    c.end.ensures

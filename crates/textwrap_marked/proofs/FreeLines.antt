@@ -1,7 +1,7 @@
 -- Lines that do not stand apart, by themselves, and what is open behind them.
 use Rattle.textwrap_marked.proofs.LineNames.{◌≡◌, ℕ, ◌&&◌, ◌||◌, not, Bool, true, false, cond, List, []}
 use Rattle.textwrap_marked.proofs.LineNames.{◌∷◌, ap, arith, cases_Bool, codes, length, ne_eqb, None}
-use Rattle.textwrap_marked.proofs.LineNames.{Option, refl, Some, sym, true≢false, ◌∙◌, bytes_eq}
+use Rattle.textwrap_marked.proofs.LineNames.{Option, refl, Some, sym, true≢false, ◌∙◌}
 use Rattle.textwrap_marked.proofs.LineNames.{is_some, FenceText, has_words, passed, StateText}
 use Rattle.textwrap_marked.proofs.LineNames.{begins_text, closes_block, closes_early, first_word}
 use Rattle.textwrap_marked.proofs.LineNames.{has_columns, is_key, has_byte, SpacedText}
@@ -9,10 +9,11 @@ use Rattle.textwrap_marks.specs.declared.options.ReflowOptions.{ReflowOptions}
 use Rattle.std.specs.Str.{chars}
 use Rattle.std.proofs.Math.Bool.{and-false}
 use Rattle.textwrap_marked.proofs.LineKinds.{hanging_of, has_opening_in, Kinds, line_by}
-use Rattle.textwrap_marks.proofs.Letterless.{dollar-plain, prompt-plain}
+use Rattle.textwrap_marks.proofs.Letterless.{no-session}
 use Rattle.textwrap_marked.proofs.OpenBehind.{behind_text, no-columns, opened-none, passed-is}
-use Rattle.textwrap_marked.proofs.OpenBehind.{text-other}
-use Rattle.textwrap_marked.specs.Lines.{is_deep, is_prompt, is_prompted, stands_apart}
+use Rattle.textwrap_marked.proofs.OpenBehind.{text-letter}
+use Rattle.textwrap_marked.specs.Lines.{is_deep, is_prompted, stands_apart}
+use Rattle.textwrap_marks.specs.Signs.{opens_session}
 
 abbrev pub block_at : StateText → Kinds → Bool
 block_at state k = state.in_block || has_opening_in k.comments
@@ -110,12 +111,10 @@ module _ (options : ReflowOptions) (state : StateText) (raw : List ℕ) (fed : B
   behind-free at are =
       let starred = starred_at options state k in
       let first = first_word k.words in
-      let prompt : (is_prompt first) ≡ false =
-      ap (λ b. b || bytes_eq first (codes ">>>")) (text-other starred first (codes "$") are.begins dollar-plain)
-      ∙ text-other starred first (codes ">>>") are.begins prompt-plain in
-      let prompts : is_prompted state.prompted k.words ≡ false =
-      ap (λ b. has_words k.words && (b || is_prompt first)) at.prompt
-      ∙ ap (λ b. has_words k.words && b) prompt ∙ and-false (has_words k.words) in
+      let prompts : is_prompted state.prompted false k.words ≡ false =
+      ap (λ b. has_words k.words && (b || opens_session k.words)) at.prompt
+      ∙ ap (λ b. has_words k.words && b) (no-session k.words (text-letter starred first are.begins))
+      ∙ and-false (has_words k.words) in
       passed-is state (line_by options state raw fed k) (block_at state k)
       (some-none state.fence at.fence) at.level
       (opened-none starred k.words are.begins (no-columns options.justify k.words are.columns))

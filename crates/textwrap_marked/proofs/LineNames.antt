@@ -25,7 +25,8 @@ pub use Rattle.textwrap_marks.proofs.Common.{take-append-drop, take_all, take_mo
 pub use Rattle.textwrap_marks.proofs.Common.{true, true≢false, word_of, WordText, zero, ℕ, ⊤, ◌&&◌}
 pub use Rattle.textwrap_marks.proofs.Common.{◌++◌, ◌+◌, ◌-◌, ◌<◌, ◌==◌, ◌||◌, ◌∙◌, ◌∷◌, ◌≡◌, ◌≢◌}
 pub use Rattle.textwrap_marks.proofs.Common.{◌≤◌, ◌⊎◌}
-pub use Rattle.textwrap_marked.specs.Lines.{LineText, StateText, as_title, deeper_by, entered}
+pub use Rattle.textwrap_marks.specs.Signs.{deeper_by}
+pub use Rattle.textwrap_marked.specs.Lines.{LineText, StateText, as_title, entered}
 pub use Rattle.textwrap_marked.specs.Lines.{fence_at, first_state, has_words, is_ended, is_return}
 pub use Rattle.textwrap_marked.specs.Lines.{line_as_read, lines_of_text, new_fence, passed, read_lines}
 pub use Rattle.textwrap_marked.specs.Lines.{with_titles, without_returns}

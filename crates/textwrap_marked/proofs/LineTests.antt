@@ -16,7 +16,7 @@ use Rattle.textwrap_marked.proofs.FreeLines.{IsOpen}
 use Rattle.textwrap_marked.proofs.OpenBehind.{behind_text}
 use Rattle.textwrap_marked.specs.Lines.{begins_code}
 use Rattle.textwrap_marks.specs.Columns.{depth_of, DepthText, is_deeper, marks_of}
-use Rattle.textwrap_marks.specs.Signs.{is_rule, is_rule_characters}
+use Rattle.textwrap_marks.specs.Signs.{is_example_key, is_rule, is_rule_characters}
 use Rattle.textwrap_marks.specs.Words.{is_letter_or_digit}
 
 -- ---- no rule begins with a letter
@@ -71,9 +71,10 @@ never-deeper by d some =
       | false ↦ no-less by d.lead some
     ]
 
-depth-some : (words : List SpacedText) → 0 < deeper_by words
-depth-some words =
-    elim (ends_with nat_eq (last_word words) (codes "::") || bytes_eq (first_word words) (codes ".."))
+depth-some : (hanging : List ℕ) (words : List SpacedText) → 0 < deeper_by hanging words
+depth-some hanging words =
+    elim (ends_with nat_eq (last_word words) (codes "::") || is_example_key (last_word words)
+    || bytes_eq hanging (codes " ") || bytes_eq (first_word words) (codes ".."))
     as (λ b. 0 < cond b 1 4) [ true ↦ omega arith | false ↦ omega arith ]
 
 pub open-behind : (options : ReflowOptions) (in_block : Bool) (hanging : List ℕ) (words : List SpacedText)
@@ -90,20 +91,20 @@ open-behind options in_block hanging words = record {
     none false b = refl
 
     deep : (b : Bool)
-        → cond b false (is_deeper (deeper_by words) (depth_of hanging) (depth_of hanging)
+        → cond b false (is_deeper (deeper_by hanging words) (depth_of hanging) (depth_of hanging)
         || (options.markdown && begins_code (depth_of hanging)
         && not (bytes_eq (marks_of hanging) (marks_of hanging)))) ≡ false
     deep true = refl
     deep false =
         rw (
-          never-deeper (deeper_by words) (depth_of hanging) (depth-some words),
+          never-deeper (deeper_by hanging words) (depth_of hanging) (depth-some hanging words),
           (bytes_eq-Decides (marks_of hanging) (marks_of hanging)).1 refl,
         )
         (none options.markdown (begins_code (depth_of hanging)))
 
 pub behind-same : (in_block : Bool) (hanging : List ℕ) (words others : List SpacedText)
     → (in_block && closes_block words) ≡ (in_block && closes_block others)
-    → deeper_by words ≡ deeper_by others
+    → deeper_by hanging words ≡ deeper_by hanging others
     → behind_text in_block hanging words ≡ behind_text in_block hanging others
 behind-same in_block hanging words others closes deeper =
     λ i. record {

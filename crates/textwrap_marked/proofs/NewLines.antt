@@ -178,7 +178,7 @@ module _ (options : ReflowOptions) (in_block starred : Bool) (wide : ℕ → ℕ
         ∙ ap (λ w. in_block && contains (codes "*/") w)
         (ap last_text (spread-words options.justify gaps (word ∷ words) end) ∙ final)
         ∙ sym (closes-last in_block last last_some last_closing) in
-        let deeper = deeper-same starred last_starred own last
+        let deeper = deeper-same hanging starred last_starred own last
         (ap (begins_text starred) (spread-first options.justify gaps word words end) ∙ begins) last_begins finish in
         let state_is : passed state line ≡ behind_text in_block hanging last =
         new.of.behind ∙ ap (behind_text in_block hanging) new.has

@@ -63,16 +63,12 @@ sign-parts word none =
     (starts_with nat_eq word (codes "~~~")) (is_directive word) none
 
 -- nor a formula or code
-last-parts : (a b c d e f : Bool) → (a || b || c || d || e || f) ≡ false
-    → (e ≡ false) × (f ≡ false)
-last-parts a b c d e f is = grind (arith, cases_Bool)
-
 no-code : (word : List ℕ) → is_sign word ≡ false
     → (starts_with nat_eq word (codes "$$") ≡ false) × (opens_code word ≡ false)
 no-code word none =
-    last-parts (starts_with nat_eq word (codes "[!")) (starts_with nat_eq word (codes "[TOC]"))
-    (starts_with nat_eq word (codes ":::")) (is_for_tools word)
-    (starts_with nat_eq word (codes "$$")) (opens_code word) (sign-parts word none).2
+    let (tools, formula, code) = parts (starts_with nat_eq word (codes "[!"))
+    (starts_with nat_eq word (codes "[TOC]")) (starts_with nat_eq word (codes ":::")) (is_for_tools word)
+    (starts_with nat_eq word (codes "$$")) (opens_code word) (sign-parts word none).2 in (formula, code)
 
 no-formula : (words : List SpacedText) → is_sign (first_word words) ≡ false
     → opens_formula words ≡ false
@@ -109,14 +105,12 @@ no-columns justify words none =
     (or-left (list_any (λ w. is_column_word w.word) words)
     (list_any (is_gap justify) (words_before_last words)) none)
 
-column-parts : (a b c d e : Bool) → (a || b || c || d || e) ≡ false → (c ≡ false) × (e ≡ false)
-column-parts a b c d e is = grind (arith, cases_Bool)
-
 column-none : (word : List ℕ) → is_column_word word ≡ false
     → (has_byte 13 word ≡ false) × (contains (codes "<pre") word ≡ false)
 column-none word none =
-    column-parts (bytes_eq word (codes "|")) (is_comment_behind word) (has_byte 13 word)
-    (contains (codes "]:") word) (contains (codes "<pre") word) none
+    let (return, label, pre) = parts (bytes_eq word (codes "|")) (bytes_eq word (codes "="))
+    (is_comment_behind word) (has_byte 13 word) (contains (codes "]:") word)
+    (contains (codes "<pre") word) none in (return, pre)
 
 pub no-return : (word : List ℕ) → is_column_word word ≡ false → has_byte 13 word ≡ false
 no-return word none = (column-none word none).0
@@ -144,12 +138,12 @@ behind_text in_block hanging words = record {
   fence = None;
   prompted = false;
   before = Some (depth_of hanging);
-  by = deeper_by words;
+  by = deeper_by hanging words;
 }
 
 pub passed-is : (state : StateText) (line : LineText) (in_block : Bool) → state.fence ≡ None
     → line.deeper ≡ false → opened line.words ≡ None → has_words line.words ≡ true
-    → is_prompted state.prompted line.words ≡ false
+    → is_prompted state.prompted false line.words ≡ false
     → is_in_block state.in_block false line ≡ (in_block && not (closes_block line.words))
     → passed state line ≡ behind_text in_block line.hanging line.words
 passed-is state line in_block none level opens some prompts block =
@@ -162,7 +156,7 @@ passed-is state line in_block none level opens some prompts block =
           ∙ ap (λ d. cond d None (option_map (λ kind. record { marks = marks_of line.hanging; kind = kind })
           (opened line.words))) level
           ∙ ap (option_map (λ kind. record { marks = marks_of line.hanging; kind = kind })) opens) i;
-      prompted = prompts i;
+      prompted = (ap (λ b. is_prompted state.prompted b line.words) unfenced ∙ prompts) i;
       before = ap (λ b. new_before state.before b line) before i;
-      by = ap (λ b. new_by state.by b line.words) before i;
+      by = ap (λ b. new_by state.by b line) before i;
     }

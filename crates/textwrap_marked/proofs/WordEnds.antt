@@ -1,7 +1,7 @@
 -- The words of a paragraph's last line, and the last of them.
 use Rattle.textwrap_marked.proofs.LineNames.{◌≡◌, ◌≢◌, ℕ, ◌<◌, ◌&&◌, ◌||◌, not, Bool, true, false, cond}
 use Rattle.textwrap_marked.proofs.LineNames.{List, [], ◌∷◌, ◌++◌, All, All-cons, All-nil, ap}
-use Rattle.textwrap_marked.proofs.LineNames.{append-nil, arith, cases_Bool, codes, ends_with, length}
+use Rattle.textwrap_marked.proofs.LineNames.{append-nil, arith, bytes_eq, cases_Bool, codes, ends_with, length}
 use Rattle.textwrap_marked.proofs.LineNames.{map, nat_eq, refl, subst, sym, ◌∙◌, deeper_by, begins_text}
 use Rattle.textwrap_marked.proofs.LineNames.{closes_block, closes_early, first_word, words_before_last}
 use Rattle.textwrap_marked.proofs.LineNames.{last_word, contains, SpacedText}
@@ -13,7 +13,7 @@ use Rattle.textwrap_marks.proofs.ListLemmas.{none-any}
 use Rattle.textwrap_marked.proofs.OpenBehind.{text-other}
 use Rattle.textwrap_marked.proofs.SpreadWords.{last_text, spread-any, spread-words}
 use Rattle.textwrap_marked.proofs.TextBlocks.{AreClosing, closing-before, early-more, NoClose}
-use Rattle.textwrap_marks.specs.Signs.{ends_early, may_go_on}
+use Rattle.textwrap_marks.specs.Signs.{ends_early, is_example_key, may_go_on}
 
 -- ---- the last of some texts
 
@@ -110,16 +110,21 @@ closes-last in_block (w ∷ v ∷ ws) some (none, are) =
 abbrev depth_if : Bool → ℕ
 depth_if b = cond b 1 4
 
-deeper-one : (starred : Bool) (words : List SpacedText) → begins_text starred (first_word words) ≡ true
-    → deeper_by words ≡ depth_if (ends_with nat_eq (last_word words) (codes "::") || false)
-deeper-one starred words begins =
-    ap (λ b. depth_if (ends_with nat_eq (last_word words) (codes "::") || b))
+abbrev pub deeper_behind : List ℕ → Bool → List ℕ → ℕ
+deeper_behind hanging dots last =
+    depth_if (ends_with nat_eq last (codes "::") || is_example_key last || bytes_eq hanging (codes " ")
+    || dots)
+
+deeper-one : (hanging : List ℕ) (starred : Bool) (words : List SpacedText)
+    → begins_text starred (first_word words) ≡ true
+    → deeper_by hanging words ≡ deeper_behind hanging false (last_word words)
+deeper-one hanging starred words begins =
+    ap (λ b. deeper_behind hanging b (last_word words))
     (text-other starred (first_word words) (codes "..") begins dots-plain)
 
-pub deeper-same : (starred other : Bool) (words others : List SpacedText)
+pub deeper-same : (hanging : List ℕ) (starred other : Bool) (words others : List SpacedText)
     → begins_text starred (first_word words) ≡ true → begins_text other (first_word others) ≡ true
-    → last_word words ≡ last_word others → deeper_by words ≡ deeper_by others
-deeper-same starred other words others begins begin same =
-    deeper-one starred words begins
-    ∙ ap (λ w. depth_if (ends_with nat_eq w (codes "::") || false)) same
-    ∙ sym (deeper-one other others begin)
+    → last_word words ≡ last_word others → deeper_by hanging words ≡ deeper_by hanging others
+deeper-same hanging starred other words others begins begin same =
+    deeper-one hanging starred words begins ∙ ap (deeper_behind hanging false) same
+    ∙ sym (deeper-one hanging other others begin)

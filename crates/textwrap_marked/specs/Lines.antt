@@ -10,8 +10,8 @@ use Rattle.textwrap_marks.specs.Columns.{marks_of}
 use Rattle.textwrap_marks.specs.Fences.{FenceText, fence_view, is_closed_by, is_left_by, opened}
 use Rattle.textwrap_marks.specs.Prefixes.{prefix_ends}
 use Rattle.textwrap_marked.specs.Hanging.{hanging_margin, hanging_prefix, has_opening}
-use Rattle.textwrap_marks.specs.Signs.{begins_text, closes_block, closes_early, first_word}
-use Rattle.textwrap_marks.specs.Signs.{has_columns, is_key, is_rule, last_white, last_word}
+use Rattle.textwrap_marks.specs.Signs.{begins_text, closes_block, closes_early, deeper_by, first_word}
+use Rattle.textwrap_marks.specs.Signs.{has_columns, is_key, is_rule, last_white, last_word, opens_session}
 use Rattle.textwrap_marks.specs.Words.{has_byte, has_bytes, spaced_text, SpacedText, spaced_view}
 use Rattle.textwrap_marks.specs.Words.{spaced_words}
 use Rattle.textwrap_marked.specs.declared.line.MarkedLine.{MarkedLine}
@@ -91,18 +91,8 @@ fence_at (Some fence) line = if is_left_by fence line then None else Some fence
 abbrev pub entered : StateText → List ℕ → StateText
 entered state line = record state { fence = fence_at state.fence line }
 
--- a prompt of a shell, or of Python
-abbrev pub is_prompt : List ℕ → Bool
-is_prompt word = bytes_eq word (codes "$") || bytes_eq word (codes ">>>")
-
 abbrev pub has_words : List SpacedText → Bool
 has_words words = not (length words == 0)
-
--- by one column, if the text above begins with `..` or ends in `::`, and else by four
-abbrev pub deeper_by : List SpacedText → ℕ
-deeper_by words =
-    if ends_with nat_eq (last_word words) (codes "::") || bytes_eq (first_word words) (codes "..")
-    then 1 else 4
 
 -- the fence that a line opens, if it does
 abbrev pub opened_fence : LineText → Option FenceText
@@ -122,15 +112,15 @@ is_before fenced line = not fenced && not line.deeper && has_words line.words
 abbrev pub new_before : Option DepthText → Bool → LineText → Option DepthText
 new_before before is_before line = if is_before then Some (depth_of line.hanging) else before
 
-abbrev pub new_by : ℕ → Bool → List SpacedText → ℕ
-new_by by is_before words = if is_before then deeper_by words else by
+abbrev pub new_by : ℕ → Bool → LineText → ℕ
+new_by by is_before line = if is_before then deeper_by line.hanging line.words else by
 
 abbrev pub is_in_block : Bool → Bool → LineText → Bool
 is_in_block in_block fenced line =
     if in_block then not (closes_block line.words) else not fenced && line.opens_block
 
-abbrev pub is_prompted : Bool → List SpacedText → Bool
-is_prompted prompted words = has_words words && (prompted || is_prompt (first_word words))
+abbrev pub is_prompted : Bool → Bool → List SpacedText → Bool
+is_prompted prompted fenced words = has_words words && (prompted || (not fenced && opens_session words))
 
 -- what is open behind a line
 abbrev pub passed : StateText → LineText → StateText
@@ -140,9 +130,9 @@ passed state line =
     record {
       in_block = is_in_block state.in_block fenced line;
       fence = new_fence state.fence line;
-      prompted = is_prompted state.prompted line.words;
+      prompted = is_prompted state.prompted fenced line.words;
       before = new_before state.before before line;
-      by = new_by state.by before line.words;
+      by = new_by state.by before line;
     }
 
 -- ---- what is read of a line

@@ -3,8 +3,8 @@ ghost use Rattle.std.specs.Prelude.{◌≡◌, map, true, IfOk};
 ghost use Rattle.std.specs.Option.{option_map};
 ghost use Rattle.textwrap_marks.specs.Fences.{fence_view};
 ghost use Rattle.textwrap_marks.specs.Columns.{depth_view};
-ghost use Rattle.textwrap_marked.specs.Lines.{deeper_by, entered, fence_at, first_state, is_before};
-ghost use Rattle.textwrap_marked.specs.Lines.{is_in_block, is_prompt, is_prompted, marked_line_view};
+ghost use Rattle.textwrap_marked.specs.Lines.{entered, fence_at, first_state, is_before};
+ghost use Rattle.textwrap_marked.specs.Lines.{is_in_block, is_prompted, marked_line_view};
 ghost use Rattle.textwrap_marked.specs.Lines.{new_before, new_by, new_fence, opened_fence, passed};
 ghost use Rattle.textwrap_marked.specs.Lines.{state_view};
 ghost use Rattle.textwrap_marks.specs.Signs.{ArePlain};
@@ -14,8 +14,8 @@ use crate::line::MarkedLine;
 use std::alloc::{AllocError, Global};
 use textwrap_marks::columns::{Depth, depth_of, marks_of};
 use textwrap_marks::fences::{Fence, is_closed_by, is_left_by, opened};
-use textwrap_marks::signs::{closes_block, first_word, last_word};
-use textwrap_marks::words::{SpacedWord, ends_with};
+use textwrap_marks::signs::{closes_block, deeper_by, opens_session};
+use textwrap_marks::words::SpacedWord;
 
 /// What is open: a block comment, a fence, a prompt; how deep the last text stood that was not
 /// fenced or deeper, and by how many columns text is deeper.
@@ -82,9 +82,9 @@ impl ReadState {
         Ok(ReadState {
             in_block: is_in_block(in_block, fenced, line),
             fence,
-            prompted: is_prompted(prompted, &line.words),
+            prompted: is_prompted(prompted, fenced, &line.words),
             before,
-            by: new_by(by, is_before, &line.words),
+            by: new_by(by, is_before, line),
         })
     }
 }
@@ -169,10 +169,14 @@ fn new_before(
 }
 
 /// By how many columns text is deeper behind a line.
-fn new_by(by: usize, is_before: bool, words: &[SpacedWord<'_>]) -> usize
-    ensures { result ≡ new_by by is_before (map spaced_view words.now) }
+fn new_by(by: usize, is_before: bool, line: &MarkedLine<'_>) -> usize
+    ensures { result ≡ new_by by is_before (marked_line_view line.now) }
 {
-    if is_before { deeper_by(words) } else { by }
+    if is_before {
+        deeper_by(line.hanging.as_str(), &line.words)
+    } else {
+        by
+    }
 }
 
 /// Whether a block comment is open behind a line.
@@ -186,27 +190,9 @@ fn is_in_block(in_block: bool, fenced: bool, line: &MarkedLine<'_>) -> bool
     }
 }
 
-/// Whether a prompt is open behind these words.
-fn is_prompted(prompted: bool, words: &[SpacedWord<'_>]) -> bool
-    ensures { result ≡ is_prompted prompted (map spaced_view words.now) }
+/// Whether a session is open behind these words.
+fn is_prompted(prompted: bool, fenced: bool, words: &[SpacedWord<'_>]) -> bool
+    ensures { result ≡ is_prompted prompted fenced (map spaced_view words.now) }
 {
-    !words.is_empty() & (prompted | is_prompt(first_word(words)))
-}
-
-/// Whether a word is a prompt of a shell, or of Python.
-fn is_prompt(word: &str) -> bool
-    ensures { result ≡ is_prompt word.now }
-{
-    matches!(word, "$" | ">>>")
-}
-
-/// By how many columns text is deeper behind these words.
-fn deeper_by(words: &[SpacedWord<'_>]) -> usize
-    ensures { result ≡ deeper_by (map spaced_view words.now) }
-{
-    if ends_with(last_word(words), "::") | (first_word(words) == "..") {
-        1
-    } else {
-        4
-    }
+    !words.is_empty() && (prompted || !fenced && opens_session(words))
 }

@@ -4,25 +4,22 @@ use Rattle.textwrap_marks.proofs.Common.{cases_Bool, codes, List, eqb-true, leng
 use Rattle.textwrap_marks.proofs.Common.{starts_with, sym, ap, ◌∙◌, false_from_ne_true, true≢false}
 use Rattle.textwrap_marks.proofs.Common.{bytes_eq-Decides, bytes_eq, is_among, is_comment_at}
 use Rattle.textwrap_marks.proofs.Common.{is_comment_opening, is_quote, contains, has_bytes, has_letter}
-use Rattle.textwrap_marks.proofs.Common.{ReflowOptions}
+use Rattle.textwrap_marks.proofs.Common.{first_word, list_any, ReflowOptions, SpacedText, ◌||◌}
 use Rattle.textwrap_text.proofs.Common.{and_parts}
 use Rattle.std.specs.Char.Unicode.Alphabetic.{is_alphabetic, alphabetic_ranges}
 use Rattle.std.specs.Char.Unicode.Numeric.{is_numeric, numeric_ranges}
 use Rattle.std.specs.Char.Unicode.Rows.{in_ranges}
 use Rattle.std.specs.Str.{chars}
 use Rattle.textwrap_marks.specs.Marks.{is_line_comment}
+use Rattle.textwrap_marks.specs.Signs.{any_contains, is_table_rule, opens_session}
 use Rattle.textwrap_marks.specs.Words.{is_made_of}
 
 abbrev pub IsPlainMark : List ℕ → Type 0
 IsPlainMark mark = has_letter mark ≡ false
 
-pub dollar-plain : IsPlainMark (codes "$")
+prompts-plain : IsPlainMark (codes "$") × IsPlainMark (codes ">>>")
 unfolding chars is_alphabetic in_ranges alphabetic_ranges is_numeric numeric_ranges
-dollar-plain = refl
-
-pub prompt-plain : has_letter (codes ">>>") ≡ false
-unfolding chars is_alphabetic in_ranges alphabetic_ranges is_numeric numeric_ranges
-prompt-plain = refl
+prompts-plain = (refl, refl)
 
 pub dots-plain : has_letter (codes "..") ≡ false
 unfolding chars is_alphabetic in_ranges alphabetic_ranges is_numeric numeric_ranges
@@ -102,3 +99,19 @@ no-comment options false word letter marker =
 
     third : (a b c : Bool) → b ≡ true → (a && not b && not c) ≡ false
     third a b c is = grind (arith, cases_Bool, is)
+
+-- nor does it begin a session
+pub no-session : (words : List SpacedText) → has_letter (first_word words) ≡ true
+    → opens_session words ≡ false
+no-session [] letter = refl
+no-session (w ∷ ws) letter =
+    let bars = any_contains (codes "|") (w ∷ ws) in
+    let hyphens = any_contains (codes "-") (w ∷ ws) in
+    ap (λ b. (b || bytes_eq w.word (codes ">>>")) || is_table_rule (w ∷ ws))
+    (lettered-other w.word (codes "$") letter prompts-plain.0)
+    ∙ ap (λ b. b || is_table_rule (w ∷ ws)) (lettered-other w.word (codes ">>>") letter prompts-plain.1)
+    ∙ ap (λ b. bars && hyphens && not (b || list_any (λ v. has_letter v.word) ws)) letter
+    ∙ none bars hyphens
+  where
+    none : (a b : Bool) → (a && b && false) ≡ false
+    none a b = grind (arith, cases_Bool)

@@ -55,6 +55,7 @@ begins-other (c ∷ cs) b bs none = split (c == b) refl none
 plain-word : (word : List ℕ) → list_any is_column_byte word ≡ false → is_column_word word ≡ false
 plain-word word none =
     let not_bar = differs word 124 [] (lacks 124 word refl none) in
+    let not_equals = differs word 61 [] (lacks 61 word refl none) in
     let not_lines = begins-other word 47 (47 ∷ []) (lacks 47 word refl none) in
     let not_opening = begins-other word 47 (42 ∷ []) (lacks 47 word refl none) in
     let not_hash = differs word 35 [] (lacks 35 word refl none) in
@@ -67,7 +68,7 @@ plain-word word none =
     let not_return = lacks 13 word refl none in
     let not_label = contains-lacks (codes "]:") word (omega arith) (lacks 93 word refl none) in
     let not_pre = contains-lacks (codes "<pre") word (omega arith) (lacks 60 word refl none) in
-    rw (not_bar, not_lines, not_opening, not_hash, not_percent, not_percents, not_dashes, not_semicolon, not_two, not_three, not_return, not_label, not_pre) refl
+    rw (not_bar, not_equals, not_lines, not_opening, not_hash, not_percent, not_percents, not_dashes, not_semicolon, not_two, not_three, not_return, not_label, not_pre) refl
 
 pub plain-none : (words : List SpacedText) → ArePlain words
     → list_any (λ w. is_column_word w.word) words ≡ false

@@ -3,7 +3,7 @@ use Rattle.std.specs.Prelude.{ℕ, ◌==◌, ◌&&◌, ◌||◌, Bool, false, no
 use Rattle.std.specs.Prelude.{[]}
 use Rattle.std.specs.Prelude.{◌∷◌, length, drop, slice_index, codes, bytes_eq, string_bytes}
 use Rattle.std.specs.Prelude.{if◌then◌else◌, Option, Some, None}
-use Rattle.std.specs.List.{list_any, prefix_len, starts_with}
+use Rattle.std.specs.List.{prefix_len, starts_with}
 use Rattle.textwrap_marks.specs.Columns.{behind_white, marks_of}
 use Rattle.textwrap_marks.specs.Signs.{any_contains, ends_code, first_word, opens_code}
 use Rattle.textwrap_marks.specs.Words.{contains, has_byte, is_made_of, SpacedText}
@@ -30,7 +30,7 @@ has_pre_end words = any_contains (codes "</pre") words
 abbrev pub has_backtick_behind : ℕ → List SpacedText → Bool
 has_backtick_behind len words =
     has_byte 96 (drop len (first_word words))
-    || list_any (λ w. has_byte 96 w.word) (drop 1 words)
+    || any_contains (codes "`") (drop 1 words)
 
 -- dollar signs that begin a formula, which ends in another line
 abbrev pub opens_formula : List SpacedText → Bool

@@ -47,19 +47,20 @@ abbrev pub is_sign_byte : ℕ → Bool
 is_sign_byte c =
     c == 35 || c == 59 || c == 37 || c == 62 || c == 60 || c == 124 || c == 61 || c == 46
 
--- what begins code in a comment that Doxygen or JSDoc reads
+-- what begins code in a comment that Doxygen, JSDoc, Javadoc or Scaladoc reads
 abbrev pub opens_code : List ℕ → Bool
 opens_code word =
     starts_with nat_eq word (codes "@code") || starts_with nat_eq word (codes "\\code")
     || starts_with nat_eq word (codes "@verbatim") || starts_with nat_eq word (codes "\\verbatim")
-    || starts_with nat_eq word (codes "@example")
+    || starts_with nat_eq word (codes "@example") || starts_with nat_eq word (codes "{@snippet")
+    || bytes_eq word (codes "{{{")
 
 -- and what ends it
 abbrev pub ends_code : List ℕ → Bool
 ends_code word =
     starts_with nat_eq word (codes "@endcode") || starts_with nat_eq word (codes "\\endcode")
     || starts_with nat_eq word (codes "@endverbatim")
-    || starts_with nat_eq word (codes "\\endverbatim")
+    || starts_with nat_eq word (codes "\\endverbatim") || starts_with nat_eq word (codes "}}}")
 
 -- what begins a comment that a linter, a formatter or an editor reads
 abbrev pub is_tool_word : List ℕ → Bool
@@ -145,16 +146,16 @@ is_comment_behind word =
     || bytes_eq word (codes "--") || bytes_eq word (codes ";") || bytes_eq word (codes ";;")
     || bytes_eq word (codes ";;;")
 
--- `|`, a comment behind text, a carriage return, what ends a label of a link, or `<pre`
+-- `|`, `=`, a comment behind text, a carriage return, what ends a label of a link, or `<pre`
 abbrev pub is_column_word : List ℕ → Bool
 is_column_word word =
-    bytes_eq word (codes "|") || is_comment_behind word || has_byte 13 word
+    bytes_eq word (codes "|") || bytes_eq word (codes "=") || is_comment_behind word || has_byte 13 word
     || contains (codes "]:") word || contains (codes "<pre") word
 
--- | / # % - ; carriage return ] <
+-- | = / # % - ; carriage return ] <
 abbrev pub is_column_byte : ℕ → Bool
 is_column_byte c =
-    c == 124 || c == 47 || c == 35 || c == 37 || c == 45 || c == 59 || c == 13 || c == 93 || c == 60
+    c == 124 || c == 61 || c == 47 || c == 35 || c == 37 || c == 45 || c == 59 || c == 13 || c == 93 || c == 60
 
 -- none of these bytes is in the words
 abbrev pub ArePlain : List SpacedText → Type 0
@@ -201,3 +202,35 @@ abbrev pub is_rule : List SpacedText → Bool
 is_rule [] = false
 is_rule (w ∷ []) = is_rule_characters (chars w.word)
 is_rule (w ∷ v ∷ ws) = false
+
+-- ---- what a line says of those below it
+
+-- a prompt of a shell, or of Python
+abbrev pub is_prompt : List ℕ → Bool
+is_prompt word = bytes_eq word (codes "$") || bytes_eq word (codes ">>>")
+
+-- below the head of a table: with bars and hyphens, and without a letter or digit
+abbrev pub is_table_rule : List SpacedText → Bool
+is_table_rule words =
+    any_contains (codes "|") words && any_contains (codes "-") words
+    && not (list_any (λ w. has_letter w.word) words)
+
+-- all lines belong to it, up to one without text
+abbrev pub opens_session : List SpacedText → Bool
+opens_session words = is_prompt (first_word words) || is_table_rule words
+
+-- `Usage:`, `Example:` or `Examples:`
+abbrev pub is_example_key : List ℕ → Bool
+is_example_key word =
+    bytes_eq word (codes "Usage:") || bytes_eq word (codes "usage:")
+    || bytes_eq word (codes "Example:") || bytes_eq word (codes "example:")
+    || bytes_eq word (codes "Examples:") || bytes_eq word (codes "examples:")
+
+-- code is deeper by one column, if the text above it begins with `..`, ends in `::` or such a key, or
+-- stands behind a single blank, and else by four
+abbrev pub deeper_by : List ℕ → List SpacedText → ℕ
+deeper_by hanging words =
+    let last = last_word words in
+    if ends_with nat_eq last (codes "::") || is_example_key last || bytes_eq hanging (codes " ")
+    || bytes_eq (first_word words) (codes "..")
+    then 1 else 4

@@ -1,6 +1,6 @@
 //! Fences of code.
 ghost use Rattle.std.specs.Prelude.{◌≡◌, ◌==◌, map, true};
-ghost use Rattle.std.specs.List.{list_any, prefix_len};
+ghost use Rattle.std.specs.List.{prefix_len};
 ghost use Rattle.textwrap_marks.specs.Fences.{fence_view, has_backtick_behind, has_pre};
 ghost use Rattle.textwrap_marks.specs.Fences.{has_pre_end, is_closed_by, is_left_by, is_long_run};
 ghost use Rattle.textwrap_marks.specs.Fences.{opened, opened_by, opens_formula, run_of};
@@ -26,7 +26,7 @@ pub enum FenceKind {
     Run(FenceRun),
     /// `<pre`.
     Pre,
-    /// `@code` or `@verbatim` of Doxygen, or `@example` of JSDoc.
+    /// What [`opens_code`] names, such as `@code` of Doxygen.
     Code,
     /// `$$` of Markdown and TeX.
     Formula,
@@ -76,23 +76,12 @@ fn has_pre_end(words: &[SpacedWord<'_>]) -> bool
     any_contains(words, "</pre")
 }
 
-fn any_backtick(words: &[SpacedWord<'_>]) -> bool
-    ensures { result ≡ list_any (λ w. has_byte 96 w.word) (map spaced_view words.now) }
-{
-    for word in words {
-        if has_byte(b'`', word.word.as_bytes()) {
-            return true;
-        }
-    }
-    false
-}
-
 /// Whether a backtick stands behind so many bytes.
 fn has_backtick_behind(len: usize, words: &[SpacedWord<'_>]) -> bool
     ensures { result ≡ has_backtick_behind len (map spaced_view words.now) }
 {
     let bytes = first_word(words).as_bytes();
-    has_byte(b'`', &bytes[len.min(bytes.len())..]) | any_backtick(&words[words.len().min(1)..])
+    has_byte(b'`', &bytes[len.min(bytes.len())..]) | any_contains(&words[words.len().min(1)..], "`")
 }
 
 /// Whether the words begin a formula by dollar signs, which ends in another line.

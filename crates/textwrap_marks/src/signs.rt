@@ -11,13 +11,16 @@ ghost use Rattle.textwrap_marks.specs.Signs.{is_end, is_gap, is_key};
 ghost use Rattle.textwrap_marks.specs.Signs.{is_key_character, is_rule, has_wide_gap};
 ghost use Rattle.textwrap_marks.specs.Signs.{is_rule_characters, is_rule_of, is_sign, is_sign_byte};
 ghost use Rattle.textwrap_marks.specs.Signs.{is_for_tools, is_tool_word, last_of, last_white, last_word, may_go_on};
-ghost use Rattle.textwrap_marks.specs.Signs.{opens_code, opens_paragraph};
+ghost use Rattle.textwrap_marks.specs.Signs.{opens_code, opens_paragraph, deeper_by, is_example_key};
+ghost use Rattle.textwrap_marks.specs.Signs.{is_prompt, is_table_rule, opens_session};
 ghost use Rattle.textwrap_marks.specs.Marks.{is_bullet};
 ghost use Rattle.textwrap_marks.specs.Words.{has_letter, is_letter_or_digit, spaced_view};
 
 use crate::marks::is_bullet;
 use crate::options::ReflowOptions;
-use crate::words::{SpacedWord, contains, first_byte, has_byte, has_letter, without_end};
+use crate::words::{
+    SpacedWord, contains, ends_with, first_byte, has_byte, has_letter, without_end,
+};
 use textwrap_text::starts::starts_with;
 
 /// The first word, and the empty text where there is none.
@@ -79,8 +82,8 @@ pub fn is_key(word: &str) -> bool
     }
 }
 
-/// Whether a word begins code in a comment that Doxygen or JSDoc reads: `@code`, `@verbatim`, the same
-/// behind a backslash, or `@example`.
+/// Whether a word begins code in a comment that Doxygen, JSDoc, Javadoc or Scaladoc reads: `@code`,
+/// `@verbatim`, the same behind a backslash, `@example`, `{@snippet` or `{{{`.
 pub fn opens_code(word: &str) -> bool
     ensures { result ≡ opens_code word.now }
 {
@@ -89,6 +92,8 @@ pub fn opens_code(word: &str) -> bool
         | starts_with(word, "@verbatim")
         | starts_with(word, "\\verbatim")
         | starts_with(word, "@example")
+        | starts_with(word, "{@snippet")
+        | (word == "{{{")
 }
 
 /// Whether a word ends such code.
@@ -99,6 +104,7 @@ pub fn ends_code(word: &str) -> bool
         | starts_with(word, "\\endcode")
         | starts_with(word, "@endverbatim")
         | starts_with(word, "\\endverbatim")
+        | starts_with(word, "}}}")
 }
 
 /// Whether a comment that begins with this word is read by a linter, a formatter or an editor.
@@ -286,6 +292,7 @@ fn is_column_byte(byte: u8) -> bool
     ensures { result ≡ is_column_byte byte }
 {
     (byte == b'|')
+        | (byte == b'=')
         | (byte == b'/')
         | (byte == b'#')
         | (byte == b'%')
@@ -306,12 +313,13 @@ fn is_comment_behind(word: &str) -> bool
         | matches!(word, "#" | "%" | "%%" | "--" | ";" | ";;" | ";;;")
 }
 
-/// Whether no paragraph contains this word: `|`, a comment behind text, a carriage return, `]:` or
+/// Whether no paragraph contains this word: `|`, `=`, a comment behind text, a carriage return, `]:` or
 /// `<pre`.
 fn is_column_word(word: &str) -> bool
     ensures { result ≡ is_column_word word.now }
 {
     word == "|"
+        || word == "="
         || is_comment_behind(word)
         || has_byte(b'\r', word.as_bytes())
         || contains(word, "]:")
@@ -441,5 +449,63 @@ pub fn is_rule(words: &[SpacedWord<'_>]) -> bool
     match words {
         [word] => is_rule_word(word.word),
         _ => false,
+    }
+}
+
+fn any_letter(words: &[SpacedWord<'_>]) -> bool
+    ensures { result ≡ list_any (λ w. has_letter w.word) (map spaced_view words.now) }
+{
+    for word in words {
+        if has_letter(word.word) {
+            return true;
+        }
+    }
+    false
+}
+
+/// Whether a word is a prompt of a shell, or of Python.
+fn is_prompt(word: &str) -> bool
+    ensures { result ≡ is_prompt word.now }
+{
+    matches!(word, "$" | ">>>")
+}
+
+/// Whether the words stand below the head of a table: `--- | ---`.
+fn is_table_rule(words: &[SpacedWord<'_>]) -> bool
+    ensures { result ≡ is_table_rule (map spaced_view words.now) }
+{
+    any_contains(words, "|") && any_contains(words, "-") && !any_letter(words)
+}
+
+/// Whether the words begin a session or the rows of a table, up to a line without text.
+pub fn opens_session(words: &[SpacedWord<'_>]) -> bool
+    ensures { result ≡ opens_session (map spaced_view words.now) }
+{
+    is_prompt(first_word(words)) || is_table_rule(words)
+}
+
+/// Whether a word says that examples stand below it.
+fn is_example_key(word: &str) -> bool
+    ensures { result ≡ is_example_key word.now }
+{
+    matches!(
+        word,
+        "Usage:" | "usage:" | "Example:" | "example:" | "Examples:" | "examples:"
+    )
+}
+
+/// By how many columns code is deeper than these words, which stand behind this hanging form.
+pub fn deeper_by(hanging: &str, words: &[SpacedWord<'_>]) -> usize
+    ensures { result ≡ deeper_by hanging.now (map spaced_view words.now) }
+{
+    let last = last_word(words);
+    if ends_with(last, "::")
+        | is_example_key(last)
+        | (hanging == " ")
+        | (first_word(words) == "..")
+    {
+        1
+    } else {
+        4
     }
 }

@@ -1,8 +1,0 @@
-use Rattle.textwrap_marks.proofs.fences.any_backtick.Given as goal
-use Rattle.textwrap_text.proofs.Common.{◌≡◌, drop, list_any, map}
-use Rattle.textwrap_marks.specs.Words.{has_byte, spaced_view}
-
--- none of the words so far passes
-abbrev pub invariant-loop-word : goal.invariant-loop-word
-invariant-loop-word l = list_any (λ w. has_byte 96 w.word) (map spaced_view (drop l.word-index l.words))
-    ≡ list_any (λ w. has_byte 96 w.word) (map spaced_view l.words)

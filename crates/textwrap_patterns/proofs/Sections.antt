@@ -12,7 +12,7 @@ use Rattle.textwrap_patterns.specs.Listed.{Listed}
 use Rattle.textwrap_patterns.specs.Parsing.{Outcome, after_mark, and_then, closed, closed_text, count_fault, end_fault, ended}
 use Rattle.textwrap_patterns.specs.Parsing.{exceptions_mark, fault_said, is_closed, is_group, no_patterns, outside_fault}
 use Rattle.textwrap_patterns.specs.Parsing.{parsed, patterns_mark, tex_after, tex_said, text_said, unmarked, with_all, with_said}
-use Rattle.textwrap_patterns.specs.Sections.{Part, Outside, Group, IsClosedBehind, IsOpened, IsPart, IsReadFrom}
+use Rattle.textwrap_patterns.specs.Sections.{Part, Outside, Group, IsClosedBehind, IsOpened, IsTexPart, IsReadFrom}
 use Rattle.textwrap_patterns.specs.Sections.{has_group, lines_of, part_said, section_in}
 use Rattle.textwrap_patterns.specs.declared.entries.Section.{Section}
 use Rattle.textwrap_patterns.specs.declared.entries.Section.TheVariants.{Preamble}
@@ -148,15 +148,15 @@ seen-group : (seen : Bool) → true ≡ (seen || true)
 seen-group true = refl
 seen-group false = refl
 
-parts-say : (seen : Bool) (parts : List Part) → All IsPart parts
+parts-say : (seen : Bool) (parts : List Part) → All IsTexPart parts
     → (saids_in (outside_of seen) (flat_map lines_of parts) ≡ flat_map part_said parts)
     × (behind_all (outside_of seen) (flat_map lines_of parts) ≡ outside_of (seen || has_group parts))
 parts-say true [] are = (refl, refl)
 parts-say false [] are = (refl, refl)
 parts-say seen (Outside line ∷ parts) are =
-    let is = All-head IsPart (Outside line) parts are in
+    let is = All-head IsTexPart (Outside line) parts are in
     let here = outside-line seen line is.0 is.1 in
-    let rest = parts-say seen parts (All-tail IsPart (Outside line) parts are) in
+    let rest = parts-say seen parts (All-tail IsTexPart (Outside line) parts are) in
     let ls = flat_map lines_of parts in (
       ap (λ l. l ++ saids_in (tex_after (outside_of seen) line) ls) here.0
           ∙ ap (λ s. fault_said (outside_fault line) ++ saids_in s ls) here.1
@@ -164,9 +164,9 @@ parts-say seen (Outside line ∷ parts) are =
       ap (λ s. behind_all s ls) here.1 ∙ rest.1,
     )
 parts-say seen (Group x line text more ∷ parts) are =
-    let is = All-head IsPart (Group x line text more) parts are in
+    let is = All-head IsTexPart (Group x line text more) parts are in
     let here = opened-line seen x line text is.0 in
-    let rest = parts-say true parts (All-tail IsPart (Group x line text more) parts are) in
+    let rest = parts-say true parts (All-tail IsTexPart (Group x line text more) parts are) in
     let ls = flat_map lines_of parts in
     let behind = group-says x text more ls is.1 in (
       ap (λ l. l ++ saids_in (tex_after (outside_of seen) line) (more ++ ls)) here.0
@@ -179,7 +179,7 @@ parts-say seen (Group x line text more ∷ parts) are =
 -- ---- lines are parts, if the last group is closed
 
 abbrev HasParts : List (List ℕ) → Type 0
-HasParts ls = (parts : List Part) × (ls ≡ flat_map lines_of parts) × All IsPart parts
+HasParts ls = (parts : List Part) × (ls ≡ flat_map lines_of parts) × All IsTexPart parts
 
 abbrev HasEnd : List ℕ → List (List ℕ) → Type 0
 HasEnd text ls = (more : List (List ℕ)) × (rest : List (List ℕ)) × (ls ≡ more ++ rest)
@@ -200,7 +200,7 @@ opened-is seen x line text ls inside is = elim (inside x text) [
   | inl (more, rest, same, closes, (parts, are_parts, are)) ↦ inl (
     Group x line text more ∷ parts,
     ap (λ l. line ∷ l) (same ∙ ap (λ l. more ++ l) are_parts),
-    All-cons IsPart (Group x line text more) parts (is, closes) are,
+    All-cons IsTexPart (Group x line text more) parts (is, closes) are,
   )
   | inr stays ↦ inr (ap (λ s. is_group (behind_all s ls)) (opened-line seen x line text is).1 ∙ stays)
 ]
@@ -213,7 +213,7 @@ outside-is line ls outside inside None None one two seen = elim (outside seen) [
   | inl (parts, are_parts, are) ↦ inl (
     Outside line ∷ parts,
     ap (λ l. line ∷ l) are_parts,
-    All-cons IsPart (Outside line) parts (one, two) are,
+    All-cons IsTexPart (Outside line) parts (one, two) are,
   )
   | inr stays ↦ inr (ap (λ s. is_group (behind_all s ls)) (outside-line seen line one two).1 ∙ stays)
 ]
@@ -230,7 +230,7 @@ in-group true = refl
 in-group false = refl
 
 none-is : OutsideIs []
-none-is seen = inl ([], refl, All-nil IsPart)
+none-is seen = inl ([], refl, All-nil IsTexPart)
 
 inside-is : (line : List ℕ) (ls : List (List ℕ)) → OutsideIs (line ∷ ls) → InsideIs ls → InsideIs (line ∷ ls)
 inside-is line ls outside inside x text = elim (cases_Bool (is_closed text)) [

@@ -7,7 +7,7 @@ use Rattle.textwrap_patterns.proofs.Common.{inl, inr, length, map, nat_tests, re
 use Rattle.textwrap_patterns.proofs.Common.{◌++◌, ◌∙◌, ◌∷◌, ◌≡◌}
 use Rattle.textwrap_patterns.specs.Entries.{Said, Pattern, Changed, Exception, Left, Right, CompoundLeft}
 use Rattle.textwrap_patterns.specs.Entries.{CompoundRight, NextGroup, Nothing, Wrong}
-use Rattle.textwrap_patterns.specs.Faults.{are_among, has_exceptions, is_comment, is_mark, is_silent}
+use Rattle.textwrap_patterns.specs.Faults.{are_among, has_exceptions, is_comment, marks_exceptions, is_silent}
 use Rattle.textwrap_patterns.specs.Laws.{AreListed, AreTex, uncommented, without_line}
 use Rattle.textwrap_patterns.specs.Listed.{Listed}
 use Rattle.textwrap_patterns.specs.Parsing.{Outcome, after_mark, and_then, begins_exceptions, closed, ends_exceptions, comment_in, counted_on, exceptions_mark, end_fault, ended, is_list}
@@ -133,7 +133,7 @@ line-skipped n among [] after line h is =
     ∙ lines-shifted (suc n) n (section_of among) after h
   where
     silent : listed_said (section_of among) (trim line) ≡ []
-    silent = rw (sym (comment-skipped (trim line)) ∙ ap (λ b. b || is_mark (trim line)) is) refl
+    silent = rw (sym (comment-skipped (trim line)) ∙ ap (λ b. b || marks_exceptions (trim line)) is) refl
 line-skipped n among (first ∷ before) after line h is =
     ap without_line (list-step n among first (before ++ line ∷ after) h)
     ∙ all-shifted (suc n) (suc n) (listed_said (section_of among) (trim first)) h

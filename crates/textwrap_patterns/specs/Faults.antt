@@ -34,11 +34,11 @@ begins_word line =
     || (begins (codes "NOHYPHEN") line || begins (codes "NEXTLEVEL") line))))
 
 -- what begins exceptions or ends them
-abbrev pub is_mark : List ℕ → Bool
-is_mark line = begins_exceptions line || ends_exceptions line
+abbrev pub marks_exceptions : List ℕ → Bool
+marks_exceptions line = begins_exceptions line || ends_exceptions line
 
 abbrev pub is_silent : List ℕ → Bool
-is_silent line = is_comment line || is_mark line
+is_silent line = is_comment line || marks_exceptions line
 
 -- neither these nor such a word
 abbrev pub IsOther : List ℕ → Type 0

@@ -33,9 +33,9 @@ IsClosedBehind (text ∷ []) = is_closed text ≡ true
 IsClosedBehind (text ∷ next ∷ more) = (is_closed text ≡ false) × IsClosedBehind (next ∷ more)
 
 -- no mark stands in a line outside of groups; a group goes from a mark to the line that closes it
-abbrev pub IsPart : Part → Type 0
-IsPart (Outside line) = (after_mark patterns_mark line ≡ None) × (after_mark exceptions_mark line ≡ None)
-IsPart (Group exceptions line text more) = IsOpened exceptions line text × IsClosedBehind (text ∷ more)
+abbrev pub IsTexPart : Part → Type 0
+IsTexPart (Outside line) = (after_mark patterns_mark line ≡ None) × (after_mark exceptions_mark line ≡ None)
+IsTexPart (Group exceptions line text more) = IsOpened exceptions line text × IsClosedBehind (text ∷ more)
 
 abbrev pub section_in : Bool → Section
 section_in false = Patterns
@@ -56,7 +56,7 @@ has_group (Group exceptions line text more ∷ parts) = true
 pub record IsReadFrom (ls : List (List ℕ)) (h : Listed) : Type 0 where
   pub parts : List Part
   pub lines : ls ≡ flat_map lines_of parts
-  pub each : All IsPart parts
+  pub each : All IsTexPart parts
   pub some : has_group parts ≡ true
   pub said : with_all 0 (flat_map part_said parts) no_patterns ≡ Ok h
   pub counted : count_fault (length h.patterns) (length h.exceptions) ≡ None

@@ -4,7 +4,7 @@ use Rattle.std.specs.Prelude.{option_map, unwrap_or}
 use Rattle.std.specs.List.{flat_map}
 use Rattle.clap.specs.Words.{App, Row, Rule, Text, first_of, new_rule}
 use Rattle.clap.specs.declared.builder.action.ArgAction.TheVariants.{Set}
-use Rattle.text_filters.specs.Arguments.{file_rule, texts_in, tool_app}
+use Rattle.text_filters.specs.Arguments.{file_rule, flag_in, flag_rule, texts_in, tool_app}
 use Rattle.text_filters.specs.declared.arguments.Mode.TheVariants.{Print}
 use Rattle.textwrap_program.specs.Arguments.{width_of}
 use Rattle.textwrap_program.specs.Program.{line_feed}
@@ -32,7 +32,7 @@ dictionary_rule =
 
 abbrev pub hyphenate_app : App
 hyphenate_app = tool_app (codes "hyphenate") (columns_rule ∷ count_rule (codes "left")
-    ∷ count_rule (codes "right") ∷ dictionary_rule ∷ file_rule ∷ [])
+    ∷ count_rule (codes "right") ∷ flag_rule (codes "soft-hyphens") ∷ dictionary_rule ∷ file_rule ∷ [])
 
 -- ---- what it shows of itself
 
@@ -47,11 +47,12 @@ help_lines =
     ∷ codes "  [FILE]...     Files; - is the standard input [default: -]"
     ∷ codes ""
     ∷ codes "Options:"
-    ∷ codes "  -w, --width <N>  Fill the text at N columns, with hyphens; also -N"
-    ∷ codes "      --left <N>   Keep N letters before a hyphen, not as many as the dictionary says"
-    ∷ codes "      --right <N>  Keep N letters behind a hyphen"
-    ∷ codes "  -h, --help       Print help"
-    ∷ codes "  -V, --version    Print version"
+    ∷ codes "  -w, --width <N>     Fill the text at N columns, with hyphens; also -N"
+    ∷ codes "      --left <N>      Keep N letters before a hyphen, not as many as the dictionary says"
+    ∷ codes "      --right <N>     Keep N letters behind a hyphen"
+    ∷ codes "      --soft-hyphens  Set hyphens at the soft hyphens alone of a word that has some"
+    ∷ codes "  -h, --help          Print help"
+    ∷ codes "  -V, --version       Print version"
     ∷ codes ""
     ∷ codes "Examples:"
     ∷ codes "  hyphenate hyph_en_US.dic < words.txt  Each line is a word"
@@ -84,5 +85,6 @@ pub record IsRequest (rows : List Row) (request : Request) : Type 0 where
   pub width : number_if_given (codes "width") rows ≡ Some request.width
   pub left : number_if_given (codes "left") rows ≡ Some request.left
   pub right : number_if_given (codes "right") rows ≡ Some request.right
+  pub soft_hyphens : request.soft_hyphens ≡ flag_in (codes "soft-hyphens") rows
   pub names : map (λ name. name.now) request.inputs.names.now ≡ texts_in (codes "FILE") rows
   pub mode : request.inputs.mode ≡ Print

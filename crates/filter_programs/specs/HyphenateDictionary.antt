@@ -10,6 +10,7 @@ use Rattle.textwrap_hyphens.specs.Parsed.{Holds}
 use Rattle.textwrap_hyphens.specs.Table.{patterns_view}
 use Rattle.textwrap_hyphens.specs.declared.dictionary.Patterns.{Patterns}
 use Rattle.text_filters.specs.declared.faults.Fault.TheVariants.{Read, Memory}
+use Rattle.filter_programs.specs.declared.hyphenate.arguments.Request.{Request}
 use Rattle.filter_programs.specs.declared.hyphenate.dictionary.Failure.{Failure}
 use Rattle.filter_programs.specs.declared.hyphenate.dictionary.Failure.TheVariants.{Unread, Wrong}
 
@@ -35,6 +36,11 @@ IsDictionary bytes (Err failure) = IsNoDictionary bytes failure
 abbrev pub with_asked_minima : Option ℕ → Option ℕ → Hyphenation → Hyphenation
 with_asked_minima left right h =
     record h { left = unwrap_or left h.left; right = unwrap_or right h.right }
+
+-- and the soft hyphens of a word alone as its points, if they are asked for
+abbrev pub as_asked : Request → Hyphenation → Hyphenation
+as_asked request h =
+    record (with_asked_minima request.left request.right h) { soft_hyphens = request.soft_hyphens }
 
 -- ---- what is read
 

@@ -14,7 +14,7 @@ use Rattle.text_filters.specs.declared.program.Ending.{Ending}
 use Rattle.textwrap_hyphens.specs.Hyphenation.{Hyphenation}
 use Rattle.filter_programs.specs.HyphenateArguments.{IsRequest, help_text, hyphenate_app, name_of}
 use Rattle.filter_programs.specs.HyphenateArguments.{number_if_given, version_text}
-use Rattle.filter_programs.specs.HyphenateDictionary.{ReadsNone, ReadsSaid, with_asked_minima}
+use Rattle.filter_programs.specs.HyphenateDictionary.{ReadsNone, ReadsSaid, as_asked}
 use Rattle.filter_programs.specs.HyphenateTexts.{hyphenating_by}
 use Rattle.filter_programs.specs.declared.hyphenate.arguments.Count.{Count}
 use Rattle.filter_programs.specs.declared.hyphenate.arguments.Request.{Request}
@@ -56,9 +56,7 @@ abbrev pub Hyphenates : StreamFaults → Request → World → World → Ending 
 Hyphenates faults request old new ending =
     ((h : Hyphenation) × ReadsSaid (bytes_at old.files request.dictionary.now) h
     × Serves faults hyphenate_about
-    (hyphenating_by request.width (with_asked_minima request.left request.right h)) request.inputs
-    old new
-    ending)
+    (hyphenating_by request.width (as_asked request h)) request.inputs old new ending)
     ⊎ ((failure : Failure) × ReadsNone (bytes_at old.files request.dictionary.now) failure
     × OnlySays old new
     × Explains faults.messages request.dictionary.now failure old.messages new.messages ending)

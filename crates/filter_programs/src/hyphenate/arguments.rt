@@ -8,7 +8,7 @@ ghost use Rattle.filter_programs.specs.HyphenateArguments.{number_if_given};
 use clap::{Arg, ArgAction, ArgMatches, Command};
 use std::alloc::{AllocError, Global};
 use text_filters::arguments::{
-    Inputs, Mode, file_argument, new_command, text_of, texts_of, value_of,
+    Inputs, Mode, file_argument, flag, is_set, new_command, text_of, texts_of, value_of,
 };
 use textwrap_program::arguments::parse_width;
 
@@ -22,11 +22,12 @@ Arguments:
   [FILE]...     Files; - is the standard input [default: -]
 
 Options:
-  -w, --width <N>  Fill the text at N columns, with hyphens; also -N
-      --left <N>   Keep N letters before a hyphen, not as many as the dictionary says
-      --right <N>  Keep N letters behind a hyphen
-  -h, --help       Print help
-  -V, --version    Print version
+  -w, --width <N>     Fill the text at N columns, with hyphens; also -N
+      --left <N>      Keep N letters before a hyphen, not as many as the dictionary says
+      --right <N>     Keep N letters behind a hyphen
+      --soft-hyphens  Set hyphens at the soft hyphens alone of a word that has some
+  -h, --help          Print help
+  -V, --version       Print version
 
 Examples:
   hyphenate hyph_en_US.dic < words.txt  Each line is a word
@@ -56,6 +57,8 @@ pub struct Request<'a> {
     pub left: Option<usize>,
     /// How many letters stay behind a hyphen.
     pub right: Option<usize>,
+    /// Whether soft hyphens are the only points of a word in which a letter stands behind one.
+    pub soft_hyphens: bool,
     /// The inputs.
     pub inputs: Inputs<'a>,
 }
@@ -80,6 +83,11 @@ pub(crate) fn command<'a>(alloc: Global) -> Result<Command<'a>, AllocError>
             "Keep N letters before a hyphen, not as many as the dictionary says",
         ))?
         .arg(count_argument(alloc, "right", "Keep N letters behind a hyphen"))?
+        .arg(flag(
+            alloc,
+            "soft-hyphens",
+            "Set hyphens at the soft hyphens alone of a word that has some",
+        ))?
         .arg(dictionary_argument(alloc))?
         .arg(file_argument(alloc))
 }
@@ -139,6 +147,7 @@ pub fn request_in<'m, 'a>(matches: &'m ArgMatches<'a>) -> Result<Request<'m>, Co
         width,
         left,
         right,
+        soft_hyphens: is_set(matches, "soft-hyphens"),
         inputs,
     })
 }

@@ -104,7 +104,7 @@ fn serve_request<F: Files, R: ReadWhole, W: WriteWhole, M: WriteWhole>(
     let patterns = with_minima(patterns, request.left, request.right);
     let filter = Hyphenating {
         width: request.width,
-        patterns: patterns.table(),
+        patterns: patterns.table().soft_hyphens(request.soft_hyphens),
     };
     let run = Run {
         about: HYPHENATE,

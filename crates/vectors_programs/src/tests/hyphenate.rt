@@ -90,6 +90,8 @@ const CALLS: &[(&str, &[&str], &str, &str)] = &[
     ("the last width counts", &["-w6", "words.dic", "-80"], "a table", "a table"),
     ("fewer letters on both sides than the dictionary says", &["words.dic", "--left", "1", "--right=1"], "ana\n",
         "a-na\n"),
+    ("soft hyphens alone, if they are asked for", &["--soft-hyphens", "words.dic"], "hyphena\u{ad}tion\ntable\n",
+        "hyphena\u{ad}-tion\nta-ble\n"),
     ("more before a hyphen", &["--left=3", "words.dic"], "hyphenation\n", "hyphen-ation\n"),
     ("more behind it, of which the last counts", &["--right", "1", "words.dic", "--right", "6"], "hyphenation\n",
         "hy-phenation\n"),

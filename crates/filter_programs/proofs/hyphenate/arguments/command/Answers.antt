@@ -11,7 +11,9 @@ returns c =
     ∙ ap₂ with_rule app_1 c.count_argument.ensures.rule in
     let app_3 = c.in_ok-arg-3.ensures.shape c.count_argument-2.ensures.local
     ∙ ap₂ with_rule app_2 c.count_argument-2.ensures.rule in
-    let app_4 = c.in_ok-arg-4.ensures.shape c.dictionary_argument.ensures.local
-    ∙ ap₂ with_rule app_3 c.dictionary_argument.ensures.rule in
-    IfOk-weaker c.arg-5.result _ _ (λ command adds. adds.shape c.file_argument.ensures.local
-    ∙ ap₂ with_rule app_4 c.file_argument.ensures.rule) c.arg-5.ensures
+    let app_4 = c.in_ok-arg-4.ensures.shape c.flag.ensures.local
+    ∙ ap₂ with_rule app_3 c.flag.ensures.rule in
+    let app_5 = c.in_ok-arg-5.ensures.shape c.dictionary_argument.ensures.local
+    ∙ ap₂ with_rule app_4 c.dictionary_argument.ensures.rule in
+    IfOk-weaker c.arg-6.result _ _ (λ command adds. adds.shape c.file_argument.ensures.local
+    ∙ ap₂ with_rule app_5 c.file_argument.ensures.rule) c.arg-6.ensures

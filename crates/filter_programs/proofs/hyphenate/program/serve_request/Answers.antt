@@ -1,10 +1,10 @@
-use Rattle.std.proofs.Common.{List, inl, subst, ◌∙◌}
+use Rattle.std.proofs.Common.{List, ap, inl, subst, ◌∙◌}
 use Rattle.text_filters.specs.Files.{Folder}
 use Rattle.text_filters.specs.Program.{Serves, World}
 use Rattle.text_filters.specs.Streams.{faults_of}
 use Rattle.textwrap_hyphens.specs.Hyphenation.{Hyphenation}
 use Rattle.textwrap_hyphens.specs.Table.{patterns_view}
-use Rattle.filter_programs.specs.HyphenateDictionary.{with_asked_minima}
+use Rattle.filter_programs.specs.HyphenateDictionary.{as_asked}
 use Rattle.filter_programs.specs.HyphenateProgram.{hyphenate_about}
 use Rattle.filter_programs.specs.HyphenateTexts.{hyphenating_by}
 use Rattle.filter_programs.proofs.hyphenate.program.serve_request.Goals as goal
@@ -30,9 +30,10 @@ returns g c =
       said,
       c.in-Ok.ensures.read,
       subst (λ files. Serves faults hyphenate_about
-          (hyphenating_by request.width (with_asked_minima request.left request.right said)) request.inputs
+          (hyphenating_by request.width (as_asked request said)) request.inputs
           (world files) new c.serve.result) c.in-Ok.ensures.kept
           (subst (λ (h : Hyphenation). Serves faults hyphenate_about (hyphenating_by request.width h)
           request.inputs (world (g.F.Files.past c.read_dictionary.new.files)) new c.serve.result)
-          (c.table.ensures ∙ c.with_minima-patterns.ensures) c.serve.ensures),
+          (c.soft_hyphens.ensures ∙ ap (λ (h : Hyphenation). record h { soft_hyphens = request.soft_hyphens })
+          (c.table.ensures ∙ c.with_minima-patterns.ensures)) c.serve.ensures),
     )

@@ -1,6 +1,6 @@
 -- Lines that do not stand apart, by themselves, and what is open behind them.
 use Rattle.textwrap_marked.proofs.LineNames.{◌≡◌, ℕ, ◌&&◌, ◌||◌, not, Bool, true, false, cond, List, []}
-use Rattle.textwrap_marked.proofs.LineNames.{◌∷◌, ap, arith, cases_Bool, codes, length, ne_eqb, None}
+use Rattle.textwrap_marked.proofs.LineNames.{◌∷◌, ap, arith, cases_Bool, length, ne_eqb, None}
 use Rattle.textwrap_marked.proofs.LineNames.{Option, refl, Some, sym, true≢false, ◌∙◌}
 use Rattle.textwrap_marked.proofs.LineNames.{is_some, FenceText, has_words, passed, StateText}
 use Rattle.textwrap_marked.proofs.LineNames.{begins_text, closes_block, closes_early, first_word}

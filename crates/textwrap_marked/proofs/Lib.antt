@@ -13,6 +13,7 @@ pub mod FenceLeft
 pub mod FenceMarks
 pub mod FilledBack
 pub mod FilledParts
+pub mod FirstFitLines
 pub mod FittingPieces
 pub mod FreeLines
 pub mod HangingForms

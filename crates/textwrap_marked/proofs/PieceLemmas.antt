@@ -9,14 +9,14 @@ use Rattle.textwrap_marked.specs.Pieces.{cuts_from, is_cut, onto_front, pieces}
 use Rattle.textwrap_marked.specs.Pieces.{with_blank}
 use Rattle.textwrap_marks.specs.declared.options.ReflowOptions.{ReflowOptions}
 
-onto_front-twice : (first second : List ℕ) (parts : List (List ℕ))
+pub onto_front-twice : (first second : List ℕ) (parts : List (List ℕ))
     → onto_front first (onto_front second parts) ≡ onto_front (first ++ second) parts
 onto_front-twice first second [] = refl
 onto_front-twice first second (part ∷ parts) =
     ap (λ l. l ∷ parts) (sym (append_assoc first second part))
 
 module _ (options : ReflowOptions) (starred : Bool) where
-  onto_front-nil : (word : List ℕ) (words : List (List ℕ))
+  pub onto_front-nil : (word : List ℕ) (words : List (List ℕ))
       → onto_front [] (pieces options starred (word ∷ words)) ≡ pieces options starred (word ∷ words)
   onto_front-nil word words =
       let later = pieces options starred words in

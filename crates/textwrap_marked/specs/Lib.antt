@@ -1,6 +1,7 @@
 pub mod Reading
 pub mod Blocks
 pub mod Pieces
+pub mod FirstFit
 pub mod Reflow
 pub mod Choosing
 pub mod Within

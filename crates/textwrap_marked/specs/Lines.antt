@@ -2,7 +2,7 @@
 use Rattle.std.specs.Prelude.{ℕ, ◌-◌, ◌==◌, ◌&&◌, ◌||◌, Bool, false, not, nat_eq, nat_lt, List}
 use Rattle.std.specs.Prelude.{[]}
 use Rattle.std.specs.Prelude.{◌∷◌, length, take, drop, codes, bytes_eq, string_bytes}
-use Rattle.std.specs.Prelude.{if◌then◌else◌, Option, Some, None, is_some, map}
+use Rattle.std.specs.Prelude.{if◌then◌else◌, Option, Some, None, is_some}
 use Rattle.std.specs.List.{ends_with, list_any, slice_split, starts_with, suffix_len}
 use Rattle.std.specs.Option.{option_map}
 use Rattle.textwrap_marks.specs.Columns.{behind_white, depth_of, DepthText, depth_view, is_deeper}
@@ -12,7 +12,7 @@ use Rattle.textwrap_marks.specs.Prefixes.{prefix_ends}
 use Rattle.textwrap_marked.specs.Hanging.{hanging_margin, hanging_prefix, has_opening}
 use Rattle.textwrap_marks.specs.Signs.{begins_text, closes_block, closes_early, deeper_by, first_word}
 use Rattle.textwrap_marks.specs.Signs.{has_columns, is_key, is_rule, last_white, last_word, opens_session}
-use Rattle.textwrap_marks.specs.Words.{has_byte, has_bytes, spaced_text, SpacedText, spaced_view}
+use Rattle.textwrap_marks.specs.Words.{has_byte, has_bytes, spaced_text, SpacedText}
 use Rattle.textwrap_marks.specs.Words.{spaced_words}
 use Rattle.textwrap_marked.specs.declared.line.MarkedLine.{MarkedLine}
 use Rattle.textwrap_marks.specs.declared.options.ReflowOptions.{ReflowOptions}
@@ -48,9 +48,9 @@ abbrev pub marked_line_view : MarkedLine → LineText
 marked_line_view l = record {
   raw = l.raw.now;
   fed = l.fed;
-  prefix = string_bytes l.prefix;
+  prefix = l.prefix.now;
   hanging = string_bytes l.hanging;
-  words = map spaced_view l.words.items;
+  words = spaced_words l.text.now;
   starred = l.starred;
   opens_block = l.opens_block;
   deeper = l.deeper;

@@ -17,8 +17,8 @@ fn goes_on(line: &MarkedLine<'_>, next: &MarkedLine<'_>) -> bool
     !line.apart
         & !next.apart
         & !line.ended
-        & (next.prefix.as_str() == line.hanging.as_str())
-        & !opens_paragraph(first_word(&next.words))
+        & (next.prefix == line.hanging.as_str())
+        & !opens_paragraph(first_word(next.text))
 }
 
 /// Whether both begin with a key, behind the same hanging form.

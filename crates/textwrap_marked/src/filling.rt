@@ -2,19 +2,20 @@
 ghost use Rattle.std.specs.Prelude.{◌≡◌, ℕ, ◌++◌, [], ◌∷◌, List, map, IfOk, OnOk};
 ghost use Rattle.std.specs.Prelude.{string_bytes};
 ghost use Rattle.std.specs.List.{flat_map};
-ghost use Rattle.textwrap_base.specs.Algorithms.{IsDividedBy};
-ghost use Rattle.textwrap_base.specs.Cost.{total_width};
-ghost use Rattle.textwrap_base.specs.Errors.{Fits64Bits, Overflowed};
+ghost use Rattle.textwrap_base.specs.Algorithms.{ByOptimalFit, IsDividedBy};
+ghost use Rattle.textwrap_base.specs.Errors.{Overflowed};
 ghost use Rattle.textwrap_display.specs.Justifying.{justified};
 ghost use Rattle.textwrap_layout.specs.Paragraph.{covered, line_bytes};
 ghost use Rattle.textwrap_words.specs.Words.{WordText, sizes_of, word_of};
 ghost use Rattle.textwrap_words.specs.Cuts.{AreCuts, parts_between};
+ghost use Rattle.textwrap_marks.specs.declared.options.Algorithm.TheVariants.{LeastCost};
 ghost use Rattle.textwrap_marked.specs.Lines.{marked_line_view};
-ghost use Rattle.textwrap_marked.specs.Pieces.{AreInRow, piece_view};
-ghost use Rattle.textwrap_marked.specs.Reflow.{dividing_algorithm, break_white, ending_if, filled_end};
+ghost use Rattle.textwrap_marked.specs.Pieces.{piece_view};
+ghost use Rattle.textwrap_marked.specs.Reflow.{break_white, ending_if, filled_end};
 ghost use Rattle.textwrap_marked.specs.Reflow.{filled_ends, AreFilled, kept_line};
 ghost use Rattle.textwrap_marked.specs.Reflow.{kept_text, line_text, line_texts, printed, room_behind};
 
+use crate::first_fit::push_by_first_fit;
 use crate::least_cost::divide_at_least_cost;
 use crate::lines::{MarkedLine, without_returns};
 use crate::pieces::{JoinedPiece, JoinedWords, joined_of, pieces_between};
@@ -25,7 +26,7 @@ use textwrap_marks::columns::columns;
 use textwrap_marks::options::{Algorithm, ReflowOptions};
 use textwrap_marks::signs::last_white;
 use textwrap_marks::words::ends_with;
-use textwrap_words::wrap_algorithms::{WrapError, wrap_first_fit};
+use textwrap_words::wrap_algorithms::{Penalties, WrapError};
 
 /// Adds an ending where a line feed was.
 fn push_ending(output: &mut String, ending: &str, fed: bool) -> Result<(), AllocError>
@@ -69,29 +70,6 @@ pub(crate) fn push_kept(
         push_line(output, line, options.ending)?;
     }
     Ok(())
-}
-
-/// The pieces, divided into lines of these widths.
-fn divide<'p, 't>(
-    alloc: Global,
-    algorithm: Algorithm,
-    pieces: &'p [JoinedPiece<'t>],
-    widths: &[usize],
-) -> Result<Vec<&'p [JoinedPiece<'t>]>, WrapError>
-    requires row { AreInRow 0 pieces.now }
-    requires fits { Fits64Bits (total_width (λ piece. sizes_of (piece_view piece)) pieces.now) }
-    ensures divided { IfOk result (λ lines. IsDividedBy
-        (dividing_algorithm algorithm) sizes_of widths.now
-        (map piece_view pieces.now) (map (map piece_view) (map (λ line. line.now) lines.items))) }
-    ensures only_memory { ¬ Overflowed result }
-{
-    match algorithm {
-        Algorithm::FirstFit => {
-            let lines = wrap_first_fit(alloc, pieces, widths)?;
-            Ok(lines)
-        }
-        Algorithm::LeastCost(penalties) => divide_at_least_cost(alloc, &penalties, pieces, widths),
-    }
 }
 
 /// Adds the pieces of a line, without the last one's blank.
@@ -144,7 +122,7 @@ fn push_text(
 }
 
 /// What a prefix leaves of the width of a line.
-fn room_behind(prefix: &str, options: &ReflowOptions<'_>) -> usize
+pub(crate) fn room_behind(prefix: &str, options: &ReflowOptions<'_>) -> usize
     ensures { result ≡ room_behind options.now prefix.now }
 {
     options.width.saturating_sub(columns(prefix))
@@ -204,7 +182,7 @@ fn push_break(output: &mut String, line: &MarkedLine<'_>) -> Result<(), AllocErr
     ensures { OnOk result (string_bytes output.new
         ≡ string_bytes output.old ++ break_white (marked_line_view line.now)) }
 {
-    let white = last_white(&line.words);
+    let white = last_white(line.text);
     if ends_with(white, "  ") {
         output.push_str(white)
     } else {
@@ -233,7 +211,7 @@ fn push_end(output: &mut String, lines: &[MarkedLine<'_>], ending: &str) -> Resu
     push_ends(output, last, ending)
 }
 
-/// Adds the lines of the text of a paragraph, which may be cut there.
+/// Adds the lines of least cost of the text of a paragraph, which may be cut there.
 fn push_joined(
     alloc: Global,
     output: &mut String,
@@ -242,11 +220,12 @@ fn push_joined(
     ending: &str,
     prefix: &str,
     hanging: &str,
+    penalties: &Penalties,
     options: &ReflowOptions<'_>,
 ) -> Result<(), WrapError>
     requires { AreCuts text.now cuts.items }
     ensures lines { OnOk result ((division : List (List WordText))
-        × IsDividedBy (dividing_algorithm options.now.algorithm) sizes_of
+        × IsDividedBy (ByOptimalFit penalties.now) sizes_of
         (room_behind options.now prefix.now ∷ room_behind options.now hanging.now ∷ [])
         (map word_of (parts_between cuts.items text.now)) division
         × (string_bytes output.new ≡ string_bytes output.old ++ printed ending.now prefix.now hanging.now
@@ -257,13 +236,53 @@ fn push_joined(
     let pieces = pieces_between(alloc, text, &cuts)?;
     drop(cuts);
     let widths = [room_behind(prefix, options), room_behind(hanging, options)];
-    let division = divide(alloc, options.algorithm, &pieces, &widths)?;
+    let division = divide_at_least_cost(alloc, penalties, &pieces, &widths)?;
     push_division(alloc, output, &division, ending, prefix, hanging, options)?;
     Ok(())
 }
 
-/// Adds a paragraph, filled. What is kept of its lines is let go of before they are divided, as the
-/// words of a long one take many times its text.
+/// Adds a paragraph, filled at least cost. What is kept of its lines is let go of before they are
+/// divided.
+fn push_at_least_cost(
+    alloc: Global,
+    output: &mut String,
+    lines: Vec<MarkedLine<'_>>,
+    ending: &str,
+    penalties: &Penalties,
+    options: &ReflowOptions<'_>,
+) -> Result<(), WrapError>
+    requires { options.now.algorithm ≡ LeastCost penalties.now }
+    ensures filled { OnOk result ((text : List ℕ)
+        × AreFilled options.now ending.now (map marked_line_view lines.entry.items) text
+        × (string_bytes output.new ≡ string_bytes output.old ++ text)) }
+    ensures only_memory { ¬ Overflowed result }
+{
+    let [first, ..] = lines.as_slice() else {
+        return Ok(());
+    };
+    let joined = joined_of(alloc, &lines, first.starred, options)?;
+    let prefix = first.prefix;
+    let hanging = String::from_str(alloc, first.hanging.as_str())?;
+    let mut end = String::new(alloc);
+    push_end(&mut end, &lines, ending)?;
+    drop(lines);
+    let JoinedWords { text, cuts, .. } = joined;
+    push_joined(
+        alloc,
+        output,
+        text.as_str(),
+        cuts,
+        ending,
+        prefix,
+        hanging.as_str(),
+        penalties,
+        options,
+    )?;
+    output.push_str(end.as_str())?;
+    Ok(())
+}
+
+/// Adds a paragraph, filled.
 pub(crate) fn push_filled(
     alloc: Global,
     output: &mut String,
@@ -276,26 +295,13 @@ pub(crate) fn push_filled(
         × (string_bytes output.new ≡ string_bytes output.old ++ text)) }
     ensures only_memory { ¬ Overflowed result }
 {
+    if let Algorithm::LeastCost(penalties) = options.algorithm {
+        return push_at_least_cost(alloc, output, lines, ending, &penalties, options);
+    }
     let [first, ..] = lines.as_slice() else {
         return Ok(());
     };
-    let joined = joined_of(alloc, &lines, first.starred, options)?;
-    let prefix = String::from_str(alloc, first.prefix.as_str())?;
-    let hanging = String::from_str(alloc, first.hanging.as_str())?;
-    let mut end = String::new(alloc);
-    push_end(&mut end, &lines, ending)?;
-    drop(lines);
-    let JoinedWords { text, cuts, .. } = joined;
-    push_joined(
-        alloc,
-        output,
-        text.as_str(),
-        cuts,
-        ending,
-        prefix.as_str(),
-        hanging.as_str(),
-        options,
-    )?;
-    output.push_str(end.as_str())?;
+    push_by_first_fit(alloc, output, first, &lines, ending, options)?;
+    push_end(output, &lines, ending)?;
     Ok(())
 }

@@ -10,6 +10,7 @@ pub use within::{LineRange, reflow_within};
 mod blocks;
 mod choosing;
 mod filling;
+mod first_fit;
 mod hanging;
 pub mod laws;
 mod least_cost;

@@ -1,6 +1,4 @@
 //! What is kept of a line that was read.
-use textwrap_marks::words::SpacedWord;
-
 /// A line, and what is read of it.
 #[derive(Drop)]
 pub struct MarkedLine<'t> {
@@ -9,12 +7,12 @@ pub struct MarkedLine<'t> {
     /// Whether a line feed follows.
     pub fed: bool,
     /// What stands before its text: white, a comment mark, quote marks and bullets.
-    pub prefix: String,
+    pub prefix: &'t str,
     /// What the later lines of a paragraph begin with.
     pub hanging: String,
-    /// The words of its text.
-    pub words: Vec<SpacedWord<'t>>,
-    /// Whether its words have no byte of those of which each word that no paragraph contains has
+    /// Its text behind that.
+    pub text: &'t str,
+    /// Whether its text has no byte of those of which each word that no paragraph contains has
     /// one.
     pub plain: bool,
     /// Whether it is, or begins, in a block comment without a mark of its own here.

@@ -5,7 +5,7 @@ ghost use Rattle.textwrap_marked.specs.Lines.{marked_line_view};
 ghost use Rattle.textwrap_marked.specs.Pieces.{AreInRow, IsJoined, is_cut_behind, is_kept_together};
 ghost use Rattle.textwrap_marked.specs.Pieces.{joined_view, piece_priced, piece_view, with_cut, with_next};
 ghost use Rattle.textwrap_marked.specs.Pieces.{with_words, words_of_lines};
-ghost use Rattle.textwrap_marks.specs.Words.{spaced_view};
+ghost use Rattle.textwrap_marks.specs.Words.{spaced_words};
 ghost use Rattle.textwrap_text.specs.Blanks.{final_blanks, without_final_blanks};
 ghost use Rattle.textwrap_words.specs.Cuts.{AreCuts, parts_between};
 ghost use Rattle.textwrap_words.specs.Words.{sizes_of, word_of};
@@ -15,7 +15,7 @@ use std::alloc::{AllocError, Global};
 use textwrap_base::inner::PrefixSums;
 use textwrap_marks::options::ReflowOptions;
 use textwrap_marks::signs::may_go_on;
-use textwrap_marks::words::SpacedWord;
+use textwrap_marks::words::SpacedWords;
 use textwrap_text::blanks::split_final_blanks;
 use textwrap_words::words::{Fragment, display_width};
 use textwrap_words::wrap_algorithms::Penalties;
@@ -62,19 +62,19 @@ impl<'t> JoinedWords<'t> {
         Ok(())
     }
 
-    /// Adds the words of a line.
+    /// Adds the words of a text.
     fn push_words(
         &mut self,
-        line: &[SpacedWord<'t>],
+        line: &'t str,
         starred: bool,
         options: &ReflowOptions<'_>,
     ) -> Result<(), AllocError>
         ensures { OnOk result ((words : List (List ℕ))
             → with_words options.now starred (joined_view self.new) words
             ≡ with_words options.now starred (joined_view self.old)
-            (map (λ w. w.word) (map spaced_view line.now) ++ words)) }
+            (map (λ w. w.word) (spaced_words line.now) ++ words)) }
     {
-        for word in line {
+        for word in SpacedWords::of(line) {
             self.push(word.word, starred, options)?;
         }
         Ok(())
@@ -89,7 +89,12 @@ fn is_kept_together(options: &ReflowOptions<'_>, starred: bool, word: &str, next
 }
 
 /// Whether a line may end behind a word, if there is one, before the next.
-fn is_cut_behind(options: &ReflowOptions<'_>, starred: bool, word: Option<&str>, next: &str) -> bool
+pub(crate) fn is_cut_behind(
+    options: &ReflowOptions<'_>,
+    starred: bool,
+    word: Option<&str>,
+    next: &str,
+) -> bool
     ensures { result ≡ is_cut_behind options.now starred (option_map (λ w. w.now) word.entry)
         next.now }
 {
@@ -126,7 +131,7 @@ pub(crate) fn joined_of<'t>(
         last: None,
     };
     for line in lines {
-        joined.push_words(&line.words, starred, options)?;
+        joined.push_words(line.text, starred, options)?;
     }
     Ok(joined)
 }

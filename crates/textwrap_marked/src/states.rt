@@ -1,5 +1,5 @@
 //! What is open at a line.
-ghost use Rattle.std.specs.Prelude.{◌≡◌, map, true, IfOk};
+ghost use Rattle.std.specs.Prelude.{◌≡◌, true, IfOk};
 ghost use Rattle.std.specs.Option.{option_map};
 ghost use Rattle.textwrap_marks.specs.Fences.{fence_view};
 ghost use Rattle.textwrap_marks.specs.Columns.{depth_view};
@@ -8,14 +8,13 @@ ghost use Rattle.textwrap_marked.specs.Lines.{is_in_block, is_prompted, marked_l
 ghost use Rattle.textwrap_marked.specs.Lines.{new_before, new_by, new_fence, opened_fence, passed};
 ghost use Rattle.textwrap_marked.specs.Lines.{state_view};
 ghost use Rattle.textwrap_marks.specs.Signs.{ArePlain};
-ghost use Rattle.textwrap_marks.specs.Words.{spaced_view};
+ghost use Rattle.textwrap_marks.specs.Words.{spaced_words};
 
 use crate::line::MarkedLine;
 use std::alloc::{AllocError, Global};
 use textwrap_marks::columns::{Depth, depth_of, marks_of};
 use textwrap_marks::fences::{Fence, is_closed_by, is_left_by, opened};
 use textwrap_marks::signs::{closes_block, deeper_by, opens_session};
-use textwrap_marks::words::SpacedWord;
 
 /// What is open: a block comment, a fence, a prompt; how deep the last text stood that was not
 /// fenced or deeper, and by how many columns text is deeper.
@@ -82,7 +81,7 @@ impl ReadState {
         Ok(ReadState {
             in_block: is_in_block(in_block, fenced, line),
             fence,
-            prompted: is_prompted(prompted, fenced, &line.words),
+            prompted: is_prompted(prompted, fenced, line.text),
             before,
             by: new_by(by, is_before, line),
         })
@@ -117,7 +116,7 @@ fn new_fence(
 {
     match fence {
         Some(fence) => {
-            if is_closed_by(&fence, line.hanging.as_str(), &line.words) {
+            if is_closed_by(&fence, line.hanging.as_str(), line.text) {
                 Ok(None)
             } else {
                 Ok(Some(fence))
@@ -135,7 +134,7 @@ fn opened_fence(alloc: Global, line: &MarkedLine<'_>) -> Result<Option<Fence>, A
     if line.deeper {
         return Ok(None);
     }
-    match opened(line.plain, &line.words) {
+    match opened(line.plain, line.text) {
         Some(kind) => {
             let marks = String::from_str(alloc, marks_of(line.hanging.as_str()))?;
             Ok(Some(Fence { marks, kind }))
@@ -145,10 +144,11 @@ fn opened_fence(alloc: Global, line: &MarkedLine<'_>) -> Result<Option<Fence>, A
 }
 
 /// Whether a line is the text before later lines.
+#[tactic(auto, using(textwrap_marks::proofs::WordCuts::words_none))]
 fn is_before(fenced: bool, line: &MarkedLine<'_>) -> bool
     ensures { result ≡ is_before fenced (marked_line_view line.now) }
 {
-    !fenced & !line.deeper & !line.words.is_empty()
+    !fenced & !line.deeper & !line.text.is_empty()
 }
 
 /// How deep the text before later lines stands.
@@ -173,7 +173,7 @@ fn new_by(by: usize, is_before: bool, line: &MarkedLine<'_>) -> usize
     ensures { result ≡ new_by by is_before (marked_line_view line.now) }
 {
     if is_before {
-        deeper_by(line.hanging.as_str(), &line.words)
+        deeper_by(line.hanging.as_str(), line.text)
     } else {
         by
     }
@@ -184,15 +184,16 @@ fn is_in_block(in_block: bool, fenced: bool, line: &MarkedLine<'_>) -> bool
     ensures { result ≡ is_in_block in_block fenced (marked_line_view line.now) }
 {
     if in_block {
-        !closes_block(&line.words)
+        !closes_block(line.text)
     } else {
         !fenced & line.opens_block
     }
 }
 
-/// Whether a session is open behind these words.
-fn is_prompted(prompted: bool, fenced: bool, words: &[SpacedWord<'_>]) -> bool
-    ensures { result ≡ is_prompted prompted fenced (map spaced_view words.now) }
+/// Whether a session is open behind this text.
+#[tactic(auto, using(textwrap_marks::proofs::WordCuts::words_none))]
+fn is_prompted(prompted: bool, fenced: bool, text: &str) -> bool
+    ensures { result ≡ is_prompted prompted fenced (spaced_words text.now) }
 {
-    !words.is_empty() && (prompted || !fenced && opens_session(words))
+    !text.is_empty() && (prompted || !fenced && opens_session(text))
 }

@@ -4,4 +4,4 @@ pub mod ListLemmas
 pub mod PlainWords
 pub mod SpacedLemmas
 pub mod Common
-pub mod BulletLemmas
+pub mod WordCuts

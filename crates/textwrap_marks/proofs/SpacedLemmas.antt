@@ -1,11 +1,9 @@
 -- The words of a line, each with the white behind it, from the front on.
 use Rattle.textwrap_text.proofs.Common.{◌≡◌, ℕ, ◌+◌, ◌<◌, Bool, true, false, suc, List, [], ◌∷◌}
-use Rattle.textwrap_text.proofs.Common.{◌++◌, length, take, drop, refl, ap, sym, ◌∙◌, arith}
-use Rattle.textwrap_text.proofs.Common.{prefix_len, cases_Bool, length-drop, nat_tests, map}
-use Rattle.textwrap_text.proofs.Common.{map-append, append_assoc}
-use Rattle.textwrap_marks.specs.Words.{is_ink, is_white, spaced_view, spaced_words, SpacedText}
+use Rattle.textwrap_text.proofs.Common.{length, take, drop, refl, ap, sym, ◌∙◌, arith}
+use Rattle.textwrap_text.proofs.Common.{prefix_len, cases_Bool, length-drop, nat_tests}
+use Rattle.textwrap_marks.specs.Words.{behind_spaced, is_ink, is_white, spaced_words, SpacedText}
 use Rattle.textwrap_marks.specs.Words.{with_byte}
-use Rattle.textwrap_marks.specs.declared.words.SpacedWord.{SpacedWord}
 
 pub up : (n : ℕ) → 1 + n ≡ suc n
 up n = omega arith
@@ -23,11 +21,8 @@ first_spaced text = record {
   white = take (prefix_len is_white (behind_word text)) (behind_word text);
 }
 
-abbrev pub behind_spaced : List ℕ → List ℕ
-behind_spaced text = drop (prefix_len is_white (behind_word text)) (behind_word text)
-
 -- white before a word stands by itself
-before-word : (c x : ℕ) (xs : List ℕ) (w : SpacedText) (later words : List SpacedText)
+pub before-word : (c x : ℕ) (xs : List ℕ) (w : SpacedText) (later words : List SpacedText)
     → is_white c ≡ true → w.word ≡ x ∷ xs → words ≡ w ∷ later
     → with_byte c words ≡ record { word = []; white = c ∷ [] } ∷ words
 before-word c x xs w later words white some is =
@@ -76,18 +71,3 @@ behind-shorter (c ∷ cs) some = cut (is_white c) refl
 -- white is ASCII
 pub white-small : (c : ℕ) → is_white c ≡ true → c < 128
 white-small c white = grind (arith, nat_tests, cases_Bool)
-
--- one word more is known
-pub words-more : (items more : List SpacedWord) (w : SpacedWord) (text after line : List ℕ)
-    → 0 < length text → more ≡ items ++ w ∷ [] → w.word.now ≡ (first_spaced text).word
-    → w.white.now ≡ (first_spaced text).white → after ≡ behind_spaced text
-    → map spaced_view items ++ spaced_words text ≡ spaced_words line
-    → map spaced_view more ++ spaced_words after ≡ spaced_words line
-words-more items more w text after line some push word white left before =
-    let same : spaced_view w ≡ first_spaced text = λ i. record { word = word i; white = white i } in
-    ap (λ l. map spaced_view l ++ spaced_words after) push
-    ∙ ap (λ l. l ++ spaced_words after) (map-append spaced_view items (w ∷ []))
-    ∙ append_assoc (map spaced_view items) (spaced_view w ∷ []) (spaced_words after)
-    ∙ ap (λ l. map spaced_view items ++ (l ∷ spaced_words after)) same
-    ∙ ap (λ t. map spaced_view items ++ (first_spaced text ∷ spaced_words t)) left
-    ∙ ap (λ l. map spaced_view items ++ l) (sym (words-turn text some)) ∙ before

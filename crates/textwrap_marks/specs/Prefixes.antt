@@ -1,6 +1,6 @@
 -- The prefix of a line.
 use Rattle.std.specs.Prelude.{ℕ, ◌+◌, Bool, List, [], ◌∷◌, drop, suc, if◌then◌else◌, codes, bytes_eq}
-use Rattle.std.specs.Prelude.{◌&&◌}
+use Rattle.std.specs.Prelude.{◌&&◌, false}
 use Rattle.textwrap_marks.specs.Marks.{is_bullet, is_comment_at, is_quote}
 use Rattle.textwrap_marks.specs.Words.{has_bytes, SpacedText}
 use Rattle.textwrap_marks.specs.declared.options.ReflowOptions.{ReflowOptions}
@@ -27,6 +27,11 @@ quotes_len (w ∷ ws) = if is_quote w.word then suc (quotes_len ws) else 0
 abbrev pub is_box : SpacedText → SpacedText → Bool
 is_box w v =
     bytes_eq w.word (codes "[") && bytes_eq w.white (codes " ") && bytes_eq v.word (codes "]")
+
+-- a word begins one, with the first of these
+abbrev pub begins_box : SpacedText → List SpacedText → Bool
+begins_box w [] = false
+begins_box w (v ∷ ws) = is_box w v
 
 -- bullets
 abbrev pub bullets_len : List SpacedText → ℕ

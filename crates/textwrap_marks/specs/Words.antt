@@ -1,7 +1,8 @@
 -- The words of a line, each with the white behind it, and what is asked of one.
-use Rattle.std.specs.Prelude.{ℕ, ◌==◌, ◌||◌, Bool, not, nat_eq, nat_lt, List, [], ◌∷◌, ◌++◌}
-use Rattle.std.specs.Prelude.{length, if◌then◌else◌, chars, ◌+◌, Option, Some, None}
-use Rattle.std.specs.List.{flat_map, list_all, list_any, slice_split, starts_with}
+use Rattle.std.specs.Prelude.{◌≡◌, ℕ, ◌==◌, ◌<◌, ◌≤◌, ◌||◌, Bool, not, nat_eq, nat_lt, List, [], ◌∷◌, ◌++◌}
+use Rattle.std.specs.Prelude.{slice_index}
+use Rattle.std.specs.Prelude.{drop, length, if◌then◌else◌, chars, ◌+◌, Option, Some, None}
+use Rattle.std.specs.List.{flat_map, list_all, list_any, prefix_len, slice_split, starts_with}
 use Rattle.std.specs.Char.Unicode.Alphabetic.{is_alphabetic}
 use Rattle.std.specs.Char.Unicode.Numeric.{is_numeric}
 use Rattle.textwrap_marks.specs.declared.words.SpacedWord.{SpacedWord}
@@ -13,6 +14,11 @@ is_white c = c == 32 || c == 9
 
 abbrev pub is_ink : ℕ → Bool
 is_ink c = not (is_white c)
+
+-- the bytes from one place to another are white, or none of them is
+abbrev pub AreWhite : Bool → List ℕ → ℕ → ℕ → Type 0
+AreWhite are text start end =
+    (i : ℕ) → start ≤ i → i < end → is_white (slice_index text i) ≡ are
 
 -- what stands between white, and the white behind it
 pub record SpacedText : Type 0 where
@@ -52,6 +58,11 @@ with_byte c (w ∷ ws) =
 abbrev pub spaced_words : List ℕ → List SpacedText
 spaced_words [] = []
 spaced_words (c ∷ cs) = with_byte c (spaced_words cs)
+
+-- what follows the first word of a text and its white
+abbrev pub behind_spaced : List ℕ → List ℕ
+behind_spaced text =
+    let behind = drop (prefix_len is_ink text) text in drop (prefix_len is_white behind) behind
 
 -- the text of words, each with the white behind it
 abbrev pub spaced_text : List SpacedText → List ℕ

@@ -1,15 +1,17 @@
 //! Fences of code.
-ghost use Rattle.std.specs.Prelude.{◌≡◌, ◌==◌, map, true};
+ghost use Rattle.std.specs.Prelude.{◌≡◌, ◌==◌, true};
 ghost use Rattle.std.specs.List.{prefix_len};
 ghost use Rattle.textwrap_marks.specs.Fences.{fence_view, has_backtick_behind, has_pre};
 ghost use Rattle.textwrap_marks.specs.Fences.{has_pre_end, is_closed_by, is_left_by, is_long_run};
 ghost use Rattle.textwrap_marks.specs.Fences.{opened, opened_by, opens_formula, run_of};
 ghost use Rattle.textwrap_marks.specs.Signs.{ArePlain};
-ghost use Rattle.textwrap_marks.specs.Words.{has_byte, spaced_view};
+ghost use Rattle.textwrap_marks.specs.Words.{has_byte, spaced_words};
 
 use crate::columns::marks_of;
-use crate::signs::{any_contains, ends_code, first_word, opens_code};
-use crate::words::{SpacedWord, contains, first_byte, has_byte, is_made_of, split_white};
+use crate::signs::{any_contains, ends_code, first_word, only_word, opens_code};
+use crate::words::{
+    contains, first_byte, has_byte, is_made_of, split_first, split_white, split_words,
+};
 use textwrap_text::starts::{starts_with, without_start};
 
 /// So many of one character.
@@ -63,66 +65,68 @@ fn run_of(word: &str) -> Option<FenceRun>
     }
 }
 
-fn has_pre(plain: bool, words: &[SpacedWord<'_>]) -> bool
-    requires { plain ≡ true → ArePlain (map spaced_view words.now) }
-    ensures { result ≡ has_pre (map spaced_view words.now) }
+fn has_pre(plain: bool, text: &str) -> bool
+    requires { plain ≡ true → ArePlain (spaced_words text.now) }
+    ensures { result ≡ has_pre (spaced_words text.now) }
 {
-    !plain && any_contains(words, "<pre")
+    !plain && any_contains(text, "<pre")
 }
 
-fn has_pre_end(words: &[SpacedWord<'_>]) -> bool
-    ensures { result ≡ has_pre_end (map spaced_view words.now) }
+fn has_pre_end(text: &str) -> bool
+    ensures { result ≡ has_pre_end (spaced_words text.now) }
 {
-    any_contains(words, "</pre")
+    any_contains(text, "</pre")
 }
 
 /// Whether a backtick stands behind so many bytes.
-fn has_backtick_behind(len: usize, words: &[SpacedWord<'_>]) -> bool
-    ensures { result ≡ has_backtick_behind len (map spaced_view words.now) }
+fn has_backtick_behind(len: usize, text: &str) -> bool
+    ensures { result ≡ has_backtick_behind len (spaced_words text.now) }
 {
-    let bytes = first_word(words).as_bytes();
-    has_byte(b'`', &bytes[len.min(bytes.len())..]) | any_contains(&words[words.len().min(1)..], "`")
+    let bytes = first_word(text).as_bytes();
+    let (_, later) = split_words(text, 1);
+    has_byte(b'`', &bytes[len.min(bytes.len())..]) | any_contains(later, "`")
 }
 
-/// Whether the words begin a formula by dollar signs, which ends in another line.
-fn opens_formula(words: &[SpacedWord<'_>]) -> bool
-    ensures { result ≡ opens_formula (map spaced_view words.now) }
+/// Whether a text begins a formula by dollar signs, which ends in another line.
+fn opens_formula(text: &str) -> bool
+    ensures { result ≡ opens_formula (spaced_words text.now) }
 {
-    match words {
-        [first, later @ ..] => match without_start(first.word, "$$") {
-            Some(behind) => !contains(behind, "$$") && !any_contains(later, "$$"),
-            None => false,
-        },
-        [] => false,
+    if text.is_empty() {
+        return false;
+    }
+    let (first, later) = split_first(text);
+    match without_start(first.word, "$$") {
+        Some(behind) => !contains(behind, "$$") && !any_contains(later, "$$"),
+        None => false,
     }
 }
 
-/// The fence that these words, which may be known to be plain, open, if they do.
-pub fn opened(plain: bool, words: &[SpacedWord<'_>]) -> Option<FenceKind>
-    requires { plain ≡ true → ArePlain (map spaced_view words.now) }
-    ensures { result ≡ opened (map spaced_view words.now) }
+/// The fence that a text opens, whose words may be known to be plain, if it does.
+pub fn opened(plain: bool, text: &str) -> Option<FenceKind>
+    requires { plain ≡ true → ArePlain (spaced_words text.now) }
+    ensures { result ≡ opened (spaced_words text.now) }
 {
-    opened_by(run_of(first_word(words)), plain, words)
+    opened_by(run_of(first_word(text)), plain, text)
 }
 
-fn opened_by(run: Option<FenceRun>, plain: bool, words: &[SpacedWord<'_>]) -> Option<FenceKind>
-    requires { plain ≡ true → ArePlain (map spaced_view words.now) }
-    ensures { result ≡ opened_by run (map spaced_view words.now) }
+fn opened_by(run: Option<FenceRun>, plain: bool, text: &str) -> Option<FenceKind>
+    requires { plain ≡ true → ArePlain (spaced_words text.now) }
+    ensures { result ≡ opened_by run (spaced_words text.now) }
 {
     match run {
         Some(run) => {
-            if (run.mark == b'`') & has_backtick_behind(run.len, words) {
+            if (run.mark == b'`') & has_backtick_behind(run.len, text) {
                 None
             } else {
                 Some(FenceKind::Run(run))
             }
         }
         None => {
-            if has_pre(plain, words) && !has_pre_end(words) {
+            if has_pre(plain, text) && !has_pre_end(text) {
                 Some(FenceKind::Pre)
-            } else if opens_code(first_word(words)) {
+            } else if opens_code(first_word(text)) {
                 Some(FenceKind::Code)
-            } else if opens_formula(words) {
+            } else if opens_formula(text) {
                 Some(FenceKind::Formula)
             } else {
                 None
@@ -131,26 +135,27 @@ fn opened_by(run: Option<FenceRun>, plain: bool, words: &[SpacedWord<'_>]) -> Op
     }
 }
 
-/// Whether the words are as many of the character or more, and nothing else.
-fn is_long_run(run: FenceRun, words: &[SpacedWord<'_>]) -> bool
-    ensures { result ≡ is_long_run run (map spaced_view words.now) }
+/// Whether a text is one word of as many of the character or more.
+#[tactic(auto, using(crate::proofs::WordCuts::run_others))]
+fn is_long_run(run: FenceRun, text: &str) -> bool
+    ensures { result ≡ is_long_run run (spaced_words text.now) }
 {
-    match words {
-        [word] => (word.word.len() >= run.len) & is_made_of(run.mark, word.word.as_bytes()),
-        _ => false,
+    match only_word(text) {
+        Some(word) => (word.word.len() >= run.len) & is_made_of(run.mark, word.word.as_bytes()),
+        None => false,
     }
 }
 
-/// Whether a line with this hanging form and these words closes the fence.
-pub fn is_closed_by(fence: &Fence, hanging: &str, words: &[SpacedWord<'_>]) -> bool
-    ensures { result ≡ is_closed_by (fence_view fence.now) hanging.now (map spaced_view words.now) }
+/// Whether a line with this hanging form and this text closes the fence.
+pub fn is_closed_by(fence: &Fence, hanging: &str, text: &str) -> bool
+    ensures { result ≡ is_closed_by (fence_view fence.now) hanging.now (spaced_words text.now) }
 {
     match fence.kind {
-        FenceKind::Pre => has_pre_end(words),
-        FenceKind::Code => ends_code(first_word(words)),
-        FenceKind::Formula => any_contains(words, "$$"),
+        FenceKind::Pre => has_pre_end(text),
+        FenceKind::Code => ends_code(first_word(text)),
+        FenceKind::Formula => any_contains(text, "$$"),
         FenceKind::Run(run) => {
-            (marks_of(hanging) == fence.marks.as_str()) & is_long_run(run, words)
+            (marks_of(hanging) == fence.marks.as_str()) & is_long_run(run, text)
         }
     }
 }

@@ -1,6 +1,7 @@
 //! How a text begins, and what no paragraph contains.
 ghost use Rattle.std.specs.Char.{is_ascii_lowercase};
-ghost use Rattle.std.specs.Prelude.{◌≡◌, ◌==◌, ◌||◌, true, false, length, map, chars, slice_get, slice_index};
+ghost use Rattle.std.specs.Prelude.{◌≡◌, ◌-◌, ◌<◌, ◌≤◌, ◌==◌, ◌||◌, [], ◌∷◌, true, false, length};
+ghost use Rattle.std.specs.Prelude.{chars, slice_get, slice_index, MatchOption};
 ghost use Rattle.std.specs.List.{list_all, list_any};
 ghost use Rattle.textwrap_marks.specs.Signs.{any_contains, ArePlain, begins_text, closes_block};
 ghost use Rattle.textwrap_marks.specs.Signs.{closes_early, ends_code, ends_early, ends_sentence, first_word};
@@ -14,49 +15,90 @@ ghost use Rattle.textwrap_marks.specs.Signs.{is_for_tools, is_tool_word, last_of
 ghost use Rattle.textwrap_marks.specs.Signs.{opens_code, opens_paragraph, deeper_by, is_example_key};
 ghost use Rattle.textwrap_marks.specs.Signs.{is_prompt, is_table_rule, opens_session};
 ghost use Rattle.textwrap_marks.specs.Marks.{is_bullet};
-ghost use Rattle.textwrap_marks.specs.Words.{has_letter, is_letter_or_digit, spaced_view};
+ghost use Rattle.textwrap_marks.specs.Words.{has_letter, is_letter_or_digit, is_white, spaced_view};
+ghost use Rattle.textwrap_marks.specs.Words.{spaced_words, AreWhite};
 
 use crate::marks::is_bullet;
 use crate::options::ReflowOptions;
 use crate::words::{
-    SpacedWord, contains, ends_with, first_byte, has_byte, has_letter, without_end,
+    SpacedWord, SpacedWords, contains, ends_with, first_byte, has_byte, has_letter, is_white,
+    split_first, split_word, without_end,
 };
 use textwrap_text::starts::starts_with;
 
 /// The first word, and the empty text where there is none.
-pub fn first_word<'t>(words: &[SpacedWord<'t>]) -> &'t str
-    ensures { result.now ≡ first_word (map spaced_view words.now) }
+pub fn first_word(text: &str) -> &str
+    ensures { result.now ≡ first_word (spaced_words text.now) }
 {
-    match words {
-        [first, ..] => first.word,
-        [] => "",
+    let (word, _) = split_word(text);
+    word
+}
+
+/// Where the white at the end of a text begins.
+fn final_white(bytes: &[u8]) -> usize
+    ensures within { result ≤ length bytes.now }
+    ensures white { AreWhite true bytes.now result (length bytes.now) }
+    ensures ink { 0 < result → is_white (slice_index bytes.now (result - 1)) ≡ false }
+{
+    let mut end = bytes.len();
+    while end > 0 && is_white(bytes[end - 1]) {
+        end -= 1;
     }
+    end
 }
 
-/// All words but the last, and the last alone.
-fn split_last<'s, 't>(words: &'s [SpacedWord<'t>]) -> (&'s [SpacedWord<'t>], &'s [SpacedWord<'t>])
-    ensures front { map spaced_view result.0.now ≡ words_before_last (map spaced_view words.now) }
-    ensures last { map spaced_view result.1.now ≡ last_of (map spaced_view words.now) }
+/// Where the word begins that ends there.
+fn word_start(bytes: &[u8], end: usize) -> usize
+    requires { end ≤ length bytes.now }
+    ensures within { result ≤ end }
+    ensures ink { AreWhite false bytes.now result end }
+    ensures white { 0 < result → is_white (slice_index bytes.now (result - 1)) ≡ true }
 {
-    words.split_at(words.len().saturating_sub(1))
+    let mut start = end;
+    while start > 0 && !is_white(bytes[start - 1]) {
+        start -= 1;
+    }
+    start
 }
 
-pub fn last_word<'t>(words: &[SpacedWord<'t>]) -> &'t str
-    ensures { result.now ≡ last_word (map spaced_view words.now) }
+/// The text of all words but the last, and that of the last alone.
+fn split_last(text: &str) -> (&str, &str)
+    ensures front { spaced_words result.0.now ≡ words_before_last (spaced_words text.now) }
+    ensures last { spaced_words result.1.now ≡ last_of (spaced_words text.now) }
 {
-    let (_, last) = split_last(words);
+    let bytes = text.as_bytes();
+    text.split_at(word_start(bytes, final_white(bytes)))
+}
+
+pub fn last_word(text: &str) -> &str
+    ensures { result.now ≡ last_word (spaced_words text.now) }
+{
+    let (_, last) = split_last(text);
     first_word(last)
 }
 
 /// The white behind the last word, and the empty text where there is none.
-pub fn last_white<'t>(words: &[SpacedWord<'t>]) -> &'t str
-    ensures { result.now ≡ last_white (map spaced_view words.now) }
+pub fn last_white(text: &str) -> &str
+    ensures { result.now ≡ last_white (spaced_words text.now) }
 {
-    let (_, last) = split_last(words);
-    match last {
-        [last, ..] => last.white,
-        [] => "",
+    let (_, last) = split_last(text);
+    match SpacedWords::of(last).next() {
+        Some(last) => last.white,
+        None => "",
     }
+}
+
+/// The only word of a text, if it has one and no other.
+#[tactic(auto, using(crate::proofs::WordCuts::words_some))]
+pub(crate) fn only_word(text: &str) -> Option<SpacedWord<'_>>
+    ensures { MatchOption result ((length (spaced_words text.now) == 1) ≡ false)
+        (λ word. spaced_words text.now ≡ spaced_view word ∷ []) }
+{
+    if text.is_empty() {
+        return None;
+    }
+    let (word, later) = split_first(text);
+    if later.is_empty() { Some(word) } else { None }
 }
 
 /// Whether the character may stand in a key: a letter, a digit, a hyphen or a low line.
@@ -326,15 +368,15 @@ fn is_column_word(word: &str) -> bool
         || contains(word, "<pre")
 }
 
-/// Whether such a word is among these. If they are known to be plain, none is looked at.
-fn any_column_word(plain: bool, words: &[SpacedWord<'_>]) -> bool
-    requires { plain ≡ true → ArePlain (map spaced_view words.now) }
-    ensures { result ≡ list_any (λ w. is_column_word w.word) (map spaced_view words.now) }
+/// Whether such a word is in a text. If the words are known to be plain, none is looked at.
+fn any_column_word(plain: bool, text: &str) -> bool
+    requires { plain ≡ true → ArePlain (spaced_words text.now) }
+    ensures { result ≡ list_any (λ w. is_column_word w.word) (spaced_words text.now) }
 {
     if plain {
         return false;
     }
-    for word in words {
+    for word in SpacedWords::of(text) {
         if is_column_word(word.word) {
             return true;
         }
@@ -342,31 +384,31 @@ fn any_column_word(plain: bool, words: &[SpacedWord<'_>]) -> bool
     false
 }
 
-fn any_gap(justify: bool, words: &[SpacedWord<'_>]) -> bool
-    ensures { result ≡ list_any (is_gap justify) (map spaced_view words.now) }
+fn any_gap(justify: bool, text: &str) -> bool
+    ensures { result ≡ list_any (is_gap justify) (spaced_words text.now) }
 {
-    for word in words {
-        if is_gap(justify, word) {
+    for word in SpacedWords::of(text) {
+        if is_gap(justify, &word) {
             return true;
         }
     }
     false
 }
 
-/// Whether such a word is among these, which may be known to be plain, or a gap between two.
-pub fn has_columns(justify: bool, plain: bool, words: &[SpacedWord<'_>]) -> bool
-    requires { plain ≡ true → ArePlain (map spaced_view words.now) }
-    ensures { result ≡ has_columns justify (map spaced_view words.now) }
+/// Whether such a word is in a text, whose words may be known to be plain, or a gap between two.
+pub fn has_columns(justify: bool, plain: bool, text: &str) -> bool
+    requires { plain ≡ true → ArePlain (spaced_words text.now) }
+    ensures { result ≡ has_columns justify (spaced_words text.now) }
 {
-    let (front, _) = split_last(words);
-    any_column_word(plain, words) || any_gap(justify, front)
+    let (front, _) = split_last(text);
+    any_column_word(plain, text) || any_gap(justify, front)
 }
 
-/// Whether a text stands in one of the words.
-pub fn any_contains(words: &[SpacedWord<'_>], part: &str) -> bool
-    ensures { result ≡ any_contains part.now (map spaced_view words.now) }
+/// Whether a part stands in one of the words of a text.
+pub fn any_contains(text: &str, part: &str) -> bool
+    ensures { result ≡ any_contains part.now (spaced_words text.now) }
 {
-    for word in words {
+    for word in SpacedWords::of(text) {
         if contains(word.word, part) {
             return true;
         }
@@ -374,11 +416,11 @@ pub fn any_contains(words: &[SpacedWord<'_>], part: &str) -> bool
     false
 }
 
-/// Whether a block comment ends in these words.
-pub fn closes_block(words: &[SpacedWord<'_>]) -> bool
-    ensures { result ≡ closes_block (map spaced_view words.now) }
+/// Whether a block comment ends in a text.
+pub fn closes_block(text: &str) -> bool
+    ensures { result ≡ closes_block (spaced_words text.now) }
 {
-    any_contains(words, "*/")
+    any_contains(text, "*/")
 }
 
 /// Whether a word does not end in the end of a block comment, or has another one.
@@ -391,12 +433,12 @@ fn ends_early(word: &str) -> bool
     }
 }
 
-/// Whether the end of a block comment stands in these words, and not only at their end.
-pub fn closes_early(words: &[SpacedWord<'_>]) -> bool
-    ensures { result ≡ closes_early (map spaced_view words.now) }
+/// Whether the end of a block comment stands in a text, and not only at the end of its words.
+pub fn closes_early(text: &str) -> bool
+    ensures { result ≡ closes_early (spaced_words text.now) }
 {
-    let (front, _) = split_last(words);
-    closes_block(front) | ends_early(last_word(words))
+    let (front, _) = split_last(text);
+    closes_block(front) | ends_early(last_word(text))
 }
 
 /// The first character of a text, if it has one.
@@ -442,20 +484,21 @@ fn is_rule_word(word: &str) -> bool
     is_rule_of(first_char(word), word)
 }
 
-/// Whether the words are a rule.
-pub fn is_rule(words: &[SpacedWord<'_>]) -> bool
-    ensures { result ≡ is_rule (map spaced_view words.now) }
+/// Whether the words of a text are a rule.
+#[tactic(auto, using(crate::proofs::WordCuts::rule_others))]
+pub fn is_rule(text: &str) -> bool
+    ensures { result ≡ is_rule (spaced_words text.now) }
 {
-    match words {
-        [word] => is_rule_word(word.word),
-        _ => false,
+    match only_word(text) {
+        Some(word) => is_rule_word(word.word),
+        None => false,
     }
 }
 
-fn any_letter(words: &[SpacedWord<'_>]) -> bool
-    ensures { result ≡ list_any (λ w. has_letter w.word) (map spaced_view words.now) }
+fn any_letter(text: &str) -> bool
+    ensures { result ≡ list_any (λ w. has_letter w.word) (spaced_words text.now) }
 {
-    for word in words {
+    for word in SpacedWords::of(text) {
         if has_letter(word.word) {
             return true;
         }
@@ -470,18 +513,18 @@ fn is_prompt(word: &str) -> bool
     matches!(word, "$" | ">>>")
 }
 
-/// Whether the words stand below the head of a table: `--- | ---`.
-fn is_table_rule(words: &[SpacedWord<'_>]) -> bool
-    ensures { result ≡ is_table_rule (map spaced_view words.now) }
+/// Whether a text stands below the head of a table: `--- | ---`.
+fn is_table_rule(text: &str) -> bool
+    ensures { result ≡ is_table_rule (spaced_words text.now) }
 {
-    any_contains(words, "|") && any_contains(words, "-") && !any_letter(words)
+    any_contains(text, "|") && any_contains(text, "-") && !any_letter(text)
 }
 
-/// Whether the words begin a session or the rows of a table, up to a line without text.
-pub fn opens_session(words: &[SpacedWord<'_>]) -> bool
-    ensures { result ≡ opens_session (map spaced_view words.now) }
+/// Whether a text begins a session or the rows of a table, up to a line without text.
+pub fn opens_session(text: &str) -> bool
+    ensures { result ≡ opens_session (spaced_words text.now) }
 {
-    is_prompt(first_word(words)) || is_table_rule(words)
+    is_prompt(first_word(text)) || is_table_rule(text)
 }
 
 /// Whether a word says that examples stand below it.
@@ -494,15 +537,15 @@ fn is_example_key(word: &str) -> bool
     )
 }
 
-/// By how many columns code is deeper than these words, which stand behind this hanging form.
-pub fn deeper_by(hanging: &str, words: &[SpacedWord<'_>]) -> usize
-    ensures { result ≡ deeper_by hanging.now (map spaced_view words.now) }
+/// By how many columns code is deeper than this text, which stands behind this hanging form.
+pub fn deeper_by(hanging: &str, text: &str) -> usize
+    ensures { result ≡ deeper_by hanging.now (spaced_words text.now) }
 {
-    let last = last_word(words);
+    let last = last_word(text);
     if ends_with(last, "::")
         | is_example_key(last)
         | (hanging == " ")
-        | (first_word(words) == "..")
+        | (first_word(text) == "..")
     {
         1
     } else {

@@ -1,13 +1,13 @@
 //! The words of a line, each with the white behind it, and what is asked of one.
-ghost use Rattle.std.specs.Prelude.{◌≡◌, ◌-◌, ◌<◌, ◌≤◌, ◌==◌, ◌∷◌, true, false, length, map};
+ghost use Rattle.std.specs.Prelude.{◌≡◌, ◌-◌, ◌<◌, ◌≤◌, ◌==◌, ◌∷◌, true, false, length};
 ghost use Rattle.std.specs.Prelude.{nat_eq, take, drop};
-ghost use Rattle.std.specs.Prelude.{IfOk, MatchOption, slice_index};
+ghost use Rattle.std.specs.Prelude.{MatchOption, slice_index};
 ghost use Rattle.std.specs.List.{ends_with, prefix_len, slice_split};
-ghost use Rattle.textwrap_marks.specs.Words.{bytes_left, contains, has_byte, has_letter, is_ink};
-ghost use Rattle.textwrap_marks.specs.Words.{is_made_of, is_white, parts_behind_mark, spaced_view};
+ghost use Rattle.textwrap_marks.specs.Words.{behind_spaced, bytes_left, contains, has_byte, has_letter};
+ghost use Rattle.textwrap_marks.specs.Words.{is_ink, is_made_of, is_white, parts_behind_mark, spaced_view};
 ghost use Rattle.textwrap_marks.specs.Words.{spaced_words};
 
-use std::alloc::{AllocError, Global};
+use std::marker::Model;
 
 /// What stands between white, and the white behind it.
 #[derive(Clone, Copy, Debug)]
@@ -63,20 +63,73 @@ pub fn split_white(text: &str) -> (&str, &str)
     text.split_at(end)
 }
 
-/// The words of a line. Only the first may be empty, before white.
-pub fn spaced_words(alloc: Global, line: &str) -> Result<Vec<SpacedWord<'_>>, AllocError>
-    ensures { IfOk result (λ words. map spaced_view words.items ≡ spaced_words line.now) }
+/// The first word of a text, and what follows it and its white.
+pub fn split_first(text: &str) -> (SpacedWord<'_>, &str)
+    requires { 0 < length text.now }
+    ensures words { spaced_words text.now ≡ spaced_view result.0 ∷ spaced_words result.1.now }
+    ensures behind { result.1.now ≡ behind_spaced text.now }
+    ensures shorter { length result.1.now < length text.now }
 {
-    // Room for all words of a usual line at once.
-    let mut words = Vec::with_capacity(alloc, (line.len() / 4).min(32))?;
-    let mut rest = line;
-    while !rest.is_empty() {
-        let (word, after) = split_word(rest);
-        let (white, after) = split_white(after);
-        words.push(SpacedWord { word, white })?;
-        rest = after;
+    let (word, after) = split_word(text);
+    let (white, rest) = split_white(after);
+    (SpacedWord { word, white }, rest)
+}
+
+/// The words of a text, one after another. They need no memory. To contracts it is the list of the
+/// words to come, of which only the first may be empty, before white.
+#[derive(Drop)]
+pub struct SpacedWords<'t>(&'t str);
+
+impl<'t> Model for SpacedWords<'t> {
+    ghost use Rattle.std.specs.Prelude.{List};
+    ghost use Rattle.textwrap_marks.specs.Words.{SpacedText, spaced_words};
+
+    ghost Value = { List SpacedText };
+
+    ghost view = { λ words. spaced_words words.0.now };
+}
+
+impl<'t> SpacedWords<'t> {
+    /// Those of this text.
+    pub fn of(text: &'t str) -> SpacedWords<'t>
+        ensures { result ≡ spaced_words text.now }
+    {
+        SpacedWords(text)
     }
-    Ok(words)
+}
+
+impl<'t> Iterator for SpacedWords<'t> {
+    ghost use Rattle.std.specs.Iterator.{YieldsFirstBy, item_count};
+
+    type Item = SpacedWord<'t>;
+
+    ghost next_gives = { YieldsFirstBy spaced_view (λ words. words) };
+
+    ghost remaining = { item_count (λ words. words) };
+
+    fn next(&mut self) -> Option<SpacedWord<'t>> {
+        if self.0.is_empty() {
+            return None;
+        }
+        let (word, rest) = split_first(self.0);
+        self.0 = rest;
+        Some(word)
+    }
+}
+
+/// The text of the first so many words, or of all if there are fewer, and what follows.
+pub fn split_words(text: &str, count: usize) -> (&str, &str)
+    ensures front { spaced_words result.0.now ≡ take count (spaced_words text.now) }
+    ensures behind { spaced_words result.1.now ≡ drop count (spaced_words text.now) }
+{
+    let mut rest = text;
+    let mut len = 0;
+    while len < count && !rest.is_empty() {
+        let (_, behind) = split_first(rest);
+        rest = behind;
+        len += 1;
+    }
+    text.split_at(text.len() - rest.len())
 }
 
 /// Whether a letter or a digit is among the characters of a word.

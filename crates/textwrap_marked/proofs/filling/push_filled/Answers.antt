@@ -1,98 +1,62 @@
 use Rattle.textwrap_marked.proofs.filling.push_filled.Goals as goal
-use Rattle.textwrap_text.proofs.Common.{◌≡◌, ◌++◌, ◌∷◌, [], Bool, List, ℕ, map, ap, sym, ◌∙◌, subst}
-use Rattle.textwrap_text.proofs.Common.{append_assoc, drop, flat_map, IsUtf8, refl, string_bytes}
+use Rattle.textwrap_text.proofs.Common.{◌≡◌, ◌++◌, ◌∷◌, [], List, ℕ, map, ap, sym, ◌∙◌, subst}
+use Rattle.textwrap_text.proofs.Common.{append_assoc, drop, refl, string_bytes}
+use Rattle.textwrap_base.proofs.Common.{IsGreedy}
 use Rattle.textwrap_words.proofs.Common.{IsDividedBy, sizes_of, word_of, WordText}
-use Rattle.textwrap_words.specs.Cuts.{AreCuts, parts_between}
 use Rattle.textwrap_marked.proofs.LaidLemmas.{first-of}
-use Rattle.textwrap_marked.proofs.PieceCuts.{joined-cuts}
-use Rattle.textwrap_marked.proofs.PieceLemmas.{joined-pieces}
 use Rattle.textwrap_marked.specs.Lines.{LineText, marked_line_view}
-use Rattle.textwrap_marked.specs.Pieces.{IsJoined, Joined, joined_view, pieces, with_blank}
-use Rattle.textwrap_marked.specs.Pieces.{words_of_lines}
-use Rattle.textwrap_marked.specs.Reflow.{AreFilled, dividing_algorithm, filled_end, line_texts, printed}
-use Rattle.textwrap_marked.specs.Reflow.{room_behind, shown_lines}
+use Rattle.textwrap_marked.specs.Pieces.{pieces, words_of_lines}
+use Rattle.textwrap_marked.specs.Reflow.{AreFilled, dividing_algorithm, filled_end, first_room}
+use Rattle.textwrap_marked.specs.Reflow.{later_room, printed, shown_lines}
+use Rattle.textwrap_base.specs.declared.penalties.Penalties.{Penalties}
+use Rattle.textwrap_marks.specs.declared.options.Algorithm.{Algorithm}
+use Rattle.textwrap_marks.specs.declared.options.Algorithm.TheVariants.{FirstFit, LeastCost}
 use Rattle.textwrap_marks.specs.declared.options.ReflowOptions.{ReflowOptions}
 
-module _ (options : ReflowOptions) (ending : List ℕ) where
-  abbrev Lines : List ℕ → List ℕ → List WordText → List ℕ → List ℕ → Type 0
-  Lines prefix hanging words old new =
-      (division : List (List WordText))
-      × IsDividedBy (dividing_algorithm options.algorithm) sizes_of
-      (room_behind options prefix ∷ room_behind options hanging ∷ []) words division
-      × (new ≡ old ++ printed ending prefix hanging (line_texts options.justify
-      (room_behind options prefix) (room_behind options hanging) division))
+neither : (a : Algorithm) → ((p : Penalties) → a ≡ LeastCost p → ⊥) → a ≡ FirstFit
+neither FirstFit not = refl
+neither (LeastCost p) not = absurd (not p refl)
 
-  -- the lines of the joined words are written, and what stands behind them
-  joined-filled : (first : LineText) (rest : List LineText) (joined : Joined)
-      (words prefix hanging end old begun new : List ℕ) → words ≡ joined.text
-      → IsJoined options first.starred (words_of_lines (first ∷ rest)) joined
-      → prefix ≡ first.prefix → hanging ≡ first.hanging → end ≡ filled_end ending (first ∷ rest)
-      → Lines prefix hanging (map word_of (parts_between joined.cuts words)) old begun
-      → new ≡ begun ++ end
-      → (text : List ℕ) × AreFilled options ending (first ∷ rest) text × (new ≡ old ++ text)
-  joined-filled first rest joined words prefix hanging end old begun new w are p h e
-      (division, divided, writes) more =
-      let lines = first ∷ rest in
-      let algorithm = dividing_algorithm options.algorithm in
-      let ends = filled_end ending lines in
-      let text = printed ending first.prefix first.hanging (shown_lines options first division) in
-      let parts : map word_of (parts_between joined.cuts words)
-      ≡ map word_of (pieces options first.starred (words_of_lines lines)) =
-      (λ i. map word_of (parts_between (are.cuts i) ((w ∙ are.text) i))) ∙ ap (map word_of) (joined-pieces options first.starred (words_of_lines lines)) in
-      let same : printed ending prefix hanging (line_texts options.justify (room_behind options prefix)
-      (room_behind options hanging) division) ≡ text =
-      λ i. printed ending (p i) (h i)
-      (line_texts options.justify (room_behind options (p i)) (room_behind options (h i)) division) in (
-        text ++ ends,
-        (
-          division,
-          subst (λ (ws : List ℕ). IsDividedBy algorithm sizes_of ws
-              (map word_of (pieces options first.starred (words_of_lines lines))) division)
-              (λ i. room_behind options (p i) ∷ room_behind options (h i) ∷ [])
-              (subst (λ ps. IsDividedBy algorithm sizes_of
-              (room_behind options prefix ∷ room_behind options hanging ∷ []) ps division) parts divided),
-          refl,
-        ),
-        more ∙ ap (λ t. t ++ end) (writes ∙ ap (λ t. old ++ t) same)
-            ∙ ap (λ t. (old ++ text) ++ t) e ∙ append_assoc old text ends,
-      )
-
--- their text may be cut there
-cuts-are : (options : ReflowOptions) (starred : Bool) (words : List (List ℕ)) (joined : Joined)
-    (text : List ℕ) → text ≡ joined.text → IsJoined options starred words joined → IsUtf8 text
-    → AreCuts text joined.cuts
-cuts-are options starred words joined text w are utf8 =
-    let whole = w ∙ are.text in
-    subst (λ t. AreCuts t joined.cuts) (sym whole)
-    (subst (AreCuts (flat_map with_blank words)) (sym are.cuts)
-    (joined-cuts options starred words (subst IsUtf8 whole utf8)))
-
-pub push_joined-requires : goal.push_joined-requires
-push_joined-requires c =
-    cuts-are c.args.options.now c.first-item.result.starred
-    (words_of_lines (map marked_line_view c.deref.result.now)) (joined_view c.in_ok-joined.joined)
-    c.as_str-3.result.now c.as_str-3.ensures.value c.in_ok-joined.ensures c.as_str-3.utf8
+-- the lines of first fit are written, and what stands behind them
+written-filled : (options : ReflowOptions) (ending : List ℕ) (first : LineText) (given lines : List LineText)
+    (rest : List LineText) (old begun new : List ℕ) → options.algorithm ≡ FirstFit
+    → given ≡ lines → lines ≡ first ∷ rest
+    → ((division : List (List WordText))
+    × IsGreedy sizes_of (first_room options first ∷ later_room options first ∷ [])
+    (map word_of (pieces options first.starred (words_of_lines given))) division
+    × (begun ≡ old ++ printed ending first.prefix first.hanging (shown_lines options first division)))
+    → new ≡ begun ++ filled_end ending given
+    → (text : List ℕ) × AreFilled options ending lines text × (new ≡ old ++ text)
+written-filled options ending first given lines rest old begun new chosen same begins
+    (division, greedy, writes) more =
+    let text = printed ending first.prefix first.hanging (shown_lines options first division) in
+    let all = filled_end ending (first ∷ rest) in
+    subst (λ ls. (text : List ℕ) × AreFilled options ending ls text × (new ≡ old ++ text)) (sym begins) (
+      text ++ all,
+      (
+        division,
+        subst (λ a. IsDividedBy (dividing_algorithm a) sizes_of
+            (first_room options first ∷ later_room options first ∷ [])
+            (map word_of (pieces options first.starred (words_of_lines (first ∷ rest)))) division) (sym chosen)
+            (subst (λ ls. IsGreedy sizes_of (first_room options first ∷ later_room options first ∷ [])
+            (map word_of (pieces options first.starred (words_of_lines ls))) division) (same ∙ begins) greedy),
+        refl,
+      ),
+      more ∙ ap (λ t. t ++ filled_end ending given) writes
+          ∙ ap (λ ls. (old ++ text) ++ filled_end ending ls) (same ∙ begins) ∙ append_assoc old text all,
+    )
 
 pub returns-clause-filled : goal.returns-clause-filled
 returns-clause-filled c =
-    let options = c.args.options.now in
     let ending = c.args.ending.now in
     let lines = c.args.lines.items in
     let first = c.first-item.result in
-    let rest = map marked_line_view (drop 1 lines) in
-    let begins = first-of lines c.as_slice.result.now first c.as_slice.ensures.value
-    c.in-len1-up.len_at_least c.first-item.is in
-    let are = subst (λ ls. IsJoined options first.starred (words_of_lines ls)
-    (joined_view c.in_ok-joined.joined)) (ap (map marked_line_view) c.deref.ensures.value ∙ begins)
-    c.in_ok-joined.ensures in
-    let end = c.as_str-6.ensures.value ∙ c.in_ok-push_end.ensures
-    ∙ ap (λ t. t ++ filled_end ending (map marked_line_view c.deref-2.result.now)) c.new-end.ensures.bytes
-    ∙ ap (filled_end ending) (ap (map marked_line_view) c.deref-2.ensures.value ∙ begins) in
-    subst (λ ls. (text : List ℕ) × AreFilled options ending ls text
-    × (string_bytes c.push_str.new.self ≡ string_bytes c.args.output.now ++ text)) (sym begins)
-    (joined-filled options ending (marked_line_view first) rest (joined_view c.in_ok-joined.joined)
-    c.as_str-3.result.now c.as_str-4.result.now c.as_str-5.result.now c.as_str-6.result.now _ _ _
-    c.as_str-3.ensures.value are
-    (c.as_str-4.ensures.value ∙ c.in_ok-prefix.ensures.ok ∙ c.as_str.ensures.value)
-    (c.as_str-5.ensures.value ∙ c.in_ok-hanging.ensures.ok ∙ c.as_str-2.ensures.value) end
-    c.in_ok-push_joined.ensures.lines c.in_ok-push_str.ensures.bytes)
+    written-filled c.args.options.now ending (marked_line_view first)
+    (map marked_line_view c.deref.result.now) (map marked_line_view lines)
+    (map marked_line_view (drop 1 lines)) (string_bytes c.args.output.now) _ _
+    (neither c.args.options.now.algorithm c.in_default.not-LeastCost)
+    (ap (map marked_line_view) c.deref.ensures.value)
+    (first-of lines c.as_slice.result.now first c.as_slice.ensures.value c.in-len1-up.len_at_least
+    c.first-item.is) c.in_ok-push_by_first_fit.ensures
+    (c.in_ok-push_end.ensures ∙ ap (λ ls. string_bytes c.push_by_first_fit.new.output
+    ++ filled_end ending (map marked_line_view ls)) (c.deref-2.ensures.value ∙ sym c.deref.ensures.value))

@@ -1,19 +1,19 @@
 use Rattle.textwrap_marked.proofs.filling.push_joined.Goals as goal
 use Rattle.textwrap_text.proofs.Common.{◌≡◌, ◌∷◌, [], List, ℕ, map, ap, ◌∙◌, subst, arith}
-use Rattle.textwrap_words.proofs.Common.{IsDividedBy, sizes_of, word_of}
+use Rattle.textwrap_base.proofs.Division.Map.{IsDividedBy-map}
+use Rattle.textwrap_words.proofs.Common.{ByOptimalFit, IsDividedBy, sizes_of, word_of}
 use Rattle.textwrap_words.specs.Cuts.{parts_between}
 use Rattle.textwrap_marked.proofs.FittingPieces.{pieces-fit}
 use Rattle.textwrap_marked.specs.Pieces.{piece_view}
-use Rattle.textwrap_marked.specs.Reflow.{dividing_algorithm}
 
 pub pieces_between-requires : goal.pieces_between-requires
 pieces_between-requires c = rw c.deref.ensures.value c.requires
 
-pub divide-requires-clause-row : goal.divide-requires-clause-row
-divide-requires-clause-row c = rw c.deref-2.ensures.value c.in_ok-pieces.ensures.row
+pub divide_at_least_cost-requires-clause-row : goal.divide_at_least_cost-requires-clause-row
+divide_at_least_cost-requires-clause-row c = rw c.deref-2.ensures.value c.in_ok-pieces.ensures.row
 
-pub divide-requires-clause-fits : goal.divide-requires-clause-fits
-divide-requires-clause-fits c =
+pub divide_at_least_cost-requires-clause-fits : goal.divide_at_least_cost-requires-clause-fits
+divide_at_least_cost-requires-clause-fits c =
     let fit = pieces-fit c.args.text.now c.deref.result.now c.deref-2.result.now c.utf8.text
     (rw c.deref.ensures.value c.requires)
     (ap (map piece_view) c.deref-2.ensures.value ∙ c.in_ok-pieces.ensures.pieces) in
@@ -22,15 +22,17 @@ divide-requires-clause-fits c =
 pub returns-clause-lines : goal.returns-clause-lines
 returns-clause-lines c =
     let options = c.args.options.now in
-    let algorithm = dividing_algorithm options.algorithm in
-    let division = map (map piece_view) (map (λ line. line.now) c.in_ok-division.division.items) in
+    let algorithm = ByOptimalFit c.args.penalties.now in
+    let lines = map (λ line. line.now) c.in_ok-division.division.items in
+    let division = map (map piece_view) lines in
     let cut : map piece_view c.deref-2.result.now
     ≡ map word_of (parts_between c.args.cuts.items c.args.text.now) =
     ap (map piece_view) c.deref-2.ensures.value ∙ c.in_ok-pieces.ensures.pieces
     ∙ ap (λ cs. map word_of (parts_between cs c.args.text.now)) c.deref.ensures.value in
     let divided = subst (λ ps. IsDividedBy algorithm sizes_of
     (c.room_behind.result ∷ c.room_behind-2.result ∷ []) ps division) cut
-    c.in_ok-division.ensures.divided in (
+    (IsDividedBy-map piece_view sizes_of algorithm _ c.deref-2.result.now lines
+    c.in_ok-division.ensures.divided) in (
       division,
       subst (λ (ws : List ℕ). IsDividedBy algorithm sizes_of ws
           (map word_of (parts_between c.args.cuts.items c.args.text.now)) division)

@@ -1,17 +1,17 @@
 use Rattle.textwrap_marked.proofs.hanging.hanging_margin.Goals as goal
-use Rattle.textwrap_text.proofs.Common.{◌++◌, map, slice_range, ap, ◌∙◌, take, take-map}
-use Rattle.std.proofs.lemmas.List.{drop-map}
+use Rattle.textwrap_text.proofs.Common.{◌≡◌, ◌++◌, ap, slice_range, string_bytes, take, ◌∙◌}
+use Rattle.textwrap_marks.proofs.WordCuts.{text-of}
 use Rattle.textwrap_marked.specs.Hanging.{hanging_comments}
-use Rattle.textwrap_marks.specs.Words.{spaced_text, spaced_view}
+use Rattle.textwrap_marks.specs.Words.{spaced_text, spaced_words}
 
 pub returns : goal.returns
 returns c =
-    let words = c.args.words.now in
+    let words = spaced_words c.args.line.now in
     let ends = c.args.ends.now in
-    simp (take-map, drop-map) (c.in_ok-push_words-2.ensures
-    ∙ ap (λ t. t ++ spaced_text (map spaced_view (slice_range words ends.comment ends.margin)))
-    (c.in_ok-push_hanging_comments.ensures
-    ∙ ap (λ t. t ++ hanging_comments c.args.bare
-    (map spaced_view (slice_range words ends.lead ends.comment)))
-    (c.in_ok-push_words.ensures ∙ ap (λ t. t ++ spaced_text (map spaced_view (take ends.lead words)))
-    c.new-text.ensures.bytes)))
+    let lead : string_bytes c.in_ok-text.text ≡ spaced_text (take ends.lead words) =
+    c.in_ok-text.ensures.ok ∙ text-of _ _ c.split_words.ensures.front in
+    let quotes = text-of c.words_between-2.result.now (slice_range words ends.comment ends.margin)
+    c.words_between-2.ensures in
+    c.in_ok-push_str.ensures.bytes
+    ∙ ap (λ t. t ++ c.words_between-2.result.now) c.in_ok-push_hanging_comments.ensures
+    ∙ (λ i. (lead i ++ hanging_comments c.args.bare (c.words_between.ensures i)) ++ quotes i)

@@ -1,9 +1,9 @@
 use Rattle.textwrap_marked.proofs.hanging.push_hanging_bullets.Given as goal
-use Rattle.textwrap_text.proofs.Common.{◌≡◌, ◌++◌, drop, map, string_bytes}
+use Rattle.textwrap_text.proofs.Common.{◌≡◌, ◌++◌, string_bytes}
 use Rattle.textwrap_marked.specs.Hanging.{hanging_bullets}
-use Rattle.textwrap_marks.specs.Words.{spaced_view}
+use Rattle.textwrap_marks.specs.Words.{spaced_words}
 
 -- with the words that are left, it is the whole
 abbrev pub invariant-loop-word : goal.invariant-loop-word
-invariant-loop-word l = string_bytes l.text ++ hanging_bullets (map spaced_view (drop l.word-index l.words))
-    ≡ string_bytes l.fn.text ++ hanging_bullets (map spaced_view l.words)
+invariant-loop-word l = string_bytes l.output ++ hanging_bullets l.word-iterator
+    ≡ string_bytes l.fn.output ++ hanging_bullets (spaced_words l.text)

@@ -1,13 +1,15 @@
 use Rattle.textwrap_marks.proofs.prefixes.bullets_len.Given as goal
-use Rattle.textwrap_text.proofs.Common.{◌≡◌, ◌+◌, ◌-◌, ◌≤◌, drop, length, map}
+use denote.Shadow.{shadow}
+use denote.Text.{Utf8}
+use Rattle.textwrap_text.proofs.Common.{◌≡◌, ◌+◌, length}
 use Rattle.textwrap_marks.specs.Prefixes.{bullets_len}
-use Rattle.textwrap_marks.specs.Words.{spaced_view}
+use Rattle.textwrap_marks.specs.Words.{spaced_words}
 
 -- with the bullets that are left, they are all
-abbrev pub invariant-loop-len : goal.invariant-loop-len
-invariant-loop-len l = (l.len ≤ length l.words)
-    × (l.len + bullets_len (map spaced_view (drop l.len l.words))
-    ≡ bullets_len (map spaced_view l.words))
+abbrev pub invariant-loop-rest : goal.invariant-loop-rest
+invariant-loop-rest l = shadow (Utf8 l.rest)
+    × (l.len + length (spaced_words l.rest) ≡ length (spaced_words l.text))
+    × (l.len + bullets_len (spaced_words l.rest) ≡ bullets_len (spaced_words l.text))
 
-abbrev pub decreases-loop-len : goal.decreases-loop-len
-decreases-loop-len l = length l.words - l.len
+abbrev pub decreases-loop-rest : goal.decreases-loop-rest
+decreases-loop-rest l = length l.rest

@@ -1,9 +1,9 @@
 use Rattle.textwrap_marks.proofs.prefixes.quotes_len.Given as goal
-use Rattle.textwrap_text.proofs.Common.{◌≡◌, ◌+◌, drop, map}
+use Rattle.textwrap_text.proofs.Common.{◌≡◌, ◌+◌, length}
 use Rattle.textwrap_marks.specs.Prefixes.{quotes_len}
-use Rattle.textwrap_marks.specs.Words.{spaced_view}
+use Rattle.textwrap_marks.specs.Words.{spaced_words}
 
 -- with the marks that are left, they are all
-abbrev pub invariant-loop-i : goal.invariant-loop-i
-invariant-loop-i l = l.i + quotes_len (map spaced_view (drop l.i l.words))
-    ≡ quotes_len (map spaced_view l.words)
+abbrev pub invariant-loop-word : goal.invariant-loop-word
+invariant-loop-word l = (l.len + length l.word-iterator ≡ length (spaced_words l.text))
+    × (l.len + quotes_len l.word-iterator ≡ quotes_len (spaced_words l.text))

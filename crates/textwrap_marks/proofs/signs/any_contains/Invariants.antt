@@ -1,8 +1,8 @@
 use Rattle.textwrap_marks.proofs.signs.any_contains.Given as goal
-use Rattle.textwrap_text.proofs.Common.{◌≡◌, drop, list_any, map}
-use Rattle.textwrap_marks.specs.Words.{contains, spaced_view}
+use Rattle.textwrap_text.proofs.Common.{◌≡◌, list_any}
+use Rattle.textwrap_marks.specs.Words.{contains, spaced_words}
 
 -- none of the words so far passes
 abbrev pub invariant-loop-word : goal.invariant-loop-word
-invariant-loop-word l = list_any (λ w. contains l.part w.word) (map spaced_view (drop l.word-index l.words))
-    ≡ list_any (λ w. contains l.part w.word) (map spaced_view l.words)
+invariant-loop-word l = list_any (λ w. contains l.part w.word) l.word-iterator
+    ≡ list_any (λ w. contains l.part w.word) (spaced_words l.text)

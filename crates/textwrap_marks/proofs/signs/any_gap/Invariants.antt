@@ -1,9 +1,9 @@
 use Rattle.textwrap_marks.proofs.signs.any_gap.Given as goal
-use Rattle.textwrap_text.proofs.Common.{◌≡◌, drop, list_any, map}
+use Rattle.textwrap_text.proofs.Common.{◌≡◌, list_any}
 use Rattle.textwrap_marks.specs.Signs.{is_gap}
-use Rattle.textwrap_marks.specs.Words.{spaced_view}
+use Rattle.textwrap_marks.specs.Words.{spaced_words}
 
 -- none of the words so far passes
 abbrev pub invariant-loop-word : goal.invariant-loop-word
-invariant-loop-word l = list_any (λ w. is_gap l.justify w) (map spaced_view (drop l.word-index l.words))
-    ≡ list_any (λ w. is_gap l.justify w) (map spaced_view l.words)
+invariant-loop-word l = list_any (λ w. is_gap l.justify w) l.word-iterator
+    ≡ list_any (λ w. is_gap l.justify w) (spaced_words l.text)

@@ -1,12 +1,12 @@
 use Rattle.textwrap_marked.proofs.pieces.JoinedWords.push_words.Given as goal
-use Rattle.textwrap_text.proofs.Common.{◌≡◌, ◌++◌, drop, List, map, ℕ}
-use Rattle.textwrap_marks.specs.Words.{spaced_view}
+use Rattle.textwrap_text.proofs.Common.{◌≡◌, ◌++◌, List, map, ℕ}
+use Rattle.textwrap_marks.specs.Words.{spaced_words}
 use Rattle.textwrap_marked.specs.Pieces.{joined_view, with_words}
 
 -- with the words that are left, and any behind them, the whole stays the same
 abbrev pub invariant-loop-word : goal.invariant-loop-word
 invariant-loop-word l = (words : List (List ℕ))
     → with_words l.options l.starred (joined_view l.self)
-    (map (λ w. w.word) (map spaced_view (drop l.word-index l.line)) ++ words)
+    (map (λ w. w.word) l.word-iterator ++ words)
     ≡ with_words l.options l.starred (joined_view l.fn.self)
-    (map (λ w. w.word) (map spaced_view l.line) ++ words)
+    (map (λ w. w.word) (spaced_words l.line) ++ words)

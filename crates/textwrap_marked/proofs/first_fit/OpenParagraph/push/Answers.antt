@@ -1,0 +1,28 @@
+use Rattle.textwrap_marked.proofs.first_fit.OpenParagraph.push.Goals as goal
+use Rattle.textwrap_marked.proofs.first_fit.OpenParagraph.push.Goals.{then-is_cut_behind+in_ok-take, else-is_cut_behind}
+use Rattle.textwrap_text.proofs.Common.{◌∙◌, ◌++◌, ◌∷◌, [], ap, append_assoc, sym, string_bytes}
+use Rattle.std.specs.Option.{option_map}
+use Rattle.textwrap_text.specs.Blanks.{blank}
+use Rattle.textwrap_marked.proofs.FirstFitLines.{read-cut, read-kept}
+use Rattle.textwrap_marked.specs.FirstFit.{line_so_far}
+
+pub returns : goal.returns
+returns c = λ words.
+    let form = c.args.form.now in
+    let word = c.args.word.now in
+    let line = line_so_far c.args.self.now.line in
+    let last = option_map (λ w. w.now) c.args.self.now.last in
+    let piece = string_bytes c.args.self.now.piece in
+    let more = c.in_ok-push_str-2.ensures.bytes
+    ∙ ap (λ t. t ++ blank ∷ []) c.in_ok-push_str.ensures.bytes in
+    elim c.if-is_cut_behind.branch [
+      | then-is_cut_behind+in_ok-take w ↦ rw (w.self-is, w.output-is) (
+          read-cut form line _ last piece w.deref.result.now _ word _ _
+          (sym c.is_cut_behind.ensures ∙ w.if-is_cut_behind.true) w.deref.ensures
+          (more ∙ ap (λ t. (t ++ word) ++ blank ∷ []) (ap (λ p. string_bytes p.piece) w.self-is ∙ w.clear.ensures.bytes))
+          w.in_ok-take.ensures words)
+      | else-is_cut_behind w ↦ rw (w.self-is, w.output-is) (
+          read-kept form line last piece _ word _ (sym c.is_cut_behind.ensures ∙ w.if-is_cut_behind.false)
+          (more ∙ ap (λ p. (string_bytes p.piece ++ word) ++ blank ∷ []) w.self-is
+          ∙ append_assoc piece word (blank ∷ [])) words)
+    ]

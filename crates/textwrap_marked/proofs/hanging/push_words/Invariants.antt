@@ -1,8 +1,0 @@
-use Rattle.textwrap_marked.proofs.hanging.push_words.Given as goal
-use Rattle.textwrap_text.proofs.Common.{◌≡◌, ◌++◌, drop, map, string_bytes}
-use Rattle.textwrap_marks.specs.Words.{spaced_text, spaced_view}
-
--- with the words that are left, it is the whole
-abbrev pub invariant-loop-word : goal.invariant-loop-word
-invariant-loop-word l = string_bytes l.text ++ spaced_text (map spaced_view (drop l.word-index l.words))
-    ≡ string_bytes l.fn.text ++ spaced_text (map spaced_view l.words)

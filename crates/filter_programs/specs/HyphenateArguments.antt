@@ -32,7 +32,8 @@ dictionary_rule =
 
 abbrev pub hyphenate_app : App
 hyphenate_app = tool_app (codes "hyphenate") (columns_rule ∷ count_rule (codes "left")
-    ∷ count_rule (codes "right") ∷ flag_rule (codes "soft-hyphens") ∷ dictionary_rule ∷ file_rule ∷ [])
+    ∷ count_rule (codes "right") ∷ flag_rule (codes "soft-hyphens")
+    ∷ record (flag_rule (codes "quiet")) { short = Some 113 } ∷ dictionary_rule ∷ file_rule ∷ [])
 
 -- ---- what it shows of itself
 
@@ -51,6 +52,7 @@ help_lines =
     ∷ codes "      --left <N>      Keep N letters before a hyphen, not as many as the dictionary says"
     ∷ codes "      --right <N>     Keep N letters behind a hyphen"
     ∷ codes "      --soft-hyphens  Set hyphens at the soft hyphens alone of a word that has some"
+    ∷ codes "  -q, --quiet         Do not say how many patterns would change letters"
     ∷ codes "  -h, --help          Print help"
     ∷ codes "  -V, --version       Print version"
     ∷ codes ""
@@ -86,5 +88,6 @@ pub record IsRequest (rows : List Row) (request : Request) : Type 0 where
   pub left : number_if_given (codes "left") rows ≡ Some request.left
   pub right : number_if_given (codes "right") rows ≡ Some request.right
   pub soft_hyphens : request.soft_hyphens ≡ flag_in (codes "soft-hyphens") rows
+  pub quiet : request.quiet ≡ flag_in (codes "quiet") rows
   pub names : map (λ name. name.now) request.inputs.names.now ≡ texts_in (codes "FILE") rows
   pub mode : request.inputs.mode ≡ Print

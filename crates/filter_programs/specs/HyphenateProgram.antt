@@ -1,10 +1,11 @@
 -- What the program leaves behind, and how it ends.
-use Rattle.std.specs.Prelude.{◌≡◌, ◌⊎◌, ℕ, List, [], ◌∷◌, codes, decimal, false, Option, None, Err}
-use Rattle.std.specs.Prelude.{IfSome}
+use Rattle.std.specs.Prelude.{◌≡◌, ◌⊎◌, ◌==◌, ◌&&◌, ◌||◌, ℕ, Bool, List, [], ◌∷◌, codes, decimal, false}
+use Rattle.std.specs.Prelude.{Option, None, Err, IfSome}
 use Rattle.clap.specs.Words.{Row}
 use Rattle.text_filters.specs.Files.{bytes_at}
 use Rattle.text_filters.specs.Messages.{AboutText, joined_texts, message_line, value_texts}
-use Rattle.text_filters.specs.Program.{IsFault, OnlySays, ReportsInput, Says, Serves, World}
+use Rattle.text_filters.specs.Program.{IsFault, OnlySays, ReportsInput, Says, SaysUnless, Serves}
+use Rattle.text_filters.specs.Program.{World}
 use Rattle.text_filters.specs.Streams.{StreamFaults}
 use Rattle.text_filters.specs.Tool.{ExecutesTool, ToolText}
 use Rattle.text_filters.specs.declared.faults.Fault.TheVariants.{Memory}
@@ -48,15 +49,27 @@ Explains messages name (Unread fault) old new ending =
 Explains messages name (Wrong line fault) old new ending =
     SaysWrong messages name line None old new ending
 
+-- at how many patterns letters would change, if there are such and nobody asks for quiet
+abbrev pub SaysChanged : (Reason → Type 0) → Request → ℕ → Option (List ℕ) → Option (List ℕ) → Bool
+    → Type 0
+SaysChanged messages request changed =
+    SaysUnless messages (request.quiet || (changed == 0))
+    (message_line hyphenate_about request.dictionary.now
+    (codes "patterns that would change letters, and set no hyphen there: " ∷ decimal changed ∷ []))
+
 -- ---- the whole run
 
--- the inputs are hyphenated by the dictionary, or it is said why there is none, and nothing is read or
--- printed
+-- it is said how many patterns of the dictionary would change letters, and the inputs are hyphenated by
+-- it; or it is said why there is none, and nothing is read or printed
 abbrev pub Hyphenates : StreamFaults → Request → World → World → Ending → Type 0
 Hyphenates faults request old new ending =
     ((h : Hyphenation) × ReadsSaid (bytes_at old.files request.dictionary.now) h
+    × (mid : World) × (said : Bool) × (rest : Ending)
+    × OnlySays old mid
+    × SaysChanged faults.messages request h.changed old.messages mid.messages said
     × Serves faults hyphenate_about
-    (hyphenating_by request.width (as_asked request h)) request.inputs old new ending)
+    (hyphenating_by request.width (as_asked request h)) request.inputs mid new rest
+    × (ending ≡ record rest { said = said && rest.said }))
     ⊎ ((failure : Failure) × ReadsNone (bytes_at old.files request.dictionary.now) failure
     × OnlySays old new
     × Explains faults.messages request.dictionary.now failure old.messages new.messages ending)

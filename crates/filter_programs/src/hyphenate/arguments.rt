@@ -26,6 +26,7 @@ Options:
       --left <N>      Keep N letters before a hyphen, not as many as the dictionary says
       --right <N>     Keep N letters behind a hyphen
       --soft-hyphens  Set hyphens at the soft hyphens alone of a word that has some
+  -q, --quiet         Do not say how many patterns would change letters
   -h, --help          Print help
   -V, --version       Print version
 
@@ -59,6 +60,8 @@ pub struct Request<'a> {
     pub right: Option<usize>,
     /// Whether soft hyphens are the only points of a word in which a letter stands behind one.
     pub soft_hyphens: bool,
+    /// Whether it is not said how many patterns of the dictionary would change letters.
+    pub quiet: bool,
     /// The inputs.
     pub inputs: Inputs<'a>,
 }
@@ -88,6 +91,12 @@ pub(crate) fn command<'a>(alloc: Global) -> Result<Command<'a>, AllocError>
             "soft-hyphens",
             "Set hyphens at the soft hyphens alone of a word that has some",
         ))?
+        .arg(flag(
+            alloc,
+            "quiet",
+            "Do not say how many patterns would change letters",
+        )
+        .short('q'))?
         .arg(dictionary_argument(alloc))?
         .arg(file_argument(alloc))
 }
@@ -148,6 +157,7 @@ pub fn request_in<'m, 'a>(matches: &'m ArgMatches<'a>) -> Result<Request<'m>, Co
         left,
         right,
         soft_hyphens: is_set(matches, "soft-hyphens"),
+        quiet: is_set(matches, "quiet"),
         inputs,
     })
 }

@@ -1,7 +1,8 @@
 //! The program, over its arguments, its files, a reader and two writers.
 ghost use Rattle.std.specs.Prelude.{refl};
 ghost use Rattle.text_filters.specs.Streams.{faults_of};
-ghost use Rattle.filter_programs.specs.HyphenateProgram.{Explains, Hyphenates, SaysWrong, hyphenate_tool};
+ghost use Rattle.filter_programs.specs.HyphenateProgram.{Explains, Hyphenates, SaysChanged, SaysWrong};
+ghost use Rattle.filter_programs.specs.HyphenateProgram.{hyphenate_tool};
 
 use crate::hyphenate::arguments::{Count, HELP, Request, VERSION, command, request_in};
 use crate::hyphenate::dictionary::{Failure, read_dictionary, with_minima};
@@ -73,7 +74,8 @@ impl Tool for Hyphenate {
     }
 }
 
-/// Reads the dictionary, and hyphenates the inputs by it.
+/// Reads the dictionary, says how many of its patterns would change letters, and hyphenates the inputs by
+/// it.
 fn serve_request<F: Files, R: ReadWhole, W: WriteWhole, M: WriteWhole>(
     alloc: Global,
     request: &Request<'_>,
@@ -102,16 +104,38 @@ fn serve_request<F: Files, R: ReadWhole, W: WriteWhole, M: WriteWhole>(
         Err(failure) => return explain(alloc, request.dictionary, failure, messages),
     };
     let patterns = with_minima(patterns, request.left, request.right);
+    let patterns = patterns.table().soft_hyphens(request.soft_hyphens);
+    let said = say_changed(request, patterns.changed(), messages);
     let filter = Hyphenating {
         width: request.width,
-        patterns: patterns.table().soft_hyphens(request.soft_hyphens),
+        patterns,
     };
     let run = Run {
         about: HYPHENATE,
         filter: &filter,
         inputs: request.inputs,
     };
-    serve(alloc, &run, files, reader, output, messages)
+    let ending = serve(alloc, &run, files, reader, output, messages);
+    Ending {
+        status: ending.status,
+        said: said && ending.said,
+        replaced: ending.replaced,
+    }
+}
+
+/// Says at how many patterns of the dictionary letters would change, if there are such and nobody asks for
+/// quiet. The result says whether that was written whole.
+fn say_changed<M: WriteWhole>(request: &Request<'_>, changed: usize, messages: &mut M) -> bool
+    ensures { SaysChanged M.faults request.now changed (M.contents messages.old) (M.contents messages.new)
+        result }
+{
+    if request.quiet || changed == 0 {
+        return true;
+    }
+    let mut buffer = Buffer::new();
+    let number = buffer.format(changed);
+    let said = "patterns that would change letters, and set no hyphen there: ";
+    write_message(messages, &HYPHENATE, request.dictionary, &[said, number]).is_ok()
 }
 
 /// Says why there is no dictionary of this name.

@@ -179,6 +179,32 @@ fn a_dictionary_is_read_in_its_charset(rt: HostRuntime) {
     assert_run(&rt, "a charset", Program::Hyphenate, start, wanted);
 }
 
+/// What a row shows, the options, a dictionary, and what is said of it.
+#[rattlefmt::skip]
+const CHANGES: &[(&str, &[&str], &[u8], &str)] = &[
+    ("one pattern would change letters", &["words.dic"], b"c1k/k=k\nu1c\n",
+        "hyphenate: words.dic: patterns that would change letters, and set no hyphen there: 1\n"),
+    ("two would", &["words.dic", "--left=2"], b"c1k/k=k\nu1c\ns1s/ss=s,1,2\n",
+        "hyphenate: words.dic: patterns that would change letters, and set no hyphen there: 2\n"),
+    ("none would", &["words.dic"], b"c2k\nu1c\n", ""),
+    ("it is not to be said", &["-q", "words.dic"], b"c1k/k=k\nu1c\n", ""),
+    ("nor is it by the long name", &["words.dic", "--quiet"], b"c1k/k=k\nu1c\n", ""),
+];
+
+#[test]
+fn changes_of_letters_are_told(rt: HostRuntime) {
+    for &(rule, words, dictionary, said) in CHANGES {
+        let start = Start {
+            words,
+            input: b"zucker\n",
+            files: &[("words.dic", dictionary, FileFault::Nothing)],
+            faults: SOUND,
+        };
+        let wanted = ("zu-cker\n", said, 0);
+        assert_run(&rt, rule, Program::Hyphenate, start, wanted);
+    }
+}
+
 #[test]
 fn failures_are_explained(rt: HostRuntime) {
     for &(rule, bytes, fault, said) in FAILURES {

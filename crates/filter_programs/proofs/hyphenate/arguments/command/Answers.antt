@@ -1,6 +1,6 @@
-use Rattle.std.proofs.Common.{◌∙◌, ap₂}
+use Rattle.std.proofs.Common.{◌∙◌, Some, ap, ap₂}
 use Rattle.std.proofs.lemmas.Result.{IfOk-weaker}
-use Rattle.clap.specs.Words.{with_rule}
+use Rattle.clap.specs.Words.{Rule, rule_of, with_rule}
 use Rattle.filter_programs.proofs.hyphenate.arguments.command.Goals as goal
 
 pub returns : goal.returns
@@ -13,7 +13,10 @@ returns c =
     ∙ ap₂ with_rule app_2 c.count_argument-2.ensures.rule in
     let app_4 = c.in_ok-arg-4.ensures.shape c.flag.ensures.local
     ∙ ap₂ with_rule app_3 c.flag.ensures.rule in
-    let app_5 = c.in_ok-arg-5.ensures.shape c.dictionary_argument.ensures.local
-    ∙ ap₂ with_rule app_4 c.dictionary_argument.ensures.rule in
-    IfOk-weaker c.arg-6.result _ _ (λ command adds. adds.shape c.file_argument.ensures.local
-    ∙ ap₂ with_rule app_5 c.file_argument.ensures.rule) c.arg-6.ensures
+    let app_5 = c.in_ok-arg-5.ensures.shape (ap (λ argument. argument.global) c.short.ensures ∙ c.flag-2.ensures.local)
+    ∙ ap₂ with_rule app_4 (ap rule_of c.short.ensures
+    ∙ ap (λ (rule : Rule). record rule { short = Some 113 }) c.flag-2.ensures.rule) in
+    let app_6 = c.in_ok-arg-6.ensures.shape c.dictionary_argument.ensures.local
+    ∙ ap₂ with_rule app_5 c.dictionary_argument.ensures.rule in
+    IfOk-weaker c.arg-7.result _ _ (λ command adds. adds.shape c.file_argument.ensures.local
+    ∙ ap₂ with_rule app_6 c.file_argument.ensures.rule) c.arg-7.ensures

@@ -1,39 +1,48 @@
-use Rattle.std.proofs.Common.{List, ap, inl, subst, ◌∙◌}
-use Rattle.text_filters.specs.Files.{Folder}
+use Rattle.std.proofs.Common.{Bool, ap, inl, subst, ◌∙◌}
+use Rattle.std.proofs.KnownBytes.{Keeps-refl}
 use Rattle.text_filters.specs.Program.{Serves, World}
 use Rattle.text_filters.specs.Streams.{faults_of}
 use Rattle.textwrap_hyphens.specs.Hyphenation.{Hyphenation}
 use Rattle.textwrap_hyphens.specs.Table.{patterns_view}
-use Rattle.filter_programs.specs.HyphenateDictionary.{as_asked}
-use Rattle.filter_programs.specs.HyphenateProgram.{hyphenate_about}
+use Rattle.filter_programs.specs.HyphenateProgram.{SaysChanged, hyphenate_about}
 use Rattle.filter_programs.specs.HyphenateTexts.{hyphenating_by}
 use Rattle.filter_programs.proofs.hyphenate.program.serve_request.Goals as goal
+use Rattle.filter_programs.proofs.hyphenate.program.serve_request.Goals.{else-said, then-said}
 
 pub returns : goal.returns
 returns g c =
     let request = c.args.request.now in
-    let world : List Folder → World = λ files. record {
+    let old = g.M.WriteWhole.contents c.args.messages.now in
+    let told = g.M.WriteWhole.contents c.say_changed-said.new.messages in
+    let mid : World = record {
       unread = g.R.ReadWhole.remaining c.args.reader.now;
-      files = files;
+      files = g.F.Files.past c.read_dictionary.new.files;
       output = g.W.WriteWhole.contents c.args.output.now;
-      messages = g.M.WriteWhole.contents c.args.messages.now;
+      messages = told;
     } in
     let new : World = record {
-      unread = g.R.ReadWhole.remaining c.serve.new.reader;
-      files = g.F.Files.past c.serve.new.files;
-      output = g.W.WriteWhole.contents c.serve.new.output;
-      messages = g.M.WriteWhole.contents c.serve.new.messages;
+      unread = g.R.ReadWhole.remaining c.serve-ending.new.reader;
+      files = g.F.Files.past c.serve-ending.new.files;
+      output = g.W.WriteWhole.contents c.serve-ending.new.output;
+      messages = g.M.WriteWhole.contents c.serve-ending.new.messages;
     } in
-    let said = patterns_view c.in-Ok.patterns in
     let faults = faults_of g.R.ReadWhole.faults g.W.WriteWhole.faults g.M.WriteWhole.faults in
+    let is = c.soft_hyphens-patterns.ensures
+    ∙ ap (λ (h : Hyphenation). record h { soft_hyphens = request.soft_hyphens })
+    (c.table.ensures ∙ c.with_minima-patterns.ensures) in
     inl (
-      said,
+      patterns_view c.in-Ok.patterns,
       c.in-Ok.ensures.read,
-      subst (λ files. Serves faults hyphenate_about
-          (hyphenating_by request.width (as_asked request said)) request.inputs
-          (world files) new c.serve.result) c.in-Ok.ensures.kept
-          (subst (λ (h : Hyphenation). Serves faults hyphenate_about (hyphenating_by request.width h)
-          request.inputs (world (g.F.Files.past c.read_dictionary.new.files)) new c.serve.result)
-          (c.soft_hyphens.ensures ∙ ap (λ (h : Hyphenation). record h { soft_hyphens = request.soft_hyphens })
-          (c.table.ensures ∙ c.with_minima-patterns.ensures)) c.serve.ensures),
+      mid,
+      c.say_changed-said.result,
+      c.serve-ending.result,
+      (Keeps-refl mid.unread, c.in-Ok.ensures.kept, Keeps-refl mid.output),
+      subst (λ changed. SaysChanged faults.messages request changed old told c.say_changed-said.result)
+          (c.changed.ensures ∙ ap (λ (h : Hyphenation). h.changed) is) c.say_changed-said.ensures,
+      subst (λ (h : Hyphenation). Serves faults hyphenate_about (hyphenating_by request.width h)
+          request.inputs mid new c.serve-ending.result) is c.serve-ending.ensures,
+      ap (λ (said : Bool). record c.serve-ending.result { said = said }) (elim c.if-said.branch [
+        | then-said w ↦ rw w.if-said.true w.result-is
+        | else-said w ↦ rw w.if-said.false (w.result-is ∙ w.if-said.false)
+      ]),
     )

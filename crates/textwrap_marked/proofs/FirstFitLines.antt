@@ -4,11 +4,11 @@ use Rattle.textwrap_marked.proofs.LineNames.{◌∷◌, ◌++◌, ap, append-nil
 use Rattle.textwrap_marked.proofs.LineNames.{flat_map, length, lt-ltb, map, nat_lt, None, Option, refl}
 use Rattle.textwrap_marked.proofs.LineNames.{sizes_of, Some, sym, word_of, WordText, ◌∙◌}
 use Rattle.std.proofs.Common.{ap₂}
-use Rattle.std.specs.Prelude.{is_some}
+use Rattle.std.specs.Prelude.{is_some, not}
 use Rattle.std.specs.Option.{option_map}
 use Rattle.textwrap_text.proofs.Common.{length_push}
 use Rattle.textwrap_text.specs.Blanks.{final_blanks, without_final_blanks}
-use Rattle.textwrap_base.proofs.Common.{closed_width, IsGreedy, open_width}
+use Rattle.textwrap_base.proofs.Common.{IsGreedy, open_width}
 use Rattle.textwrap_base.proofs.Division.Greedy.{closed_width-push, open_width-append}
 use Rattle.textwrap_base.proofs.Division.Grown.{grown, grown-begins, grown-greedy, is_full}
 use Rattle.textwrap_words.specs.Words.{tiled}
@@ -21,7 +21,8 @@ use Rattle.textwrap_marked.proofs.PieceLemmas.{onto_front-nil, onto_front-twice}
 use Rattle.textwrap_marked.proofs.PrintedLines.{texts_more}
 use Rattle.textwrap_marked.specs.FirstFit.{columns_past, fresh_line, is_past, left_of_pieces, LineSoFar}
 use Rattle.textwrap_marked.specs.FirstFit.{pieces_behind, shown_line, with_piece, word_width}
-use Rattle.textwrap_marked.specs.Pieces.{is_cut, is_cut_behind, onto_front, pieces, with_blank}
+use Rattle.textwrap_marked.specs.Pieces.{is_cut, is_cut_behind, is_kept_together, onto_front}
+use Rattle.textwrap_marked.specs.Pieces.{pieces, with_blank}
 use Rattle.textwrap_marked.specs.Reflow.{line_text, line_texts, printed}
 use Rattle.textwrap_marked.specs.declared.first_fit.ParagraphForm.{ParagraphForm}
 use Rattle.textwrap_marks.specs.declared.options.ReflowOptions.{ReflowOptions}
@@ -45,22 +46,15 @@ columns-sum (Some columns) blanks width ps (some, is) = omega (arith, is)
 
 past-full : (line : LineSoFar) (ps : List WordText) (piece : List ℕ) → Holds line ps
     → is_past line (word_width piece) ≡ is_full sizes_of line.room ps (word_of piece)
-past-full line ps piece holds =
-    cut line.columns holds.columns
+past-full line ps piece holds = cut line.columns holds.columns
   where
-    closed : (columns : Option ℕ) → HasColumns columns (length line.blanks) ps
-        → columns_past columns (length line.blanks) (word_width piece)
-        ≡ closed_width sizes_of (ps ++ word_of piece ∷ [])
-    closed columns has =
-        let sum = columns-sum columns (length line.blanks) (word_width piece) ps has in
-        omega (arith, sum, closed_width-push sizes_of ps (word_of piece))
-
     cut : (columns : Option ℕ) → HasColumns columns (length line.blanks) ps
         → is_past (record line { columns = columns }) (word_width piece)
         ≡ is_full sizes_of line.room ps (word_of piece)
     cut None none = rw none refl
-    cut (Some columns) has =
-        rw (lt-ltb 0 (length ps) has.0) (ap (nat_lt line.room) (closed (Some columns) has))
+    cut (Some columns) (some, is) =
+        let closed = closed_width-push sizes_of ps (word_of piece) in
+        rw (lt-ltb 0 (length ps) some) (ap (nat_lt line.room) (omega (arith, is, closed)))
 
 -- one piece more does
 holds-more : (line : LineSoFar) (ps : List WordText) (piece : List ℕ) → Holds line ps
@@ -170,41 +164,29 @@ module _ (form : ParagraphForm) where
 -- ---- the words of the pieces
 
 module _ (options : ReflowOptions) (starred : Bool) where
-  -- the piece ends before the next word
-  pub word-cut : (last : Option (List ℕ)) (piece word : List ℕ) (words : List (List ℕ))
-      → is_cut_behind options starred last word ≡ true
-      → pieces_behind options starred last piece (word ∷ words)
-      ≡ piece ∷ pieces_behind options starred (Some word) (with_blank word) words
-  word-cut None piece word words is = cc
-  word-cut (Some last) piece word words is =
-      ap (λ b. cond b (piece ∷ pieces options starred (word ∷ words))
-      (onto_front piece (pieces options starred (word ∷ words)))) is
-
-  -- or goes on
-  pub word-kept : (last : Option (List ℕ)) (piece word : List ℕ) (words : List (List ℕ))
-      → is_cut_behind options starred last word ≡ false
-      → pieces_behind options starred last piece (word ∷ words)
+  -- a piece goes on with the next word
+  word-kept : (piece word : List ℕ) (words : List (List ℕ))
+      → onto_front piece (pieces options starred (word ∷ words))
       ≡ pieces_behind options starred (Some word) (piece ++ with_blank word) words
-  word-kept last piece word words is = begins last is ∙ kept
-    where
-      begins : (last : Option (List ℕ)) → is_cut_behind options starred last word ≡ false
-          → pieces_behind options starred last piece (word ∷ words)
-          ≡ onto_front piece (pieces options starred (word ∷ words))
-      begins None is = refl
-      begins (Some last) is =
-          ap (λ b. cond b (piece ∷ pieces options starred (word ∷ words))
-          (onto_front piece (pieces options starred (word ∷ words)))) is
+  word-kept piece word words =
+      let later = pieces options starred words in
+      elim (is_cut options starred word words) as (λ b.
+      onto_front piece (cond b (with_blank word ∷ later) (onto_front (with_blank word) later))
+      ≡ cond b ((piece ++ with_blank word) ∷ later) (onto_front (piece ++ with_blank word) later)) [
+        | true ↦ refl
+        | false ↦ onto_front-twice piece (with_blank word) later
+      ]
 
-      kept : onto_front piece (pieces options starred (word ∷ words))
-          ≡ pieces_behind options starred (Some word) (piece ++ with_blank word) words
-      kept =
-          let later = pieces options starred words in
-          elim (is_cut options starred word words) as (λ b.
-          onto_front piece (cond b (with_blank word ∷ later) (onto_front (with_blank word) later))
-          ≡ cond b ((piece ++ with_blank word) ∷ later) (onto_front (piece ++ with_blank word) later)) [
-            | true ↦ refl
-            | false ↦ onto_front-twice piece (with_blank word) later
-          ]
+  -- or ends before it
+  pub word-next : (last : Option (List ℕ)) (piece word : List ℕ) (words : List (List ℕ))
+      → pieces_behind options starred last piece (word ∷ words)
+      ≡ cond (is_cut_behind options starred last word)
+      (piece ∷ pieces_behind options starred (Some word) (with_blank word) words)
+      (pieces_behind options starred (Some word) (piece ++ with_blank word) words)
+  word-next None piece word words = word-kept piece word words
+  word-next (Some last) piece word words =
+      ap (cond (not (is_kept_together options starred last word))
+      (piece ∷ pieces options starred (word ∷ words))) (word-kept piece word words)
 
   -- before the first word, they are the pieces of all words
   pub words-all : (words : List (List ℕ))
@@ -226,6 +208,18 @@ module _ (form : ParagraphForm) where
   left_behind line last piece words =
       left_of_pieces form line (pieces_behind form.options.now form.starred last piece words)
 
+  word-left : (last : Option (List ℕ)) (piece word : List ℕ) (words : List (List ℕ)) (line : LineSoFar)
+      (before : List ℕ) (is : Bool) → is_cut_behind form.options.now form.starred last word ≡ is
+      → before ++ left_of_pieces form line (cond is
+      (piece ∷ pieces_behind form.options.now form.starred (Some word) (with_blank word) words)
+      (pieces_behind form.options.now form.starred (Some word) (piece ++ with_blank word) words))
+      ≡ before ++ left_behind line last piece (word ∷ words)
+  word-left last piece word words line before is told =
+      ap (λ ps. before ++ left_of_pieces form line ps) (ap (λ b. cond b
+      (piece ∷ pieces_behind form.options.now form.starred (Some word) (with_blank word) words)
+      (pieces_behind form.options.now form.starred (Some word) (piece ++ with_blank word) words)) (sym told)
+      ∙ sym (word-next form.options.now form.starred last piece word words))
+
   -- the piece ends before the next word
   pub read-cut : (line next : LineSoFar) (last : Option (List ℕ)) (piece taken done word : List ℕ)
       (before after : List ℕ) → is_cut_behind form.options.now form.starred last word ≡ true
@@ -238,8 +232,7 @@ module _ (form : ParagraphForm) where
       takes (pieces_behind form.options.now form.starred (Some word) done words)
       ∙ ap₂ (λ t d. before ++ left_of_pieces form line
       (t ∷ pieces_behind form.options.now form.starred (Some word) d words)) same reads
-      ∙ ap (λ ps. before ++ left_of_pieces form line ps)
-      (sym (word-cut form.options.now form.starred last piece word words is))
+      ∙ word-left last piece word words line before true is
 
   -- or goes on
   pub read-kept : (line : LineSoFar) (last : Option (List ℕ)) (piece done word before : List ℕ)
@@ -248,8 +241,7 @@ module _ (form : ParagraphForm) where
       ≡ before ++ left_behind line last piece (word ∷ words)
   read-kept line last piece done word before is reads words =
       ap (λ d. before ++ left_behind line (Some word) d words) reads
-      ∙ ap (λ ps. before ++ left_of_pieces form line ps)
-      (sym (word-kept form.options.now form.starred last piece word words is))
+      ∙ word-left last piece word words line before false is
 
   -- a paragraph without pieces, to which these words come
   pub paragraph-lines : (line : LineSoFar) (piece old prefix before new : List ℕ) (words : List (List ℕ))

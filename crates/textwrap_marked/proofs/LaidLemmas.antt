@@ -1,11 +1,15 @@
 -- Blocks that are laid out, one after another.
 use Rattle.textwrap_text.proofs.Common.{◌≡◌, ℕ, ◌<◌, ◌++◌, ◌||◌, Bool, List, [], ◌∷◌, map, ap}
-use Rattle.textwrap_text.proofs.Common.{arith, drop, drop_more, get_or, length, refl, subst, sym, ◌∙◌, ◌≤◌}
+use Rattle.textwrap_words.proofs.Common.{Algorithm, IsDividedBy, sizes_of, word_of, WordText}
+use Rattle.textwrap_text.proofs.Common.{append_assoc, arith, drop, drop_more, get_or, length, refl, subst, sym, ◌∙◌, ◌≤◌}
 use Rattle.textwrap_marked.proofs.BlockLemmas.{blocks-first}
 use Rattle.textwrap_marked.specs.Blocks.{behind_block, blocks, first_block, is_beside}
 use Rattle.textwrap_marked.specs.Blocks.{stays}
 use Rattle.textwrap_marked.specs.Lines.{LineText, marked_line_view}
-use Rattle.textwrap_marked.specs.Reflow.{AreOfBlocks, IsOfBlock, IsOfLines}
+use Rattle.textwrap_marked.specs.Pieces.{pieces, words_of_lines}
+use Rattle.textwrap_marked.specs.Reflow.{AreFilled, AreOfBlocks, dividing_algorithm, filled_end}
+use Rattle.textwrap_marked.specs.Reflow.{first_room, IsOfBlock, IsOfLines, later_room, printed}
+use Rattle.textwrap_marked.specs.Reflow.{shown_lines}
 use Rattle.textwrap_marked.specs.declared.line.MarkedLine.{MarkedLine}
 use Rattle.textwrap_marks.specs.declared.options.ReflowOptions.{ReflowOptions}
 
@@ -54,4 +58,27 @@ laid-first options ending beside next line rest block front back part told of la
           (subst (λ n. IsOfBlock options ending (stays (beside || n) line) line block front) told of),
       subst (λ n. AreOfBlocks options ending n later back) told laid,
       refl,
+    )
+
+-- a paragraph is filled whose lines are those of a division, with what stands behind them
+pub divided-filled : (options : ReflowOptions) (ending : List ℕ) (algorithm : Algorithm)
+    (first : LineText) (rest : List LineText) (old begun new : List ℕ)
+    → dividing_algorithm options.algorithm ≡ algorithm → ((division : List (List WordText))
+    × IsDividedBy algorithm sizes_of (first_room options first ∷ later_room options first ∷ [])
+    (map word_of (pieces options first.starred (words_of_lines (first ∷ rest)))) division
+    × (begun ≡ old ++ printed ending first.prefix first.hanging (shown_lines options first division)))
+    → new ≡ begun ++ filled_end ending (first ∷ rest)
+    → (text : List ℕ) × AreFilled options ending (first ∷ rest) text × (new ≡ old ++ text)
+divided-filled options ending algorithm first rest old begun new chosen (division, divided, writes) more =
+    let text = printed ending first.prefix first.hanging (shown_lines options first division) in
+    let end = filled_end ending (first ∷ rest) in (
+      text ++ end,
+      (
+        division,
+        subst (λ a. IsDividedBy a sizes_of (first_room options first ∷ later_room options first ∷ [])
+            (map word_of (pieces options first.starred (words_of_lines (first ∷ rest)))) division)
+            (sym chosen) divided,
+        refl,
+      ),
+      more ∙ ap (λ t. t ++ end) writes ∙ append_assoc old text end,
     )

@@ -1,64 +1,46 @@
 use Rattle.textwrap_marked.proofs.filling.push_at_least_cost.Goals as goal
 use Rattle.textwrap_text.proofs.Common.{◌≡◌, ◌++◌, ◌∷◌, [], Bool, List, ℕ, map, ap, sym, ◌∙◌, subst}
-use Rattle.textwrap_text.proofs.Common.{append_assoc, drop, flat_map, IsUtf8, refl, string_bytes}
+use Rattle.textwrap_text.proofs.Common.{drop, flat_map, IsUtf8, string_bytes}
 use Rattle.textwrap_words.proofs.Common.{Algorithm, IsDividedBy, sizes_of, word_of, WordText}
 use Rattle.textwrap_words.specs.Cuts.{AreCuts, parts_between}
-use Rattle.textwrap_marked.proofs.LaidLemmas.{first-of}
+use Rattle.textwrap_marked.proofs.LaidLemmas.{divided-filled, first-of}
 use Rattle.textwrap_marked.proofs.PieceCuts.{joined-cuts}
 use Rattle.textwrap_marked.proofs.PieceLemmas.{joined-pieces}
 use Rattle.textwrap_marked.specs.Lines.{LineText, marked_line_view}
 use Rattle.textwrap_marked.specs.Pieces.{IsJoined, Joined, joined_view, pieces, with_blank}
 use Rattle.textwrap_marked.specs.Pieces.{words_of_lines}
 use Rattle.textwrap_marked.specs.Reflow.{AreFilled, dividing_algorithm, filled_end, line_texts, printed}
-use Rattle.textwrap_marked.specs.Reflow.{room_behind, shown_lines}
+use Rattle.textwrap_marked.specs.Reflow.{room_behind}
 use Rattle.textwrap_marks.specs.declared.options.ReflowOptions.{ReflowOptions}
 
-module _ (options : ReflowOptions) (ending : List ℕ) (algorithm : Algorithm)
-    (chosen : dividing_algorithm options.algorithm ≡ algorithm) where
-  abbrev Lines : List ℕ → List ℕ → List WordText → List ℕ → List ℕ → Type 0
-  Lines prefix hanging words old new =
-      (division : List (List WordText))
-      × IsDividedBy algorithm sizes_of
-      (room_behind options prefix ∷ room_behind options hanging ∷ []) words division
-      × (new ≡ old ++ printed ending prefix hanging (line_texts options.justify
-      (room_behind options prefix) (room_behind options hanging) division))
-
-  -- the lines of the joined words are written, and what stands behind them
-  joined-filled : (first : LineText) (rest : List LineText) (joined : Joined)
-      (words prefix hanging end old begun new : List ℕ) → words ≡ joined.text
-      → IsJoined options first.starred (words_of_lines (first ∷ rest)) joined
-      → prefix ≡ first.prefix → hanging ≡ first.hanging → end ≡ filled_end ending (first ∷ rest)
-      → Lines prefix hanging (map word_of (parts_between joined.cuts words)) old begun
-      → new ≡ begun ++ end
-      → (text : List ℕ) × AreFilled options ending (first ∷ rest) text × (new ≡ old ++ text)
-  joined-filled first rest joined words prefix hanging end old begun new w are p h e
-      (division, divided, writes) more =
-      let lines = first ∷ rest in
-      let ends = filled_end ending lines in
-      let text = printed ending first.prefix first.hanging (shown_lines options first division) in
-      let parts : map word_of (parts_between joined.cuts words)
-      ≡ map word_of (pieces options first.starred (words_of_lines lines)) =
-      (λ i. map word_of (parts_between (are.cuts i) ((w ∙ are.text) i))) ∙ ap (map word_of) (joined-pieces options first.starred (words_of_lines lines)) in
-      let same : printed ending prefix hanging (line_texts options.justify (room_behind options prefix)
-      (room_behind options hanging) division) ≡ text =
-      λ i. printed ending (p i) (h i)
-      (line_texts options.justify (room_behind options (p i)) (room_behind options (h i)) division) in (
-        text ++ ends,
-        (
-          division,
-          subst (λ a. IsDividedBy a sizes_of
-              (room_behind options first.prefix ∷ room_behind options first.hanging ∷ [])
-              (map word_of (pieces options first.starred (words_of_lines lines))) division) (sym chosen)
-              (subst (λ (ws : List ℕ). IsDividedBy algorithm sizes_of ws
-              (map word_of (pieces options first.starred (words_of_lines lines))) division)
-              (λ i. room_behind options (p i) ∷ room_behind options (h i) ∷ [])
-              (subst (λ ps. IsDividedBy algorithm sizes_of
-              (room_behind options prefix ∷ room_behind options hanging ∷ []) ps division) parts divided)),
-          refl,
-        ),
-        more ∙ ap (λ t. t ++ end) (writes ∙ ap (λ t. old ++ t) same)
-            ∙ ap (λ t. (old ++ text) ++ t) e ∙ append_assoc old text ends,
-      )
+-- the lines of the joined words are written, and what stands behind them
+joined-filled : (options : ReflowOptions) (ending : List ℕ) (algorithm : Algorithm)
+    (first : LineText) (rest : List LineText) (joined : Joined) (words prefix hanging end old begun new : List ℕ)
+    → dividing_algorithm options.algorithm ≡ algorithm → words ≡ joined.text
+    → IsJoined options first.starred (words_of_lines (first ∷ rest)) joined
+    → prefix ≡ first.prefix → hanging ≡ first.hanging → end ≡ filled_end ending (first ∷ rest)
+    → ((division : List (List WordText)) × IsDividedBy algorithm sizes_of
+    (room_behind options prefix ∷ room_behind options hanging ∷ [])
+    (map word_of (parts_between joined.cuts words)) division
+    × (begun ≡ old ++ printed ending prefix hanging (line_texts options.justify
+    (room_behind options prefix) (room_behind options hanging) division)))
+    → new ≡ begun ++ end
+    → (text : List ℕ) × AreFilled options ending (first ∷ rest) text × (new ≡ old ++ text)
+joined-filled options ending algorithm first rest joined words prefix hanging end old begun new chosen w are p h e
+    (division, divided, writes) more =
+    let all = words_of_lines (first ∷ rest) in
+    divided-filled options ending algorithm first rest old begun new chosen (
+      division,
+      subst (λ (ws : List ℕ). IsDividedBy algorithm sizes_of ws
+          (map word_of (pieces options first.starred all)) division)
+          (λ i. room_behind options (p i) ∷ room_behind options (h i) ∷ [])
+          (subst (λ ps. IsDividedBy algorithm sizes_of
+          (room_behind options prefix ∷ room_behind options hanging ∷ []) ps division)
+          ((λ i. map word_of (parts_between (are.cuts i) ((w ∙ are.text) i)))
+          ∙ ap (map word_of) (joined-pieces options first.starred all)) divided),
+      writes ∙ (λ i. old ++ printed ending (p i) (h i) (line_texts options.justify
+          (room_behind options (p i)) (room_behind options (h i)) division)),
+    ) (more ∙ ap (λ t. begun ++ t) e)
 
 -- their text may be cut there
 cuts-are : (options : ReflowOptions) (starred : Bool) (words : List (List ℕ)) (joined : Joined)
@@ -93,8 +75,8 @@ returns-clause-filled c =
     ∙ ap (filled_end ending) (ap (map marked_line_view) c.deref-2.ensures.value ∙ begins) in
     subst (λ ls. (text : List ℕ) × AreFilled options ending ls text
     × (string_bytes c.push_str.new.self ≡ string_bytes c.args.output.now ++ text)) (sym begins)
-    (joined-filled options ending _ (ap dividing_algorithm c.requires) (marked_line_view first) rest (joined_view c.in_ok-joined.joined)
+    (joined-filled options ending _ (marked_line_view first) rest (joined_view c.in_ok-joined.joined)
     c.as_str-2.result.now first.prefix.now c.as_str-3.result.now c.as_str-4.result.now _ _ _
-    c.as_str-2.ensures.value are refl
+    (ap dividing_algorithm c.requires) c.as_str-2.ensures.value are (λ i. first.prefix.now)
     (c.as_str-3.ensures.value ∙ c.in_ok-hanging.ensures.ok ∙ c.as_str.ensures.value) end
     c.in_ok-push_joined.ensures.lines c.in_ok-push_str.ensures.bytes)

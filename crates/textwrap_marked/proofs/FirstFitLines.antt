@@ -19,8 +19,8 @@ use Rattle.textwrap_layout.specs.Paragraph.{line_bytes}
 use Rattle.textwrap_display.specs.Justifying.{justified}
 use Rattle.textwrap_marked.proofs.PieceLemmas.{onto_front-nil, onto_front-twice}
 use Rattle.textwrap_marked.proofs.PrintedLines.{texts_more}
-use Rattle.textwrap_marked.specs.FirstFit.{columns_past, fresh_line, is_past, left_of_pieces, LineSoFar}
-use Rattle.textwrap_marked.specs.FirstFit.{pieces_behind, shown_line, with_piece, word_width}
+use Rattle.textwrap_marked.specs.FirstFit.{columns_past, fresh_line, has_no_room, left_of_pieces, FittingText}
+use Rattle.textwrap_marked.specs.FirstFit.{pieces_behind, shown_line, with_next_piece, piece_width}
 use Rattle.textwrap_marked.specs.Pieces.{is_cut, is_cut_behind, is_kept_together, onto_front}
 use Rattle.textwrap_marked.specs.Pieces.{pieces, with_blank}
 use Rattle.textwrap_marked.specs.Reflow.{line_text, line_texts, printed}
@@ -34,7 +34,7 @@ HasColumns None blanks ps = ps ≡ []
 HasColumns (Some columns) blanks ps = (0 < length ps) × (open_width sizes_of ps ≡ columns + blanks)
 
 -- these pieces stand on the line
-record Holds (line : LineSoFar) (ps : List WordText) : Type 0 where
+record Holds (line : FittingText) (ps : List WordText) : Type 0 where
   pub whole : tiled ps ≡ line.text ++ line.blanks
   pub text : covered ps ≡ line.text
   pub columns : HasColumns line.columns (length line.blanks) ps
@@ -44,12 +44,12 @@ columns-sum : (columns : Option ℕ) (blanks width : ℕ) (ps : List WordText) �
 columns-sum None blanks width ps none = rw none (omega arith)
 columns-sum (Some columns) blanks width ps (some, is) = omega (arith, is)
 
-past-full : (line : LineSoFar) (ps : List WordText) (piece : List ℕ) → Holds line ps
-    → is_past line (word_width piece) ≡ is_full sizes_of line.room ps (word_of piece)
+past-full : (line : FittingText) (ps : List WordText) (piece : List ℕ) → Holds line ps
+    → has_no_room line (piece_width piece) ≡ is_full sizes_of line.room ps (word_of piece)
 past-full line ps piece holds = cut line.columns holds.columns
   where
     cut : (columns : Option ℕ) → HasColumns columns (length line.blanks) ps
-        → is_past (record line { columns = columns }) (word_width piece)
+        → has_no_room (record line { columns = columns }) (piece_width piece)
         ≡ is_full sizes_of line.room ps (word_of piece)
     cut None none = rw none refl
     cut (Some columns) (some, is) =
@@ -57,8 +57,8 @@ past-full line ps piece holds = cut line.columns holds.columns
         rw (lt-ltb 0 (length ps) some) (ap (nat_lt line.room) (omega (arith, is, closed)))
 
 -- one piece more does
-holds-more : (line : LineSoFar) (ps : List WordText) (piece : List ℕ) → Holds line ps
-    → Holds (with_piece line piece) (ps ++ word_of piece ∷ [])
+holds-more : (line : FittingText) (ps : List WordText) (piece : List ℕ) → Holds line ps
+    → Holds (with_next_piece line piece) (ps ++ word_of piece ∷ [])
 holds-more line ps piece holds = record {
   whole = tiled-push ps (word_of piece)
       ∙ ap (λ t. t ++ (without_final_blanks piece ++ final_blanks piece)) holds.whole
@@ -69,7 +69,7 @@ holds-more line ps piece holds = record {
     omega (
       arith,
       open_width-append sizes_of ps (word_of piece ∷ []),
-      columns-sum line.columns (length line.blanks) (word_width piece) ps holds.columns,
+      columns-sum line.columns (length line.blanks) (piece_width piece) ps holds.columns,
     ),
   );
 }
@@ -106,7 +106,7 @@ module _ (form : ParagraphForm) where
   texts room lines = line_texts justify room form.room lines
 
   -- a line that others follow
-  full-printed : (front rest : List ℕ) (line : LineSoFar) (before : List WordText)
+  full-printed : (front rest : List ℕ) (line : FittingText) (before : List WordText)
       (next : List (List WordText)) → covered before ≡ line.text → 0 < length next
       → (ending ++ hanging) ++ rest ≡ printed ending (ending ++ hanging) hanging (texts form.room next)
       → front ++ (((shown_line justify line ++ ending) ++ hanging) ++ rest)
@@ -122,7 +122,7 @@ module _ (form : ParagraphForm) where
       (sym (and-true justify (nat_lt 0 (length next)) (lt-ltb 0 (length next) some)))
       ∙ ap (printed ending front hanging) (sym (texts_more justify line.room form.room before next))
 
-  lines-printed : (front : List ℕ) (ps : List (List ℕ)) (line : LineSoFar) (before : List WordText)
+  lines-printed : (front : List ℕ) (ps : List (List ℕ)) (line : FittingText) (before : List WordText)
       → Holds line before → front ++ left_of_pieces form line ps
       ≡ printed ending front hanging (texts line.room (lines_of line.room ps before))
   lines-printed front [] line before holds =
@@ -132,19 +132,19 @@ module _ (form : ParagraphForm) where
       let same = lines_of line.room ps (before ++ word_of p ∷ []) in
       let (more, rest, begins) = grown-begins sizes_of form.room form.room (map word_of ps) (word_of p ∷ []) in
       let some : 0 < length next = omega (arith, ap length begins) in
-      elim (is_past line (word_width p)) as (λ b. is_full sizes_of line.room before (word_of p) ≡ b
+      elim (has_no_room line (piece_width p)) as (λ b. is_full sizes_of line.room before (word_of p) ≡ b
       → front ++ cond b (((shown_line justify line ++ ending) ++ hanging)
-      ++ left_of_pieces form (with_piece (fresh_line form.room) p) ps)
-      (left_of_pieces form (with_piece line p) ps)
+      ++ left_of_pieces form (with_next_piece (fresh_line form.room) p) ps)
+      (left_of_pieces form (with_next_piece line p) ps)
       ≡ printed ending front hanging (texts line.room (lines_of line.room (p ∷ ps) before))) [
         | true ↦ λ full.
-            full-printed front (left_of_pieces form (with_piece (fresh_line form.room) p) ps) line before
+            full-printed front (left_of_pieces form (with_next_piece (fresh_line form.room) p) ps) line before
             next holds.text some (lines-printed (ending ++ hanging) ps
-            (with_piece (fresh_line form.room) p) (word_of p ∷ [])
+            (with_next_piece (fresh_line form.room) p) (word_of p ∷ [])
             (holds-more (fresh_line form.room) [] p (holds-none form.room)))
             ∙ ap (λ b. printed ending front hanging (texts line.room (cond b (before ∷ next) same))) (sym full)
         | false ↦ λ room.
-            lines-printed front ps (with_piece line p) (before ++ word_of p ∷ []) (holds-more line before p holds)
+            lines-printed front ps (with_next_piece line p) (before ++ word_of p ∷ []) (holds-more line before p holds)
             ∙ ap (λ b. printed ending front hanging (texts line.room (cond b (before ∷ next) same))) (sym room)
       ] (sym (past-full line before p holds))
 
@@ -204,11 +204,11 @@ module _ (options : ReflowOptions) (starred : Bool) where
 -- ---- what is left of a paragraph
 
 module _ (form : ParagraphForm) where
-  abbrev left_behind : LineSoFar → Option (List ℕ) → List ℕ → List (List ℕ) → List ℕ
+  abbrev left_behind : FittingText → Option (List ℕ) → List ℕ → List (List ℕ) → List ℕ
   left_behind line last piece words =
       left_of_pieces form line (pieces_behind form.options.now form.starred last piece words)
 
-  word-left : (last : Option (List ℕ)) (piece word : List ℕ) (words : List (List ℕ)) (line : LineSoFar)
+  word-left : (last : Option (List ℕ)) (piece word : List ℕ) (words : List (List ℕ)) (line : FittingText)
       (before : List ℕ) (is : Bool) → is_cut_behind form.options.now form.starred last word ≡ is
       → before ++ left_of_pieces form line (cond is
       (piece ∷ pieces_behind form.options.now form.starred (Some word) (with_blank word) words)
@@ -221,7 +221,7 @@ module _ (form : ParagraphForm) where
       ∙ sym (word-next form.options.now form.starred last piece word words))
 
   -- the piece ends before the next word
-  pub read-cut : (line next : LineSoFar) (last : Option (List ℕ)) (piece taken done word : List ℕ)
+  pub read-cut : (line next : FittingText) (last : Option (List ℕ)) (piece taken done word : List ℕ)
       (before after : List ℕ) → is_cut_behind form.options.now form.starred last word ≡ true
       → taken ≡ piece → done ≡ with_blank word
       → ((ps : List (List ℕ)) → after ++ left_of_pieces form next ps
@@ -235,7 +235,7 @@ module _ (form : ParagraphForm) where
       ∙ word-left last piece word words line before true is
 
   -- or goes on
-  pub read-kept : (line : LineSoFar) (last : Option (List ℕ)) (piece done word before : List ℕ)
+  pub read-kept : (line : FittingText) (last : Option (List ℕ)) (piece done word before : List ℕ)
       → is_cut_behind form.options.now form.starred last word ≡ false → done ≡ piece ++ with_blank word
       → (words : List (List ℕ)) → before ++ left_behind line (Some word) done words
       ≡ before ++ left_behind line last piece (word ∷ words)
@@ -244,7 +244,7 @@ module _ (form : ParagraphForm) where
       ∙ word-left last piece word words line before false is
 
   -- a paragraph without pieces, to which these words come
-  pub paragraph-lines : (line : LineSoFar) (piece old prefix before new : List ℕ) (words : List (List ℕ))
+  pub paragraph-lines : (line : FittingText) (piece old prefix before new : List ℕ) (words : List (List ℕ))
       → line.text ≡ [] → line.blanks ≡ [] → line.columns ≡ None → piece ≡ [] → before ≡ old ++ prefix
       → new ≡ before ++ left_behind line None piece words
       → (division : List (List WordText))

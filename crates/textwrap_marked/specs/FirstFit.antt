@@ -8,7 +8,7 @@ use Rattle.textwrap_display.specs.Justifying.{justified}
 use Rattle.textwrap_layout.specs.Paragraph.{line_bytes}
 use Rattle.textwrap_marked.specs.Pieces.{is_cut, onto_front, pieces}
 use Rattle.textwrap_marks.specs.declared.options.ReflowOptions.{ReflowOptions}
-use Rattle.textwrap_marked.specs.declared.first_fit.OpenLine.{OpenLine}
+use Rattle.textwrap_marked.specs.declared.first_fit.FittingLine.{FittingLine}
 use Rattle.textwrap_marked.specs.declared.first_fit.OpenParagraph.{OpenParagraph}
 use Rattle.textwrap_marked.specs.declared.first_fit.ParagraphForm.{ParagraphForm}
 
@@ -16,14 +16,14 @@ use Rattle.textwrap_marked.specs.declared.first_fit.ParagraphForm.{ParagraphForm
 
 -- its pieces, without the final blanks of the last one, those blanks, the columns of the text, if
 -- there is a piece, and how many it may have
-pub record LineSoFar : Type 0 where
+pub record FittingText : Type 0 where
   pub text : List ℕ
   pub blanks : List ℕ
   pub columns : Option ℕ
   pub room : ℕ
 
-abbrev pub line_so_far : OpenLine → LineSoFar
-line_so_far line = record {
+abbrev pub fitting_view : FittingLine → FittingText
+fitting_view line = record {
   text = string_bytes line.text;
   blanks = string_bytes line.blanks;
   columns = line.columns;
@@ -31,7 +31,7 @@ line_so_far line = record {
 }
 
 -- one without pieces
-abbrev pub fresh_line : ℕ → LineSoFar
+abbrev pub fresh_line : ℕ → FittingText
 fresh_line room = record { text = []; blanks = []; columns = None; room = room }
 
 -- the columns of so many, of blanks, and of a word
@@ -40,14 +40,14 @@ columns_past None blanks width = width
 columns_past (Some columns) blanks width = columns + blanks + width
 
 -- the columns with one more piece, of which the word has so many
-abbrev pub columns_with : LineSoFar → ℕ → ℕ
+abbrev pub columns_with : FittingText → ℕ → ℕ
 columns_with line width = columns_past line.columns (length line.blanks) width
 
 -- the line has a piece, and no room for one more
-abbrev pub is_past : LineSoFar → ℕ → Bool
-is_past line width = is_some line.columns && nat_lt line.room (columns_with line width)
+abbrev pub has_no_room : FittingText → ℕ → Bool
+has_no_room line width = is_some line.columns && nat_lt line.room (columns_with line width)
 
-abbrev pub with_piece_of : LineSoFar → List ℕ → List ℕ → ℕ → LineSoFar
+abbrev pub with_piece_of : FittingText → List ℕ → List ℕ → ℕ → FittingText
 with_piece_of line word blanks columns = record {
   text = (line.text ++ line.blanks) ++ word;
   blanks = blanks;
@@ -55,29 +55,29 @@ with_piece_of line word blanks columns = record {
   room = line.room;
 }
 
-abbrev pub word_width : List ℕ → ℕ
-word_width piece = text_width (without_final_blanks piece)
+abbrev pub piece_width : List ℕ → ℕ
+piece_width piece = text_width (without_final_blanks piece)
 
-abbrev pub with_piece : LineSoFar → List ℕ → LineSoFar
-with_piece line piece =
+abbrev pub with_next_piece : FittingText → List ℕ → FittingText
+with_next_piece line piece =
     with_piece_of line (without_final_blanks piece) (final_blanks piece)
-    (columns_with line (word_width piece))
+    (columns_with line (piece_width piece))
 
 -- a line that another follows
-abbrev pub shown_line : Bool → LineSoFar → List ℕ
+abbrev pub shown_line : Bool → FittingText → List ℕ
 shown_line justify line = if justify then line_bytes (justified line.room line.text) else line.text
 
 -- ---- what is left to be written
 
 module _ (form : ParagraphForm) where
   -- of the line, and of these pieces
-  abbrev pub left_of_pieces : LineSoFar → List (List ℕ) → List ℕ
+  abbrev pub left_of_pieces : FittingText → List (List ℕ) → List ℕ
   left_of_pieces line [] = line.text
   left_of_pieces line (piece ∷ pieces) =
-      if is_past line (word_width piece)
+      if has_no_room line (piece_width piece)
       then shown_line form.options.now.justify line ++ form.ending.now ++ form.hanging.now
-      ++ left_of_pieces (with_piece (fresh_line form.room) piece) pieces
-      else left_of_pieces (with_piece line piece) pieces
+      ++ left_of_pieces (with_next_piece (fresh_line form.room) piece) pieces
+      else left_of_pieces (with_next_piece line piece) pieces
 
 module _ (options : ReflowOptions) (starred : Bool) where
   -- the pieces of what is read of the first one, where this is the last word, if there is one, and
@@ -93,6 +93,6 @@ module _ (options : ReflowOptions) (starred : Bool) where
 -- of a paragraph, and of these words
 abbrev pub left : ParagraphForm → OpenParagraph → List (List ℕ) → List ℕ
 left form paragraph words =
-    left_of_pieces form (line_so_far paragraph.line)
+    left_of_pieces form (fitting_view paragraph.line)
     (pieces_behind form.options.now form.starred (option_map (λ w. w.now) paragraph.last)
     (string_bytes paragraph.piece) words)

@@ -5,8 +5,8 @@ ghost use Rattle.std.specs.Prelude.{if◌then◌else◌, string_bytes};
 ghost use Rattle.textwrap_base.specs.Division.{IsGreedy};
 ghost use Rattle.textwrap_words.specs.Words.{WordText, sizes_of, word_of};
 ghost use Rattle.textwrap_marks.specs.Words.{spaced_words};
-ghost use Rattle.textwrap_marked.specs.FirstFit.{columns_with, fresh_line, is_past, left, left_of_pieces};
-ghost use Rattle.textwrap_marked.specs.FirstFit.{line_so_far, shown_line, with_piece_of};
+ghost use Rattle.textwrap_marked.specs.FirstFit.{columns_with, fresh_line, has_no_room, left, left_of_pieces};
+ghost use Rattle.textwrap_marked.specs.FirstFit.{fitting_view, shown_line, with_piece_of};
 ghost use Rattle.textwrap_marked.specs.Lines.{marked_line_view};
 ghost use Rattle.textwrap_marked.specs.Pieces.{pieces, words_of_lines};
 ghost use Rattle.textwrap_marked.specs.Reflow.{first_room, later_room, printed, shown_lines};
@@ -35,7 +35,7 @@ struct ParagraphForm<'a> {
 
 /// The line that takes the next piece.
 #[derive(Drop)]
-struct OpenLine {
+struct FittingLine {
     /// Its pieces, without the final blanks of the last one.
     text: String,
     /// Those blanks.
@@ -46,11 +46,11 @@ struct OpenLine {
     room: usize,
 }
 
-impl OpenLine {
+impl FittingLine {
     /// The columns with one more piece, of which the word has so many, if there is room for it.
     fn columns_with(&self, width: usize) -> Option<usize>
-        ensures { result ≡ (if is_past (line_so_far self.now) width then None
-            else Some (columns_with (line_so_far self.now) width)) }
+        ensures { result ≡ (if has_no_room (fitting_view self.now) width then None
+            else Some (columns_with (fitting_view self.now) width)) }
     {
         match self.columns {
             Some(columns) => {
@@ -67,8 +67,8 @@ impl OpenLine {
 
     /// Takes a piece, with which it has so many columns.
     fn push(&mut self, word: &str, blanks: &str, columns: usize) -> Result<(), AllocError>
-        ensures { OnOk result (line_so_far self.new
-            ≡ with_piece_of (line_so_far self.old) word.now blanks.now columns) }
+        ensures { OnOk result (fitting_view self.new
+            ≡ with_piece_of (fitting_view self.old) word.now blanks.now columns) }
     {
         self.text.push_str(&self.blanks)?;
         self.text.push_str(word)?;
@@ -86,9 +86,9 @@ impl OpenLine {
         form: &ParagraphForm<'_>,
     ) -> Result<(), AllocError>
         ensures written { OnOk result (string_bytes output.new ≡ string_bytes output.old
-            ++ shown_line form.now.options.now.justify (line_so_far self.old)
+            ++ shown_line form.now.options.now.justify (fitting_view self.old)
             ++ form.now.ending.now ++ form.now.hanging.now) }
-        ensures fresh { OnOk result (line_so_far self.new ≡ fresh_line form.now.room) }
+        ensures fresh { OnOk result (fitting_view self.new ≡ fresh_line form.now.room) }
     {
         if form.options.justify {
             let text = justify(alloc, &self.text, self.room)?;
@@ -114,9 +114,9 @@ impl OpenLine {
         form: &ParagraphForm<'_>,
     ) -> Result<(), AllocError>
         ensures { OnOk result ((pieces : List (List ℕ)) → string_bytes output.new
-            ++ left_of_pieces form.now (line_so_far self.new) pieces
+            ++ left_of_pieces form.now (fitting_view self.new) pieces
             ≡ string_bytes output.old
-            ++ left_of_pieces form.now (line_so_far self.old) (piece.now ∷ pieces)) }
+            ++ left_of_pieces form.now (fitting_view self.old) (piece.now ∷ pieces)) }
     {
         let (word, blanks) = split_final_blanks(piece);
         let width = display_width(word);
@@ -131,7 +131,7 @@ impl OpenLine {
 /// A paragraph of which words are read.
 #[derive(Drop)]
 struct OpenParagraph<'t> {
-    line: OpenLine,
+    line: FittingLine,
     /// What is read of the next piece: words that keep together, with a blank behind each.
     piece: String,
     /// The last word: the one after it tells whether the piece ends behind it.
@@ -226,7 +226,7 @@ pub(crate) fn push_by_first_fit(
         room: room_behind(hanging, options),
     };
     let mut paragraph = OpenParagraph {
-        line: OpenLine {
+        line: FittingLine {
             text: String::new(alloc),
             blanks: String::new(alloc),
             columns: None,

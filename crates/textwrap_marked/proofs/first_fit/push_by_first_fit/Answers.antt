@@ -6,11 +6,11 @@ use Rattle.textwrap_base.proofs.Common.{IsGreedy}
 use Rattle.textwrap_words.proofs.Common.{sizes_of, word_of}
 use Rattle.textwrap_marks.specs.Words.{spaced_words}
 use Rattle.textwrap_marked.proofs.FirstFitLines.{paragraph-lines}
-use Rattle.textwrap_marked.specs.FirstFit.{left, line_so_far}
+use Rattle.textwrap_marked.specs.FirstFit.{left, fitting_view}
 use Rattle.textwrap_marked.specs.Lines.{marked_line_view}
 use Rattle.textwrap_marked.specs.Pieces.{pieces, words_of_lines}
 use Rattle.textwrap_marked.specs.Reflow.{line_texts, printed, room_behind}
-use Rattle.textwrap_marked.specs.declared.first_fit.OpenLine.{OpenLine}
+use Rattle.textwrap_marked.specs.declared.first_fit.FittingLine.{FittingLine}
 use Rattle.textwrap_marked.specs.declared.first_fit.ParagraphForm.{ParagraphForm}
 
 pub loop-line-preserved : goal.loop-line-preserved
@@ -43,7 +43,7 @@ returns c =
       hanging = c.as_str-hanging.result;
       room = c.room_behind.result;
     } in
-    let line : OpenLine = record {
+    let line : FittingLine = record {
       text = c.new.result;
       blanks = c.new-2.result;
       columns = None;
@@ -54,7 +54,7 @@ returns c =
     let room = c.room_behind-2.ensures in
     let later = c.room_behind.ensures ∙ ap (room_behind options) hanging in
     on_ok_weaker c.push_end.result (λ is.
-    let (division, greedy, written) = paragraph-lines form (line_so_far line)
+    let (division, greedy, written) = paragraph-lines form (fitting_view line)
     (string_bytes c.new-3.result) (string_bytes c.args.output.now) c.args.first.now.prefix.now
     (string_bytes c.push_str.new.self) (string_bytes c.push_end.new.output) words
     c.new.ensures.bytes c.new-2.ensures.bytes refl c.new-3.ensures.bytes c.in_ok-push_str.ensures.bytes

@@ -4,13 +4,13 @@ use Rattle.textwrap_text.proofs.Common.{◌∙◌, ◌++◌, ◌∷◌, [], ap, 
 use Rattle.std.specs.Option.{option_map}
 use Rattle.textwrap_text.specs.Blanks.{blank}
 use Rattle.textwrap_marked.proofs.FirstFitLines.{read-cut, read-kept}
-use Rattle.textwrap_marked.specs.FirstFit.{line_so_far}
+use Rattle.textwrap_marked.specs.FirstFit.{fitting_view}
 
 pub returns : goal.returns
 returns c = λ words.
     let form = c.args.form.now in
     let word = c.args.word.now in
-    let line = line_so_far c.args.self.now.line in
+    let line = fitting_view c.args.self.now.line in
     let last = option_map (λ w. w.now) c.args.self.now.last in
     let piece = string_bytes c.args.self.now.piece in
     let more = c.in_ok-push_str-2.ensures.bytes

@@ -2,12 +2,12 @@ use Rattle.textwrap_marked.proofs.first_fit.OpenParagraph.push_end.Goals as goal
 use Rattle.textwrap_marked.proofs.first_fit.OpenParagraph.push_end.Goals.{then-is_some+in_ok-take, else-is_some}
 use Rattle.textwrap_text.proofs.Common.{◌∙◌, ◌++◌, ◌∷◌, [], ap, cond, sym, string_bytes}
 use Rattle.textwrap_marked.proofs.FirstFitLines.{words-end}
-use Rattle.textwrap_marked.specs.FirstFit.{left_of_pieces, line_so_far}
+use Rattle.textwrap_marked.specs.FirstFit.{left_of_pieces, fitting_view}
 
 pub returns : goal.returns
 returns c =
     let form = c.args.form.now in
-    let line = line_so_far c.args.self.now.line in
+    let line = fitting_view c.args.self.now.line in
     let piece = string_bytes c.args.self.now.piece in
     let before = string_bytes c.args.output.now in
     let ends = words-end form.options.now form.starred (λ w. w.now) c.args.self.now.last piece in

@@ -81,7 +81,7 @@ impl ReadState {
         Ok(ReadState {
             in_block: is_in_block(in_block, fenced, line),
             fence,
-            prompted: is_prompted(prompted, fenced, line.text),
+            prompted: is_prompted(prompted, fenced, line.plain, line.text),
             before,
             by: new_by(by, is_before, line),
         })
@@ -190,10 +190,11 @@ fn is_in_block(in_block: bool, fenced: bool, line: &MarkedLine<'_>) -> bool
     }
 }
 
-/// Whether a session is open behind this text.
+/// Whether a session is open behind this text, whose words may be known to be plain.
 #[tactic(auto, using(textwrap_marks::proofs::WordCuts::words_none))]
-fn is_prompted(prompted: bool, fenced: bool, text: &str) -> bool
+fn is_prompted(prompted: bool, fenced: bool, plain: bool, text: &str) -> bool
+    requires { plain ≡ true → ArePlain (spaced_words text.now) }
     ensures { result ≡ is_prompted prompted fenced (spaced_words text.now) }
 {
-    !text.is_empty() && (prompted || !fenced && opens_session(text))
+    !text.is_empty() && (prompted || !fenced && opens_session(plain, text))
 }

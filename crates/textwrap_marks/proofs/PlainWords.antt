@@ -7,7 +7,7 @@ use Rattle.textwrap_marks.proofs.Common.{spaced_words, SpacedText, ◌∙◌}
 use Rattle.textwrap_marks.proofs.ContainedTexts.{contains-lacks}
 use Rattle.textwrap_marks.proofs.ListLemmas.{none-any, or-left, or-right}
 use Rattle.textwrap_marks.specs.Fences.{has_pre}
-use Rattle.textwrap_marks.specs.Signs.{ArePlain, is_column_byte}
+use Rattle.textwrap_marks.specs.Signs.{any_contains, ArePlain, is_column_byte}
 use Rattle.textwrap_marks.specs.Words.{of_byte, onto_white, onto_word, onto_words, with_byte}
 
 same : (c k : ℕ) → (c == k) ≡ true → c ≡ k
@@ -88,12 +88,15 @@ plain-byte c none = split (is_white c)
     split true = refl
     split false = ap (λ b. b || false) none
 
+pub plain-contains : (b : ℕ) (bs : List ℕ) → is_column_byte b ≡ true → (words : List SpacedText)
+    → ArePlain words → any_contains (b ∷ bs) words ≡ false
+plain-contains b bs column words plain =
+    none-any (λ w. contains (b ∷ bs) w.word) words
+    (All-weaker (λ w. list_any is_column_byte w.word ≡ false) (λ w. contains (b ∷ bs) w.word ≡ false)
+    (λ w none. contains-lacks (b ∷ bs) w.word (omega arith) (lacks b w.word column none)) words plain)
+
 pub plain-pre : (words : List SpacedText) → ArePlain words → has_pre words ≡ false
-plain-pre words plain =
-    none-any (λ w. contains (codes "<pre") w.word) words
-    (All-weaker (λ w. list_any is_column_byte w.word ≡ false)
-    (λ w. contains (codes "<pre") w.word ≡ false)
-    (λ w none. contains-lacks (codes "<pre") w.word (omega arith) (lacks 60 w.word refl none)) words plain)
+plain-pre words plain = plain-contains 60 (112 ∷ 114 ∷ 101 ∷ []) refl words plain
 
 -- one byte more before plain words
 plain-onto : (c : ℕ) (word : List ℕ) (w : SpacedText) (ws : List SpacedText)

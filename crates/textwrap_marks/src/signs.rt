@@ -1,7 +1,7 @@
 //! How a text begins, and what no paragraph contains.
 ghost use Rattle.std.specs.Char.{is_ascii_lowercase};
 ghost use Rattle.std.specs.Prelude.{◌≡◌, ◌-◌, ◌<◌, ◌≤◌, ◌==◌, ◌||◌, [], ◌∷◌, true, false, length};
-ghost use Rattle.std.specs.Prelude.{chars, slice_get, slice_index, MatchOption};
+ghost use Rattle.std.specs.Prelude.{chars, codes, slice_get, slice_index, MatchOption};
 ghost use Rattle.std.specs.List.{list_all, list_any};
 ghost use Rattle.textwrap_marks.specs.Signs.{any_contains, ArePlain, begins_text, closes_block};
 ghost use Rattle.textwrap_marks.specs.Signs.{closes_early, ends_code, ends_early, ends_sentence, first_word};
@@ -149,29 +149,41 @@ pub fn ends_code(word: &str) -> bool
         | starts_with(word, "}}}")
 }
 
+/// Whether a word is as long as most of those for tools, or begins or ends as the short ones do. Few words
+/// are, so this is asked before the word is compared with each.
+fn may_be_tool_word(word: &str) -> bool
+    ensures { result ≡ false → is_tool_word word.now ≡ false }
+{
+    match word.as_bytes() {
+        [first, .., last] => (word.len() > 9) | (*first == b'n') | (*last == b':'),
+        _ => false,
+    }
+}
+
 /// Whether a comment that begins with this word is read by a linter, a formatter or an editor.
 fn is_tool_word(word: &str) -> bool
     ensures { result ≡ is_tool_word word.now }
 {
-    matches!(
-        word,
-        "clang-format"
-            | "shellcheck"
-            | "noqa"
-            | "noqa:"
-            | "nolint"
-            | "pylint:"
-            | "type:"
-            | "fmt:"
-            | "isort:"
-            | "eslint-disable"
-            | "eslint-enable"
-            | "eslint-disable-next-line"
-            | "prettier-ignore"
-            | "rubocop:disable"
-            | "rubocop:enable"
-            | "vim:"
-    )
+    may_be_tool_word(word)
+        && matches!(
+            word,
+            "clang-format"
+                | "shellcheck"
+                | "noqa"
+                | "noqa:"
+                | "nolint"
+                | "pylint:"
+                | "type:"
+                | "fmt:"
+                | "isort:"
+                | "eslint-disable"
+                | "eslint-enable"
+                | "eslint-disable-next-line"
+                | "prettier-ignore"
+                | "rubocop:disable"
+                | "rubocop:enable"
+                | "vim:"
+        )
 }
 
 /// Whether a comment that begins with this word is read by a tool: such a word, `+build` of Go, `NOLINT`
@@ -513,18 +525,29 @@ fn is_prompt(word: &str) -> bool
     matches!(word, "$" | ">>>")
 }
 
-/// Whether a text stands below the head of a table: `--- | ---`.
-fn is_table_rule(text: &str) -> bool
-    ensures { result ≡ is_table_rule (spaced_words text.now) }
+/// Whether a bar stands in a text, whose words may be known to be plain.
+fn has_bar(plain: bool, text: &str) -> bool
+    requires { plain ≡ true → ArePlain (spaced_words text.now) }
+    ensures { result ≡ any_contains (codes "|") (spaced_words text.now) }
 {
-    any_contains(text, "|") && any_contains(text, "-") && !any_letter(text)
+    !plain && any_contains(text, "|")
 }
 
-/// Whether a text begins a session or the rows of a table, up to a line without text.
-pub fn opens_session(text: &str) -> bool
+/// Whether a text, whose words may be known to be plain, stands below the head of a table: `--- | ---`.
+fn is_table_rule(plain: bool, text: &str) -> bool
+    requires { plain ≡ true → ArePlain (spaced_words text.now) }
+    ensures { result ≡ is_table_rule (spaced_words text.now) }
+{
+    has_bar(plain, text) && any_contains(text, "-") && !any_letter(text)
+}
+
+/// Whether a text, whose words may be known to be plain, begins a session or the rows of a table, up to a
+/// line without text.
+pub fn opens_session(plain: bool, text: &str) -> bool
+    requires { plain ≡ true → ArePlain (spaced_words text.now) }
     ensures { result ≡ opens_session (spaced_words text.now) }
 {
-    is_prompt(first_word(text)) || is_table_rule(text)
+    is_prompt(first_word(text)) || is_table_rule(plain, text)
 }
 
 /// Whether a word says that examples stand below it.

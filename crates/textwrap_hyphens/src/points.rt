@@ -224,6 +224,10 @@ fn places_by_patterns<A: Allocator + Copy>(
         ≡ places_from (held patterns.now) letters.now 0 (joints_of (held patterns.now) letters.now)) }
     ensures inner { IfOk result (λ places. AreInnerPlaces (length letters.now) places.items) }
 {
+    // Most words of a text are so short that no place has enough letters on both sides.
+    if !has_letters(letters, patterns.left().saturating_add(patterns.right())) {
+        return Ok(Vec::new(alloc));
+    }
     let joints = joints(alloc, letters, patterns)?;
     places_between(alloc, letters, &joints, patterns)
 }

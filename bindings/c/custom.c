@@ -9,7 +9,7 @@
 typedef struct {
     textwrap_status status;
     const uint8_t *text;
-    const textwrap_options *options;
+    textwrap_options options;
     const textwrap_functions *functions;
     textwrap_paragraph *paragraphs;
     textwrap_steps *steps;
@@ -40,8 +40,9 @@ static void find_pieces(work *w, const uint8_t *paragraph, size_t len, const tex
  * pieces are its words then: they are neither split nor broken. */
 static void find_words(work *w, const uint8_t *paragraph, size_t len, textwrap_steps *s) {
     const textwrap_functions *f = w->functions;
-    textwrap_options whole = *w->options;
+    textwrap_options whole = w->options;
     whole.split_at_hyphens = whole.break_words = 0;
+    whole.dictionary.numbers_len = 0;
     if (f->cut != NULL) {
         take(w, f->cut(f->context, paragraph, len, w->next), len, &s->cuts_len);
         if (w->status == TEXTWRAP_DONE) find_pieces(w, paragraph, len, &whole, s);
@@ -53,16 +54,31 @@ static void find_words(work *w, const uint8_t *paragraph, size_t len, textwrap_s
     if (w->pieces_len > 1) take(w, w->pieces_len - 1, len, &s->cuts_len);
 }
 
+/* Finds the points of a word by the options: those of the dictionary, and those behind hyphens, in order. Both
+ * lists stand behind the places that they come to. */
+static size_t split(work *w, const uint8_t *word, size_t len, size_t *points) {
+    const textwrap_dictionary *dictionary = &w->options.dictionary;
+    size_t *known = points + len, *hyphens = known + len, known_len = 0, hyphens_len = 0, count = 0;
+    if (dictionary->numbers_len > 0)
+        w->status = textwrap_hyphen_points(dictionary, word, len, known, len, &known_len);
+    if (w->status == TEXTWRAP_DONE && (w->options.split_at_hyphens || dictionary->numbers_len > 0))
+        w->status = textwrap_split_points(word, len, hyphens, len, &hyphens_len);
+    for (size_t i = 0, j = 0; w->status == TEXTWRAP_DONE && (i < known_len || j < hyphens_len); count++) {
+        points[count] = j == hyphens_len || (i < known_len && known[i] < hyphens[j]) ? known[i] : hyphens[j];
+        if (i < known_len && known[i] == points[count]) i++;
+        if (j < hyphens_len && hyphens[j] == points[count]) j++;
+    }
+    return count;
+}
+
 /* Finds the points of a word: offsets of the word, which become those of the paragraph. */
 static void find_points(work *w, const uint8_t *paragraph, const textwrap_piece *word,
                         textwrap_steps *s) {
     const textwrap_functions *f = w->functions;
     const uint8_t *at = paragraph + word->offset;
-    size_t *points = w->next, count = 0;
-    if (f->split != NULL)
-        count = f->split(f->context, at, word->len, points);
-    else if (w->options->split_at_hyphens)
-        w->status = textwrap_split_points(at, word->len, points, word->len, &count);
+    size_t *points = w->next;
+    size_t count = f->split != NULL ? f->split(f->context, at, word->len, points)
+                                    : split(w, at, word->len, points);
     take(w, count, word->len, &s->points_len);
     for (; points < w->next; points++) {
         if (*points == 0 || *points >= word->len) w->status = TEXTWRAP_WRONG_PLACES;
@@ -79,9 +95,9 @@ static void find_ends(work *w, const uint8_t *paragraph, size_t len, const textw
     size_t count = 0, most = len + 2;
     if (f->divide == NULL) {
         w->status = textwrap_ends_at(paragraph, len, s->cuts, s->cuts_len, s->points, s->points_len,
-                                     w->options, w->is_later, w->next, most, &count);
+                                     &w->options, w->is_later, w->next, most, &count);
     } else {
-        find_pieces(w, paragraph, len, w->options, s);
+        find_pieces(w, paragraph, len, &w->options, s);
         if (w->status != TEXTWRAP_DONE) return;
         most = w->pieces_len + 1;
         count = f->divide(f->context, w->pieces, w->pieces_len, line_widths, w->next);
@@ -92,7 +108,7 @@ static void find_ends(work *w, const uint8_t *paragraph, size_t len, const textw
 /* Finds the steps of a paragraph. One that is a line as a whole has none. */
 static void find_steps(work *w, const uint8_t *paragraph, size_t len, textwrap_steps *s) {
     textwrap_widths widths = {0, 0, 0};
-    w->status = textwrap_paragraph_widths(paragraph, len, w->options, w->is_later, &widths);
+    w->status = textwrap_paragraph_widths(paragraph, len, &w->options, w->is_later, &widths);
     s->cuts = s->points = s->ends = w->next;
     if (w->status == TEXTWRAP_DONE && !widths.is_whole) {
         find_words(w, paragraph, len, s);
@@ -106,19 +122,21 @@ static void find_steps(work *w, const uint8_t *paragraph, size_t len, textwrap_s
 }
 
 /* Finds the paragraphs of a text, and makes room for all that can be found of them: in each no more cuts
- * and points than bytes, one piece more, and lines one more than pieces. If the text or the options are
- * refused, this says so, before any function is called. */
+ * and points than bytes, one piece more, and lines one more than pieces; and as many places as bytes to find
+ * points in. If the text or the options are refused, this says so, before any function is called. A
+ * dictionary was tested then. */
 static textwrap_status find_paragraphs(work *w, const uint8_t *text, size_t len) {
-    textwrap_status status = textwrap_paragraphs(text, len, w->options, NULL, 0, &w->count);
+    textwrap_status status = textwrap_paragraphs(text, len, &w->options, NULL, 0, &w->count);
     if (status != TEXTWRAP_TOO_SMALL) return status;
     if (len > SIZE_MAX / 8) return TEXTWRAP_OUT_OF_MEMORY;
     w->paragraphs = (textwrap_paragraph *)calloc(w->count, sizeof *w->paragraphs);
     w->steps = (textwrap_steps *)calloc(w->count, sizeof *w->steps);
-    w->places = w->next = (size_t *)calloc(3 * len + 2 * w->count, sizeof *w->places);
+    w->places = w->next = (size_t *)calloc(4 * len + 2 * w->count, sizeof *w->places);
     if (!w->paragraphs || !w->steps || !w->places) return TEXTWRAP_OUT_OF_MEMORY;
-    status = textwrap_paragraphs(text, len, w->options, w->paragraphs, w->count, &w->count);
+    status = textwrap_paragraphs(text, len, &w->options, w->paragraphs, w->count, &w->count);
     for (size_t i = 0; status == TEXTWRAP_DONE && i < w->count; i++)
         if (w->pieces_room < w->paragraphs[i].len + 1) w->pieces_room = w->paragraphs[i].len + 1;
+    w->options.dictionary.is_checked = 1;
     w->pieces = (textwrap_piece *)calloc(w->pieces_room, sizeof *w->pieces);
     return status == TEXTWRAP_DONE && !w->pieces ? TEXTWRAP_OUT_OF_MEMORY : status;
 }
@@ -129,7 +147,7 @@ static void run(work *w, const uint8_t *text, size_t len, const textwrap_options
     const textwrap_functions none = textwrap_functions_new(NULL);
     memset(w, 0, sizeof *w);
     w->text = len > 0 ? text : (const uint8_t *)"";
-    w->options = options;
+    w->options = *options;
     w->functions = functions;
     w->status = TEXTWRAP_UNKNOWN_OPTIONS;
     if (memcmp(functions->reserved, none.reserved, sizeof none.reserved) == 0)
@@ -163,7 +181,7 @@ textwrap_status textwrap_wrap_by(const uint8_t *text, size_t text_len,
     work w;
     run(&w, text, text_len, options, functions);
     if (w.status == TEXTWRAP_DONE)
-        w.status = textwrap_wrap_at(w.text, text_len, w.steps, w.count, options, lines, lines_len,
+        w.status = textwrap_wrap_at(w.text, text_len, w.steps, w.count, &w.options, lines, lines_len,
                                     count, room, room_len, len);
     return end(&w);
 }
@@ -175,6 +193,6 @@ textwrap_status textwrap_fill_by(const uint8_t *text, size_t text_len,
     work w;
     run(&w, text, text_len, options, functions);
     if (w.status == TEXTWRAP_DONE)
-        w.status = textwrap_fill_at(w.text, text_len, w.steps, w.count, options, room, room_len, len);
+        w.status = textwrap_fill_at(w.text, text_len, w.steps, w.count, &w.options, room, room_len, len);
     return end(&w);
 }

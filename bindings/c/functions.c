@@ -141,7 +141,7 @@ static void what_is_refused_calls_no_function(void) {
     CHECK(is_refused_unasked("a b c d", indented, TEXTWRAP_NOT_UTF8));
     later_indented.subsequent_indent = text_of("\xff");
     CHECK(is_refused_unasked("a b c d", later_indented, TEXTWRAP_NOT_UTF8));
-    refused.version = 2;
+    refused.version = 1;
     CHECK(is_refused_unasked("a b c d", refused, TEXTWRAP_UNKNOWN_OPTIONS));
     refused = first_fit(3);
     refused.crlf = 2;
@@ -248,6 +248,28 @@ static void words_of_the_caller_are_split_as_the_options_say(void) {
     CHECK(strcmp(wrapped(o, functions, "foo-bar baz"), "foo-|bar|baz|") == 0);
     o.split_at_hyphens = 0;
     CHECK(strcmp(wrapped(o, functions, "foo-bar baz"), "foo-bar|baz|") == 0);
+}
+
+/* Or where a dictionary has hyphens, and behind those of the word. */
+static void words_of_the_caller_are_split_by_a_dictionary(void) {
+    static const char patterns[] = "hy3ph\nhe2n\nhena4\nhen5at\n1na\nn2at\n1tio\n2io\no2n\n";
+    struct asked asked = answering(1, 12);
+    textwrap_functions functions = textwrap_functions_new(&asked);
+    textwrap_options o = first_fit(6);
+    size_t numbers[256], numbers_len = 0, line = 0;
+    CHECK(textwrap_patterns_read(bytes(patterns), strlen(patterns), numbers, 256, &numbers_len, &line)
+          == TEXTWRAP_DONE);
+    o.dictionary = textwrap_dictionary_new(numbers, numbers_len);
+    functions.cut = cut;
+    CHECK(strcmp(wrapped(o, functions, "hyphenation re-hyphenation"), "hy-|phen-|ation|re-|hyphen|ation|") == 0);
+    o.split_at_hyphens = 0;
+    o.dictionary.in_parts = 1;
+    CHECK(strcmp(wrapped(o, functions, "hyphenation re-hyphenation"), "hy-|phen-|ation|re-hy-|phen-|ation|") == 0);
+    functions.cut = NULL;
+    CHECK(strcmp(wrapped(o, functions, "hyphenation re-hyphenation"), "hy-|phen-|ation|re-hy-|phen-|ation|") == 0);
+    o.dictionary = textwrap_dictionary_new(numbers, numbers_len - 1);
+    const char *refused = textwrap_status_text(TEXTWRAP_UNKNOWN_OPTIONS);
+    CHECK(strcmp(wrapped(o, functions, "hyphenation"), refused) == 0);
 }
 
 /* Digits and signs are words like any other. */
@@ -379,6 +401,7 @@ int main(void) {
     a_hyphen_takes_its_column();
     a_hyphen_costs_what_the_options_say();
     words_of_the_caller_are_split_as_the_options_say();
+    words_of_the_caller_are_split_by_a_dictionary();
     a_splitter_is_asked_for_words_without_letters();
     an_algorithm_may_get_more_pieces_than_there_are_bytes();
     a_last_line_may_be_empty();

@@ -49,10 +49,6 @@ PROVED(wrap_optimal_fit);
 PROVED(hyphen_points);
 PROVED(patterns_read);
 PROVED(patterns_check);
-PROVED(fill_hyphenated);
-PROVED(refill_hyphenated);
-PROVED(wrap_hyphenated);
-PROVED(wrap_columns_hyphenated);
 PROVED(fill_justified_at);
 PROVED(paragraphs);
 PROVED(paragraph_widths);
@@ -86,11 +82,18 @@ static textwrap_text some_text(textwrap_text text) {
     return text;
 }
 
-/* The options, with indents that are not null. */
+static textwrap_dictionary some_dictionary(const textwrap_dictionary *dictionary) {
+    textwrap_dictionary some = *dictionary;
+    if (some.numbers_len == 0) some.numbers = (const size_t *)&nothing;
+    return some;
+}
+
+/* The options, with indents and a dictionary that are not null. */
 static textwrap_options some_options(const textwrap_options *options) {
     textwrap_options some = *options;
     some.initial_indent = some_text(options->initial_indent);
     some.subsequent_indent = some_text(options->subsequent_indent);
+    some.dictionary = some_dictionary(&options->dictionary);
     return some;
 }
 
@@ -111,12 +114,6 @@ static textwrap_gaps some_gaps(const textwrap_gaps *gaps) {
 }
 
 /* The dictionary, with numbers that are not null. */
-static textwrap_dictionary some_dictionary(const textwrap_dictionary *dictionary) {
-    textwrap_dictionary some = *dictionary;
-    if (some.numbers_len == 0) some.numbers = (const size_t *)&nothing;
-    return some;
-}
-
 size_t textwrap_fill_bound(size_t text_len, const textwrap_options *options) {
     textwrap_options some = some_options(options);
     return proved_fill_bound(text_len, &some);
@@ -416,50 +413,6 @@ textwrap_status textwrap_patterns_read(const uint8_t *text, size_t text_len, siz
 
 textwrap_status textwrap_patterns_check(const size_t *numbers, size_t numbers_len) {
     return proved_patterns_check(ARRAY(numbers, numbers_len));
-}
-
-textwrap_status textwrap_fill_hyphenated(const uint8_t *text, size_t text_len,
-                                         const textwrap_options *options,
-                                         const textwrap_dictionary *dictionary, uint8_t *room,
-                                         size_t room_len, size_t *len) {
-    textwrap_options some = some_options(options);
-    textwrap_dictionary known = some_dictionary(dictionary);
-    return proved_fill_hyphenated(ARRAY(text, text_len), &some, &known, ARRAY(room, room_len), len);
-}
-
-textwrap_status textwrap_refill_hyphenated(const uint8_t *text, size_t text_len,
-                                           const textwrap_options *options,
-                                           const textwrap_dictionary *dictionary, uint8_t *room,
-                                           size_t room_len, size_t *len) {
-    textwrap_options some = some_options(options);
-    textwrap_dictionary known = some_dictionary(dictionary);
-    return proved_refill_hyphenated(ARRAY(text, text_len), &some, &known, ARRAY(room, room_len),
-                                    len);
-}
-
-textwrap_status textwrap_wrap_hyphenated(const uint8_t *text, size_t text_len,
-                                         const textwrap_options *options,
-                                         const textwrap_dictionary *dictionary,
-                                         textwrap_line *lines, size_t lines_len, size_t *count,
-                                         uint8_t *room, size_t room_len, size_t *len) {
-    textwrap_options some = some_options(options);
-    textwrap_dictionary known = some_dictionary(dictionary);
-    return proved_wrap_hyphenated(ARRAY(text, text_len), &some, &known, ARRAY(lines, lines_len),
-                                  count, ARRAY(room, room_len), len);
-}
-
-textwrap_status textwrap_wrap_columns_hyphenated(const uint8_t *text, size_t text_len,
-                                                 size_t columns, const textwrap_options *options,
-                                                 const textwrap_gaps *gaps,
-                                                 const textwrap_dictionary *dictionary,
-                                                 textwrap_line *rows, size_t rows_len,
-                                                 size_t *count, uint8_t *room, size_t room_len,
-                                                 size_t *len) {
-    textwrap_options some = some_options(options);
-    textwrap_gaps around = some_gaps(gaps);
-    textwrap_dictionary known = some_dictionary(dictionary);
-    return proved_wrap_columns_hyphenated(ARRAY(text, text_len), columns, &some, &around, &known,
-                                          ARRAY(rows, rows_len), count, ARRAY(room, room_len), len);
 }
 
 textwrap_status textwrap_fill_justified_at(const uint8_t *text, size_t text_len,

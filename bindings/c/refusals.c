@@ -235,35 +235,64 @@ static textwrap_status points_of(struct lent *lent) {
                                   &lent->count);
 }
 
+/* The options with these patterns. */
+static textwrap_options with_patterns(textwrap_options o) {
+    o.dictionary = textwrap_dictionary_new(patterns, patterns_len);
+    return o;
+}
+
 static textwrap_status filled_with_hyphens(struct lent *lent) {
-    const textwrap_dictionary dictionary = textwrap_dictionary_new(patterns, patterns_len);
-    textwrap_options o = options_of(1, 0);
-    return textwrap_fill_hyphenated(bytes("the hyphenation"), 15, &o, &dictionary, lent->room, 256,
-                                    &lent->len);
+    const textwrap_options o = with_patterns(options_of(1, 0));
+    return textwrap_fill(bytes("the hyphenation"), 15, &o, lent->room, 256, &lent->len);
+}
+
+static textwrap_status justified_with_hyphens(struct lent *lent) {
+    const textwrap_options o = with_patterns(options_of(1, 0));
+    return textwrap_fill_justified(bytes("a b hyphenation"), 15, &o, lent->room, 256, &lent->len);
 }
 
 static textwrap_status refilled_with_hyphens(struct lent *lent) {
-    const textwrap_dictionary dictionary = textwrap_dictionary_new(patterns, patterns_len);
-    textwrap_options o = options_of(1, 0);
-    return textwrap_refill_hyphenated(bytes("* the\n  hyphenation\n"), 20, &o, &dictionary, lent->room,
-                                      256, &lent->len);
+    const textwrap_options o = with_patterns(options_of(1, 0));
+    return textwrap_refill(bytes("* the\n  hyphenation\n"), 20, &o, lent->room, 256, &lent->len);
 }
 
 static textwrap_status wrapped_with_hyphens(struct lent *lent) {
-    const textwrap_dictionary dictionary = textwrap_dictionary_new(patterns, patterns_len);
-    textwrap_options o = options_of(1, 0);
-    return textwrap_wrap_hyphenated(bytes("the hyphenation"), 15, &o, &dictionary, lent->lines, 64,
-                                    &lent->count, lent->room, 256, &lent->len);
+    const textwrap_options o = with_patterns(options_of(1, 0));
+    return textwrap_wrap(bytes("the hyphenation"), 15, &o, lent->lines, 64, &lent->count, lent->room, 256,
+                         &lent->len);
 }
 
 static textwrap_status in_columns_with_hyphens(struct lent *lent) {
-    const textwrap_dictionary dictionary = textwrap_dictionary_new(patterns, patterns_len);
     const textwrap_gaps gaps = textwrap_gaps_new(text_of("|"), text_of("|"), text_of("|"));
-    textwrap_options o = options_of(1, 0);
+    textwrap_options o = with_patterns(options_of(1, 0));
     o.width = 15;
-    return textwrap_wrap_columns_hyphenated(bytes("the hyphenation"), 15, 2, &o, &gaps, &dictionary,
-                                            lent->lines, 64, &lent->count, lent->room, 256,
-                                            &lent->len);
+    return textwrap_wrap_columns(bytes("the hyphenation"), 15, 2, &o, &gaps, lent->lines, 64,
+                                 &lent->count, lent->room, 256, &lent->len);
+}
+
+static textwrap_status balanced_with_hyphens(struct lent *lent) {
+    const textwrap_options o = with_patterns(options_of(1, 0));
+    return textwrap_wrap_balanced(bytes("the hyphenation"), 15, &o, lent->lines, 64, &lent->count,
+                                  lent->room, 256, &lent->len);
+}
+
+static textwrap_status in_pieces_with_hyphens(struct lent *lent) {
+    const textwrap_options o = with_patterns(options_of(1, 0));
+    return textwrap_pieces(bytes("the hyphenation"), 15, &o, lent->pieces, 16, &lent->count);
+}
+
+static textwrap_status in_a_table_with_hyphens(struct lent *lent) {
+    const textwrap_gaps gaps = textwrap_gaps_new(text_of("|"), text_of("|"), text_of("|"));
+    const textwrap_text cell = text_of("the hyphenation");
+    const textwrap_column column = {with_patterns(options_of(1, 0)), TEXTWRAP_RIGHT, 0};
+    return textwrap_table(&cell, 1, &column, 1, &gaps, lent->lines, 16, &lent->count, lent->room, 256,
+                          &lent->len);
+}
+
+static textwrap_status by_functions_with_hyphens(struct lent *lent) {
+    const textwrap_functions functions = textwrap_functions_new(NULL);
+    const textwrap_options o = with_patterns(options_of(1, 0));
+    return textwrap_fill_by(bytes("the re-hyphenation"), 18, &o, &functions, lent->room, 256, &lent->len);
 }
 
 static textwrap_status in_a_table(struct lent *lent) {
@@ -530,10 +559,15 @@ static const struct call CALLS[] = {
     {"fitting_widths", widths_fitted},
     {"patterns_read", dictionary_read},
     {"hyphen_points", points_of},
-    {"fill_hyphenated", filled_with_hyphens},
-    {"refill_hyphenated", refilled_with_hyphens},
-    {"wrap_hyphenated", wrapped_with_hyphens},
-    {"wrap_columns_hyphenated", in_columns_with_hyphens},
+    {"fill by a dictionary", filled_with_hyphens},
+    {"fill_justified by a dictionary", justified_with_hyphens},
+    {"refill by a dictionary", refilled_with_hyphens},
+    {"wrap by a dictionary", wrapped_with_hyphens},
+    {"wrap_columns by a dictionary", in_columns_with_hyphens},
+    {"wrap_balanced by a dictionary", balanced_with_hyphens},
+    {"pieces by a dictionary", in_pieces_with_hyphens},
+    {"table by a dictionary", in_a_table_with_hyphens},
+    {"fill_by a dictionary", by_functions_with_hyphens},
     {"table", in_a_table},
     {"table_of_lines", lines_in_a_table},
     {"wrap_first_fit", greedily},

@@ -234,17 +234,16 @@ static void long_texts_are_hyphenated(void) {
     size_t numbers[256], numbers_len = 0, line = 0, count = 0, len = 0;
     CHECK(textwrap_patterns_read(bytes(patterns), strlen(patterns), numbers, 256, &numbers_len, &line)
           == TEXTWRAP_DONE);
-    textwrap_dictionary dictionary = textwrap_dictionary_new(numbers, numbers_len);
-    dictionary.is_checked = 1;
+    o.dictionary = textwrap_dictionary_new(numbers, numbers_len);
+    o.dictionary.is_checked = 1;
     o.optimal_fit = 0;
     /* No line stands behind the last line feed. */
     memset(built + BUILT - 11, ' ', 11);
-    CHECK(textwrap_wrap_columns_hyphenated(text, LONG, 1, &o, &none, &dictionary, rows, ROWS, &count,
-                                           room, BUILT, &len)
+    CHECK(textwrap_wrap_columns(text, LONG, 1, &o, &none, rows, ROWS, &count, room, BUILT, &len)
           == TEXTWRAP_DONE);
     CHECK(count == ROWS && is_equal(room, len, built, BUILT));
     CHECK(rows[ROWS - 1].offset == BUILT - 11 && rows[ROWS - 1].len == 11);
-    CHECK(textwrap_refill_hyphenated(text, LONG, &o, &dictionary, room, BUILT, &len) == TEXTWRAP_DONE);
+    CHECK(textwrap_refill(text, LONG, &o, room, BUILT, &len) == TEXTWRAP_DONE);
     CHECK(is_equal(room, len, refilled, REFILLED));
     free(text);
     free(room);

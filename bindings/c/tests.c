@@ -59,14 +59,19 @@ static void each_option_has_its_effect(void) {
 }
 
 static void options_without_a_meaning_are_refused(void) {
-    textwrap_options refused[5];
-    for (int i = 0; i < 5; i++) refused[i] = textwrap_options_new(10);
-    refused[0].version = 2;
+    static const size_t numbers[1] = {0};
+    textwrap_options refused[9];
+    for (int i = 0; i < 9; i++) refused[i] = textwrap_options_new(10);
+    refused[0].version = 1;
     refused[1].optimal_fit = 2;
     refused[2].even_paragraphs = 7;
     refused[3].unicode_breaks = 3;
     refused[4].reserved_sizes[3] = 1;
-    for (int i = 0; i < 5; i++) {
+    refused[5].dictionary.is_checked = 2;
+    refused[6].dictionary.soft_hyphens = 2;
+    refused[7].dictionary.reserved = 1;
+    refused[8].dictionary = textwrap_dictionary_new(numbers, 1);
+    for (int i = 0; i < 9; i++) {
         uint8_t room[4] = "...";
         size_t len = 5;
         CHECK(textwrap_fill(bytes("a"), 1, &refused[i], room, 4, &len) == TEXTWRAP_UNKNOWN_OPTIONS);
@@ -304,7 +309,7 @@ static void wrong_indents_are_refused_beside_known_texts(void) {
         const struct answer a = answer_of(call, 1, text_of("foo"), &o, 64);
         CHECK(a.status == TEXTWRAP_NOT_UTF8 && a.room[0] == 7);
     }
-    o.version = 2;
+    o.version = 1;
     for (int call = 0; call < 3; call++)
         CHECK(answer_of(call, 1, text_of("foo"), &o, 64).status == TEXTWRAP_UNKNOWN_OPTIONS);
 }
@@ -414,7 +419,7 @@ static void texts_are_filled_and_justified(void) {
     o.optimal_fit = 0;
     CHECK(textwrap_fill_justified(bytes("a \xff"), 3, &o, room, sizeof room, &len)
           == TEXTWRAP_NOT_UTF8);
-    o.version = 2;
+    o.version = 1;
     CHECK(textwrap_fill_justified(bytes("a b"), 3, &o, room, sizeof room, &len)
           == TEXTWRAP_UNKNOWN_OPTIONS);
     o.version = TEXTWRAP_VERSION;
@@ -484,7 +489,7 @@ static void reflowing_is_refused(void) {
     uint8_t room[16] = "...";
     size_t len = 7;
     for (int i = 0; i < 8; i++) refused[i] = textwrap_reflow_options_new(16);
-    refused[0].version = 2;
+    refused[0].version = 1;
     refused[1].ending = 3;
     refused[2].justify = 2;
     refused[3].reserved = 1;
@@ -619,7 +624,7 @@ static void carrying_styles_is_refused(void) {
     size_t count = 7, len = 7;
     CHECK(textwrap_carry_styles(wrong, 1, &o, places, 2, &count, room, sizeof room, &len)
           == TEXTWRAP_NOT_UTF8);
-    o.version = 2;
+    o.version = 1;
     CHECK(textwrap_carry_styles(lines, 2, &o, places, 2, &count, room, sizeof room, &len)
           == TEXTWRAP_UNKNOWN_OPTIONS);
     o.version = TEXTWRAP_VERSION;
@@ -644,7 +649,7 @@ static void attributes_are_carried(void) {
     size_t count = 7, len = 7;
     CHECK(textwrap_carry_attributes(wrong, 1, &o, places, 3, &count, room, sizeof room, &len)
           == TEXTWRAP_NOT_UTF8);
-    o.version = 2;
+    o.version = 1;
     CHECK(textwrap_carry_attributes(wrong, 1, &o, places, 3, &count, room, sizeof room, &len)
           == TEXTWRAP_UNKNOWN_OPTIONS);
     o.version = TEXTWRAP_VERSION;
@@ -682,7 +687,7 @@ static void lines_are_balanced(void) {
     textwrap_line lines[2];
     uint8_t room[18] = "...";
     size_t width = 7, count = 7, len = 7;
-    o.version = 2;
+    o.version = 1;
     CHECK(textwrap_balanced_width(bytes("\xff"), 1, &o, &width) == TEXTWRAP_UNKNOWN_OPTIONS);
     CHECK(textwrap_wrap_balanced(bytes("\xff"), 1, &o, lines, 2, &count, room, 18, &len)
           == TEXTWRAP_UNKNOWN_OPTIONS);
@@ -844,48 +849,71 @@ static void a_dictionary_may_be_checked(void) {
     }
 }
 
+/* First fit at a width, by the dictionary of these numbers. */
+static textwrap_options hyphenated(size_t width, const size_t *table, size_t table_len) {
+    textwrap_options o = textwrap_options_new(width);
+    o.optimal_fit = 0;
+    o.dictionary = textwrap_dictionary_new(table, table_len);
+    return o;
+}
+
 static void texts_are_hyphenated(void) {
     const uint8_t *text = bytes("the hyphenation");
-    textwrap_options o = textwrap_options_new(11);
     textwrap_line lines[2];
-    uint8_t room[17] = "...";
+    textwrap_piece pieces[4];
+    uint8_t room[19] = "...";
     size_t table[512], count = 7, len = 7;
     const size_t table_len = read_patterns(table);
-    textwrap_dictionary d = textwrap_dictionary_new(table, table_len);
-    const textwrap_dictionary damaged = textwrap_dictionary_new(table, table_len - 1);
-    o.optimal_fit = 0;
-    o.unicode_breaks = 3;
-    CHECK(textwrap_fill_hyphenated(text, 15, &o, &d, room, 17, &len) == TEXTWRAP_UNKNOWN_OPTIONS);
-    CHECK(textwrap_wrap_hyphenated(text, 15, &o, &d, lines, 2, &count, room, 17, &len)
+    textwrap_options o = hyphenated(11, table, table_len);
+    const textwrap_options damaged = hyphenated(11, table, table_len - 1);
+    o.dictionary.in_parts = 2;
+    CHECK(textwrap_fill(text, 15, &o, room, 17, &len) == TEXTWRAP_UNKNOWN_OPTIONS);
+    CHECK(textwrap_wrap(text, 15, &o, lines, 2, &count, room, 17, &len) == TEXTWRAP_UNKNOWN_OPTIONS);
+    o.dictionary.in_parts = 0;
+    CHECK(textwrap_fill(bytes("\xff"), 1, &damaged, room, 17, &len) == TEXTWRAP_UNKNOWN_OPTIONS);
+    CHECK(textwrap_fill(text, 15, &damaged, room, 17, &len) == TEXTWRAP_UNKNOWN_OPTIONS);
+    CHECK(textwrap_wrap(text, 15, &damaged, lines, 2, &count, room, 17, &len)
           == TEXTWRAP_UNKNOWN_OPTIONS);
-    o.unicode_breaks = 0;
-    d.in_parts = 2;
-    CHECK(textwrap_fill_hyphenated(text, 15, &o, &d, room, 17, &len) == TEXTWRAP_UNKNOWN_OPTIONS);
-    CHECK(textwrap_wrap_hyphenated(text, 15, &o, &d, lines, 2, &count, room, 17, &len)
-          == TEXTWRAP_UNKNOWN_OPTIONS);
-    d.in_parts = 0;
-    CHECK(textwrap_fill_hyphenated(bytes("\xff"), 1, &o, &damaged, room, 17, &len)
-          == TEXTWRAP_NOT_UTF8);
-    CHECK(textwrap_wrap_hyphenated(bytes("\xff"), 1, &o, &damaged, lines, 2, &count, room, 17, &len)
-          == TEXTWRAP_NOT_UTF8);
-    CHECK(textwrap_fill_hyphenated(text, 15, &o, &damaged, room, 17, &len) == TEXTWRAP_DAMAGED_TABLE);
-    CHECK(textwrap_wrap_hyphenated(text, 15, &o, &damaged, lines, 2, &count, room, 17, &len)
-          == TEXTWRAP_DAMAGED_TABLE);
+    CHECK(textwrap_balanced_width(text, 15, &damaged, &count) == TEXTWRAP_UNKNOWN_OPTIONS);
+    CHECK(textwrap_fill(bytes("\xff"), 1, &o, room, 17, &len) == TEXTWRAP_NOT_UTF8);
     CHECK(count == 7 && len == 7 && memcmp(room, "...", 4) == 0);
-    CHECK(textwrap_fill_hyphenated(text, 15, &o, &d, room, 16, &len) == TEXTWRAP_TOO_SMALL);
+    CHECK(textwrap_fill(text, 15, &o, room, 16, &len) == TEXTWRAP_TOO_SMALL);
     CHECK(len == 17 && memcmp(room, "the hyphen-\nati", 15) == 0);
-    for (d.is_checked = 0; d.is_checked <= 1; d.is_checked++) {
-        CHECK(textwrap_fill_hyphenated(text, 15, &o, &d, room, 17, &len) == TEXTWRAP_DONE);
+    for (o.dictionary.is_checked = 0; o.dictionary.is_checked <= 1; o.dictionary.is_checked++) {
+        CHECK(textwrap_fill(text, 15, &o, room, 17, &len) == TEXTWRAP_DONE);
+        CHECK(is_text(room, len, "the hyphen-\nation"));
+        CHECK(textwrap_fill_utf8(text, 15, &o, room, 17, &len) == TEXTWRAP_DONE);
         CHECK(is_text(room, len, "the hyphen-\nation"));
     }
-    d.is_checked = 1;
-    CHECK(textwrap_wrap_hyphenated(text, 15, &o, &d, lines, 2, &count, room, 10, &len)
-          == TEXTWRAP_TOO_SMALL);
+    o.dictionary.is_checked = 1;
+    CHECK(textwrap_fill_bound(15, &o) == 46 && textwrap_wrap_room_bound(15, &o) == 31);
+    CHECK(textwrap_wrap(text, 15, &o, lines, 2, &count, room, 10, &len) == TEXTWRAP_TOO_SMALL);
     CHECK(count == 2 && len == 11);
-    CHECK(textwrap_wrap_hyphenated(text, 15, &o, &d, lines, 2, &count, room, 11, &len)
-          == TEXTWRAP_DONE);
+    CHECK(textwrap_wrap(text, 15, &o, lines, 2, &count, room, 11, &len) == TEXTWRAP_DONE);
     CHECK(count == 2 && is_text(room, len, "the hyphen-"));
     CHECK(is_place(&lines[0], 0, 11, 1) && is_place(&lines[1], 10, 5, 0));
+    CHECK(textwrap_balanced_width(text, 15, &o, &count) == TEXTWRAP_DONE && count == 9);
+    CHECK(textwrap_wrap_balanced(text, 15, &o, lines, 2, &count, room, 7, &len) == TEXTWRAP_DONE);
+    CHECK(count == 2 && is_text(room, len, "the hy-") && is_place(&lines[1], 6, 9, 0));
+    CHECK(textwrap_pieces(text, 15, &o, pieces, 4, &count) == TEXTWRAP_DONE && count == 4);
+    CHECK(pieces[1].penalty_len == 1 && pieces[2].penalty_len == 1 && pieces[3].penalty_len == 0);
+    CHECK(pieces[2].offset == 6 && pieces[2].len == 4 && pieces[2].width == 4);
+    o.width = 13;
+    CHECK(textwrap_fill_justified(bytes("a b hyphenation"), 15, &o, room, 19, &len) == TEXTWRAP_DONE);
+    CHECK(is_text(room, len, "a  b  hyphen-\nation"));
+}
+
+/* A soft hyphen is not seen, or is the only point of its word. */
+static void soft_hyphens_are_points(void) {
+    const uint8_t *text = bytes("the hy\xc2\xadphenation");
+    uint8_t room[19];
+    size_t table[512], len = 7;
+    textwrap_options o = hyphenated(11, table, read_patterns(table));
+    CHECK(textwrap_fill(text, 17, &o, room, 19, &len) == TEXTWRAP_DONE);
+    CHECK(is_text(room, len, "the hy\xc2\xadphen-\nation"));
+    o.dictionary.soft_hyphens = 1;
+    CHECK(textwrap_fill(text, 17, &o, room, 19, &len) == TEXTWRAP_DONE);
+    CHECK(is_text(room, len, "the hy\xc2\xad-\nphenation"));
 }
 
 /* Two ideographs before a word: at blanks all are one word. */
@@ -896,88 +924,66 @@ static void hyphenated_words_end_at_unicode_breaks(void) {
         "\xe4\xbd\xa0\xe5\xa5\xbd\nhy-\nphen-\nation",
         "\xe4\xbd\xa0\xe5\xa5\xbd\nhy-\nphen-\nation",
     };
-    textwrap_options o = textwrap_options_new(6);
     size_t table[512];
-    textwrap_dictionary d = textwrap_dictionary_new(table, read_patterns(table));
-    uint32_t breaks;
-    o.optimal_fit = 0;
-    for (breaks = 0; breaks <= 2; breaks++) {
-        uint8_t room[32];
-        size_t len = 0;
-        o.unicode_breaks = breaks;
-        CHECK(textwrap_fill_hyphenated(bytes(text), strlen(text), &o, &d, room, sizeof room, &len)
-              == TEXTWRAP_DONE);
-        CHECK(len == strlen(filled[breaks]) && memcmp(room, filled[breaks], len) == 0);
-    }
+    textwrap_options o = hyphenated(6, table, read_patterns(table));
+    for (o.unicode_breaks = 0; o.unicode_breaks <= 2; o.unicode_breaks++)
+        CHECK(is_filled(o, text, filled[o.unicode_breaks]));
 }
 
 static void filled_texts_are_hyphenated(void) {
     const uint8_t *text = bytes("// the\n// hyphenation\n"), *filled = bytes("// the hyphen-\n// ation\n");
-    textwrap_options o = textwrap_options_new(14);
     uint8_t room[24] = "...";
     size_t table[512], len = 7;
     const size_t table_len = read_patterns(table);
-    textwrap_dictionary d = textwrap_dictionary_new(table, table_len);
-    const textwrap_dictionary damaged = textwrap_dictionary_new(table, table_len - 1);
-    o.optimal_fit = 0;
+    textwrap_options o = hyphenated(14, table, table_len);
+    const textwrap_options damaged = hyphenated(14, table, table_len - 1);
     o.initial_indent = text_of("not used");
-    d.in_parts = 2;
-    CHECK(textwrap_refill_hyphenated(text, 22, &o, &d, room, 24, &len) == TEXTWRAP_UNKNOWN_OPTIONS);
-    d.in_parts = 0;
-    o.unicode_breaks = 3;
-    CHECK(textwrap_refill_hyphenated(text, 22, &o, &d, room, 24, &len) == TEXTWRAP_UNKNOWN_OPTIONS);
-    o.unicode_breaks = 0;
-    CHECK(textwrap_refill_hyphenated(bytes("\xff"), 1, &o, &damaged, room, 24, &len)
-          == TEXTWRAP_NOT_UTF8);
-    CHECK(textwrap_refill_hyphenated(text, 22, &o, &damaged, room, 24, &len)
-          == TEXTWRAP_DAMAGED_TABLE);
+    o.dictionary.in_parts = 2;
+    CHECK(textwrap_refill(text, 22, &o, room, 24, &len) == TEXTWRAP_UNKNOWN_OPTIONS);
+    o.dictionary.in_parts = 0;
+    CHECK(textwrap_refill(bytes("\xff"), 1, &o, room, 24, &len) == TEXTWRAP_NOT_UTF8);
+    CHECK(textwrap_refill(text, 22, &damaged, room, 24, &len) == TEXTWRAP_UNKNOWN_OPTIONS);
     CHECK(len == 7 && memcmp(room, "...", 4) == 0);
-    CHECK(textwrap_refill_hyphenated(text, 22, &o, &d, room, 4, &len) == TEXTWRAP_TOO_SMALL);
+    CHECK(textwrap_refill(text, 22, &o, room, 4, &len) == TEXTWRAP_TOO_SMALL);
     CHECK(len == 24 && memcmp(room, "// t", 5) == 0);
-    CHECK(textwrap_refill_hyphenated(text, 22, &o, &d, room, 24, &len) == TEXTWRAP_DONE);
+    CHECK(textwrap_refill(text, 22, &o, room, 24, &len) == TEXTWRAP_DONE);
     CHECK(is_text(room, len, "// the hyphen-\n// ation\n"));
     o.width = 20;
-    CHECK(textwrap_refill_hyphenated(filled, 24, &o, &d, room, 24, &len) == TEXTWRAP_DONE);
+    CHECK(textwrap_refill(filled, 24, &o, room, 24, &len) == TEXTWRAP_DONE);
     CHECK(is_text(room, len, "// the hyphen- ation\n"));
 }
 
 static void columns_are_hyphenated(void) {
     const uint8_t *text = bytes("the hyphenation");
-    textwrap_options o = textwrap_options_new(15);
-    textwrap_gaps bar = textwrap_gaps_new(text_of(""), text_of("|"), text_of(""));
-    const textwrap_gaps wrong = textwrap_gaps_new(text_of(""), text_of("\xff"), text_of(""));
+    const textwrap_gaps bar = textwrap_gaps_new(text_of(""), text_of("|"), text_of(""));
+    const textwrap_text cell = text_of("the hyphenation");
     textwrap_line rows[2];
     uint8_t room[30] = "...";
     size_t table[512], count = 7, len = 7;
     const size_t table_len = read_patterns(table);
-    textwrap_dictionary d = textwrap_dictionary_new(table, table_len);
-    const textwrap_dictionary damaged = textwrap_dictionary_new(table, table_len - 1);
-    o.optimal_fit = 0;
-    CHECK(textwrap_wrap_columns_hyphenated(bytes("\xff"), 1, 0, &o, &bar, &d, rows, 2, &count, room, 30,
-                                           &len)
+    textwrap_options o = hyphenated(15, table, table_len);
+    const textwrap_options damaged = hyphenated(15, table, table_len - 1);
+    textwrap_column column = {hyphenated(11, table, table_len), TEXTWRAP_RIGHT, 0};
+    o.dictionary.is_checked = 2;
+    CHECK(textwrap_wrap_columns(text, 15, 2, &o, &bar, rows, 2, &count, room, 30, &len)
           == TEXTWRAP_UNKNOWN_OPTIONS);
-    bar.reserved_sizes[3] = 1;
-    CHECK(textwrap_wrap_columns_hyphenated(text, 15, 2, &o, &bar, &d, rows, 2, &count, room, 30, &len)
+    o.dictionary.is_checked = 0;
+    CHECK(textwrap_wrap_columns(text, 15, 2, &damaged, &bar, rows, 2, &count, room, 30, &len)
           == TEXTWRAP_UNKNOWN_OPTIONS);
-    bar.reserved_sizes[3] = 0;
-    d.is_checked = 2;
-    CHECK(textwrap_wrap_columns_hyphenated(text, 15, 2, &o, &bar, &d, rows, 2, &count, room, 30, &len)
-          == TEXTWRAP_UNKNOWN_OPTIONS);
-    d.is_checked = 0;
-    CHECK(textwrap_wrap_columns_hyphenated(text, 15, 2, &o, &wrong, &damaged, rows, 2, &count, room, 30,
-                                           &len)
-          == TEXTWRAP_NOT_UTF8);
-    CHECK(textwrap_wrap_columns_hyphenated(text, 15, 2, &o, &bar, &damaged, rows, 2, &count, room, 30,
-                                           &len)
-          == TEXTWRAP_DAMAGED_TABLE);
     CHECK(count == 7 && len == 7 && memcmp(room, "...", 4) == 0);
-    CHECK(textwrap_wrap_columns_hyphenated(text, 15, 2, &o, &bar, &d, rows, 1, &count, room, 3, &len)
+    CHECK(textwrap_wrap_columns(text, 15, 2, &o, &bar, rows, 1, &count, room, 3, &len)
           == TEXTWRAP_TOO_SMALL);
     CHECK(count == 2 && len == 30 && memcmp(room, "the", 4) == 0 && is_place(&rows[0], 0, 15, 1));
-    CHECK(textwrap_wrap_columns_hyphenated(text, 15, 2, &o, &bar, &d, rows, 2, &count, room, 30, &len)
+    CHECK(textwrap_wrap_columns(text, 15, 2, &o, &bar, rows, 2, &count, room, 30, &len)
           == TEXTWRAP_DONE);
     CHECK(count == 2 && is_text(room, len, "the hy-|ation  phen-  |       "));
     CHECK(is_place(&rows[0], 0, 15, 1) && is_place(&rows[1], 15, 15, 1));
+    CHECK(textwrap_wrap_columns_room_bound(15, 2, &o, &bar) == 159);
+    CHECK(textwrap_table(&cell, 1, &column, 1, &bar, rows, 2, &count, room, 30, &len) == TEXTWRAP_DONE);
+    CHECK(count == 2 && is_text(room, len, "the hyphen-      ation"));
+    column.options = damaged;
+    CHECK(textwrap_table(&cell, 1, &column, 1, &bar, rows, 2, &count, room, 30, &len)
+          == TEXTWRAP_UNKNOWN_OPTIONS);
 }
 
 /* A column with words by first fit. */
@@ -1093,7 +1099,7 @@ static void wrong_tables_are_refused(void) {
         columns[1] = column_of(4, TEXTWRAP_LEFT);
         if (i == 0) columns[1].alignment = 3;
         if (i == 1) columns[1].reserved = 1;
-        if (i == 2) columns[1].options.version = 2;
+        if (i == 2) columns[1].options.version = 1;
         CHECK(textwrap_table(cells, 2, columns, 2, &gaps, rows, 1, &count, room, 16, &len)
               == TEXTWRAP_UNKNOWN_OPTIONS);
     }
@@ -1658,18 +1664,8 @@ static void a_pointer_to_nothing_may_be_null(void) {
     CHECK(textwrap_patterns_check(NULL, 0) == TEXTWRAP_DAMAGED_TABLE);
     textwrap_dictionary none = textwrap_dictionary_new(NULL, 0);
     CHECK(textwrap_hyphen_points(&none, NULL, 0, NULL, 0, &count) == TEXTWRAP_DAMAGED_TABLE);
-    CHECK(textwrap_fill_hyphenated(NULL, 0, &o, &none, NULL, 0, &len) == TEXTWRAP_DAMAGED_TABLE);
     none.is_checked = 1;
     CHECK(textwrap_hyphen_points(&none, NULL, 0, NULL, 0, &count) == TEXTWRAP_DONE && count == 0);
-    CHECK(textwrap_fill_hyphenated(NULL, 0, &o, &none, NULL, 0, &len) == TEXTWRAP_DONE && len == 0);
-    CHECK(textwrap_refill_hyphenated(NULL, 0, &o, &none, NULL, 0, &len) == TEXTWRAP_DONE && len == 0);
-    CHECK(textwrap_wrap_hyphenated(NULL, 0, &o, &none, line, 1, &count, NULL, 0, &len)
-          == TEXTWRAP_DONE);
-    CHECK(count == 1 && len == 0);
-    CHECK(textwrap_wrap_columns_hyphenated(NULL, 0, 1, &o, &gaps, &none, line, 1, &count, room, 10,
-                                           &len)
-          == TEXTWRAP_DONE);
-    CHECK(count == 1 && len == 10);
     CHECK(textwrap_table(NULL, 0, NULL, 0, &gaps, NULL, 0, &count, NULL, 0, &len) == TEXTWRAP_DONE);
     CHECK(count == 0 && len == 0);
     CHECK(textwrap_table_of_lines(NULL, 0, NULL, 0, &gaps, NULL, 0, &count, NULL, 0, &len)
@@ -1731,6 +1727,7 @@ int main(void) {
     words_have_points();
     a_dictionary_may_be_checked();
     texts_are_hyphenated();
+    soft_hyphens_are_points();
     hyphenated_words_end_at_unicode_breaks();
     filled_texts_are_hyphenated();
     columns_are_hyphenated();

@@ -34,14 +34,14 @@
  *     }
  *
  * A call returns TEXTWRAP_DONE, NOT_UTF8 if a text is not UTF-8, OUT_OF_MEMORY, TOO_SMALL as above, or
- * UNKNOWN_OPTIONS; those by fragments or places have OVERFLOW or WRONG_PLACES too, and those by a
- * dictionary WRONG_PATTERNS or DAMAGED_TABLE. If it returns fewer, its comment says which.
+ * UNKNOWN_OPTIONS; those by fragments or places have OVERFLOW or WRONG_PLACES too, and those on a
+ * dictionary alone WRONG_PATTERNS or DAMAGED_TABLE. If it returns fewer, its comment says which.
  *
  * A text is a pointer and a length in bytes. A pointer is aligned as its type asks, and is not null, but
  * for that of an array of length 0. (null.c sees to these. A program that links the library without it
  * hands in no null pointer.) Within an array no pointer is null, even that of a text without a byte: not
- * in a list of texts or of cells, nor in the lists of options, and not in the indents of a table's
- * columns.
+ * in a list of texts or of cells, nor in the lists of options, and not in the indents and dictionaries of
+ * a table's columns.
  * What a call gives is written into room that the caller hands in and owns; the library keeps no
  * pointer and leaves nothing allocated behind. The room may be uninitialised. It overlaps nothing
  * else that is handed to the same call, and `count` and `len` are two places. If the room is too small,
@@ -81,7 +81,7 @@ typedef enum {
     TEXTWRAP_OUT_OF_MEMORY = 2,   /* memory ran out */
     TEXTWRAP_TOO_SMALL = 3,       /* the room is too small, and what suffices is reported */
     TEXTWRAP_UNKNOWN_OPTIONS = 4, /* another version, a number that means nothing, one in reserve that
-                                   * is not 0, or a text in no columns */
+                                   * is not 0, a damaged dictionary, or a text in no columns */
     TEXTWRAP_OVERFLOW = 5,        /* a sum of widths or a cost needs more than 128 bits */
     TEXTWRAP_WRONG_PLACES = 6,    /* offsets that do not increase, or are no places to cut at */
     TEXTWRAP_WRONG_PATTERNS = 7,  /* a line of a dictionary is wrong, which is reported */
@@ -126,8 +126,43 @@ typedef struct {
     size_t len;        /* in bytes */
 } textwrap_text;
 
+/* A dictionary of hyphenation in numbers, and how it is used. Take it from textwrap_dictionary_new, so that
+ * later fields have their defaults. A number that says yes or no is 1 or 0. */
+typedef struct {
+    const size_t *numbers; /* what textwrap_patterns_read wrote */
+    size_t numbers_len;    /* how many they are */
+    uint32_t in_parts;     /* the parts of a word with a hyphen are hyphenated too; else it has no points */
+    uint32_t is_checked;   /* the numbers are not tested, as textwrap_patterns_read wrote them or
+                            * textwrap_patterns_check returned DONE for them; else each call tests them. Of
+                            * damaged numbers that are not tested a word has points that mean nothing, and
+                            * nothing worse: they increase inside the word all the same, and no other
+                            * memory is read */
+    uint32_t soft_hyphens; /* soft hyphens (U+00AD) are the only points of a word in which a letter stands
+                            * directly behind one */
+    uint32_t reserved;     /* 0 */
+    size_t left;           /* how many letters stay before a point; 0: as many as the numbers say */
+    size_t right;          /* how many stay behind a point; 0: as many as the numbers say */
+} textwrap_dictionary;
+
+/* A dictionary of these numbers, which each call tests, and which gives a word with a hyphen no points.
+ * A test takes longer than to find the points of a word, so a program with more than one word or text
+ * checks once:
+ *
+ *     textwrap_options options = textwrap_options_new(40);
+ *     options.dictionary = textwrap_dictionary_new(numbers, numbers_len);
+ *     if (textwrap_patterns_check(numbers, numbers_len)) return 1;
+ *     options.dictionary.is_checked = 1;
+ */
+static inline textwrap_dictionary textwrap_dictionary_new(const size_t *numbers, size_t numbers_len) {
+    textwrap_dictionary dictionary;
+    memset(&dictionary, 0, sizeof dictionary);
+    dictionary.numbers = numbers;
+    dictionary.numbers_len = numbers_len;
+    return dictionary;
+}
+
 /* The version of textwrap_options. */
-#define TEXTWRAP_VERSION 1u
+#define TEXTWRAP_VERSION 2u
 
 /* How a text is wrapped. Take it from textwrap_options_new and change what has to differ, so that
  * later options have their defaults. A number that says yes or no is 1 or 0. */
@@ -149,13 +184,19 @@ typedef struct {
     size_t overflow_penalty;         /* for each column past the width */
     size_t short_last_line_fraction; /* a last word narrower than width / this is short */
     size_t short_last_line_penalty;  /* for a short last line of one piece */
-    size_t hyphen_penalty;           /* for a line that ends in an added hyphen; no splitter here adds any */
-    size_t reserved_sizes[4];        /* 0 */
+    size_t hyphen_penalty;           /* for a line that ends in a hyphen which a dictionary adds */
+    /* The dictionary that splits words: where it has hyphens, and behind a hyphen between letters or
+     * digits, whatever split_at_hyphens says. A hyphen is written where a line ends at a point of the
+     * dictionary; a part of a word that just fits the line passes it by that. Without numbers there is
+     * none. One that is tested and was damaged is TEXTWRAP_UNKNOWN_OPTIONS. */
+    textwrap_dictionary dictionary;
+    size_t reserved_sizes[4]; /* 0 */
 } textwrap_options;
 
-/* The library's defaults at a width: lines of the least cost, without indents. */
+/* The library's defaults at a width: lines of the least cost, without indents and a dictionary. */
 static inline textwrap_options textwrap_options_new(size_t width) {
     static const uint8_t none[1] = {0};
+    static const size_t no_numbers[1] = {0};
     textwrap_options options;
     memset(&options, 0, sizeof options);
     options.version = TEXTWRAP_VERSION;
@@ -170,6 +211,7 @@ static inline textwrap_options textwrap_options_new(size_t width) {
     options.short_last_line_fraction = 4;
     options.short_last_line_penalty = 25;
     options.hyphen_penalty = 25;
+    options.dictionary.numbers = no_numbers;
     return options;
 }
 
@@ -185,7 +227,9 @@ textwrap_status textwrap_strip_ansi_escape_sequences(const uint8_t *text, size_t
                                                      uint8_t *room, size_t room_len, size_t *len);
 
 /* Writes the filled text to the front of the room, and its length. At 10 columns "foo bar baz" is
- * "foo bar\nbaz", and room of 5 bytes holds "foo b". By first fit at blanks it allocates nothing. */
+ * "foo bar\nbaz", and room of 5 bytes holds "foo b". By first fit at blanks, without a dictionary, it
+ * allocates nothing. With the patterns of hy-phen-ation "the hyphenation" is "the hyphen-\nation" at 11
+ * columns by first fit. */
 TEXTWRAP_CHECKED
 textwrap_status textwrap_fill(const uint8_t *text, size_t text_len, const textwrap_options *options,
                               uint8_t *room, size_t room_len, size_t *len);
@@ -198,11 +242,11 @@ typedef struct {
 } textwrap_line;
 
 /* Writes where the lines of the text stand, and how many they are. A part of the text is reported at
- * the place that it was cut from, so an empty line at its own paragraph. Lines with an indent are
- * written to the room, one after another, and `len` is that of all of them; without indents no room
- * is needed. TOO_SMALL reports both `count` and `len`: a first call may bring no lines and no room,
- * and a second one what the first has reported. With room for some of the lines, the first of them are
- * written. By first fit at blanks it allocates nothing. */
+ * the place that it was cut from, so an empty line at its own paragraph. Lines with an indent
+ * or a hyphen of a dictionary are written to the room, one after another, and `len` is that of all of
+ * them; without both no room is needed. TOO_SMALL reports both `count` and `len`: a first call may bring
+ * no lines and no room, and a second one what the first has reported. With room for some of the lines,
+ * the first of them are written. By first fit at blanks, without a dictionary, it allocates nothing. */
 TEXTWRAP_CHECKED
 textwrap_status textwrap_wrap(const uint8_t *text, size_t text_len, const textwrap_options *options,
                               textwrap_line *lines, size_t lines_len, size_t *count, uint8_t *room,
@@ -250,7 +294,8 @@ textwrap_status textwrap_rows_of_lines(const textwrap_text *lines, size_t lines_
                                        size_t rows_len, size_t *count, uint8_t *room,
                                        size_t room_len, size_t *len);
 
-/* Fills a filled text again, with the indents that it has; those of the options are not used. */
+/* Fills a filled text again, with the indents that it has; those of the options are not used. A hyphen
+ * that a dictionary added before stays, with a blank behind it. */
 TEXTWRAP_CHECKED
 textwrap_status textwrap_refill(const uint8_t *text, size_t text_len,
                                 const textwrap_options *options, uint8_t *room, size_t room_len,
@@ -433,7 +478,7 @@ textwrap_status textwrap_carry_attributes(const textwrap_text *lines, size_t lin
 
 /* Writes the lines of a text as textwrap_wrap does, balanced, as titles and centred texts should be: as
  * many as first fit makes at the width of the options, and about equally wide. They are those of first
- * fit at the width of textwrap_balanced_width. At blanks nothing is allocated. */
+ * fit at the width of textwrap_balanced_width. At blanks, without a dictionary, nothing is allocated. */
 TEXTWRAP_CHECKED
 textwrap_status textwrap_wrap_balanced(const uint8_t *text, size_t text_len,
                                        const textwrap_options *options, textwrap_line *lines,
@@ -443,8 +488,8 @@ textwrap_status textwrap_wrap_balanced(const uint8_t *text, size_t text_len,
 /* Writes the least width at which first fit takes no more lines of a text than at the width of the
  * options, and at which there is room for the wider of the indents and, after it, for any one word,
  * split but not broken. Where some word has no room at the width of the options, it is that width. The
- * algorithm of the options is not used. DONE, NOT_UTF8, UNKNOWN_OPTIONS or OUT_OF_MEMORY; at blanks
- * nothing is allocated. */
+ * algorithm of the options is not used. DONE, NOT_UTF8, UNKNOWN_OPTIONS or OUT_OF_MEMORY; at blanks,
+ * without a dictionary, nothing is allocated. */
 TEXTWRAP_CHECKED
 textwrap_status textwrap_balanced_width(const uint8_t *text, size_t text_len,
                                         const textwrap_options *options, size_t *width);
@@ -513,38 +558,6 @@ textwrap_status textwrap_patterns_read(const uint8_t *text, size_t text_len, siz
 TEXTWRAP_CHECKED
 textwrap_status textwrap_patterns_check(const size_t *numbers, size_t numbers_len);
 
-/* A dictionary, as the calls take it. Take it from textwrap_dictionary_new, so that later fields have
- * their defaults. */
-typedef struct {
-    const size_t *numbers;    /* what textwrap_patterns_read wrote */
-    size_t numbers_len;       /* how many they are */
-    uint32_t in_parts;        /* 1: the parts of a word with a hyphen are hyphenated too; 0: such a word
-                               * has no points */
-    uint32_t is_checked;      /* 1: the numbers are not tested, as textwrap_patterns_read wrote them or
-                               * textwrap_patterns_check returned DONE for them; 0: each call tests them.
-                               * Of damaged numbers that are not tested a word has points that mean
-                               * nothing, and nothing worse: they increase inside the word all the same,
-                               * and no other memory is read */
-    size_t left;              /* how many letters stay before a point; 0: as many as the numbers say */
-    size_t right;             /* how many stay behind a point; 0: as many as the numbers say */
-} textwrap_dictionary;
-
-/* A dictionary of these numbers, which each call tests, and which gives a word with a hyphen no points.
- * A test takes longer than to find the points of a word, so a program with more than one word or text
- * checks once:
- *
- *     textwrap_dictionary dictionary = textwrap_dictionary_new(numbers, numbers_len);
- *     if (textwrap_patterns_check(numbers, numbers_len)) return 1;
- *     dictionary.is_checked = 1;
- */
-static inline textwrap_dictionary textwrap_dictionary_new(const size_t *numbers, size_t numbers_len) {
-    textwrap_dictionary dictionary;
-    memset(&dictionary, 0, sizeof dictionary);
-    dictionary.numbers = numbers;
-    dictionary.numbers_len = numbers_len;
-    return dictionary;
-}
-
 /* Writes the offsets in bytes at which a word has a hyphen by a dictionary: 2 and 6 for "hyphenation"
  * with the patterns of hy-phen-ation. They increase, and are character boundaries inside the word.
  * UNKNOWN_OPTIONS for a dictionary that is not known, and DAMAGED_TABLE as textwrap_patterns_check, where
@@ -553,47 +566,6 @@ TEXTWRAP_CHECKED
 textwrap_status textwrap_hyphen_points(const textwrap_dictionary *dictionary, const uint8_t *word,
                                        size_t word_len, size_t *points, size_t points_len,
                                        size_t *count);
-
-/* Writes the filled text as textwrap_fill does, but that words are split where a dictionary has hyphens,
- * and behind a hyphen between letters or digits, whether or not the options say so. A hyphen is written
- * where a line ends at a point of the dictionary; a part of a word that just fits the line passes it by
- * that. With the patterns of hy-phen-ation "the hyphenation" is "the hyphen-\nation" at 11 columns by
- * first fit. UNKNOWN_OPTIONS and DAMAGED_TABLE for the dictionary as in textwrap_hyphen_points. */
-TEXTWRAP_CHECKED
-textwrap_status textwrap_fill_hyphenated(const uint8_t *text, size_t text_len,
-                                         const textwrap_options *options,
-                                         const textwrap_dictionary *dictionary, uint8_t *room,
-                                         size_t room_len, size_t *len);
-
-/* Fills a filled text again as textwrap_refill does, but that words are split so: "// the\n// hyphenation"
- * is "// the hyphen-\n// ation" at 14 columns by first fit. A hyphen that was added before stays, with a
- * blank behind it. */
-TEXTWRAP_CHECKED
-textwrap_status textwrap_refill_hyphenated(const uint8_t *text, size_t text_len,
-                                           const textwrap_options *options,
-                                           const textwrap_dictionary *dictionary, uint8_t *room,
-                                           size_t room_len, size_t *len);
-
-/* Writes the lines of the filled text as textwrap_wrap does. A line with a hyphen that is written stands
- * in the room. */
-TEXTWRAP_CHECKED
-textwrap_status textwrap_wrap_hyphenated(const uint8_t *text, size_t text_len,
-                                         const textwrap_options *options,
-                                         const textwrap_dictionary *dictionary, textwrap_line *lines,
-                                         size_t lines_len, size_t *count, uint8_t *room,
-                                         size_t room_len, size_t *len);
-
-/* Wraps the text into columns as textwrap_wrap_columns does, but that words are split so: "the
- * hyphenation" has the rows "the hy-|ation  " and "phen-  |       " at 15 columns by first fit, in two
- * columns with a bar between them. */
-TEXTWRAP_CHECKED
-textwrap_status textwrap_wrap_columns_hyphenated(const uint8_t *text, size_t text_len,
-                                                 size_t columns, const textwrap_options *options,
-                                                 const textwrap_gaps *gaps,
-                                                 const textwrap_dictionary *dictionary,
-                                                 textwrap_line *rows, size_t rows_len,
-                                                 size_t *count, uint8_t *room, size_t room_len,
-                                                 size_t *len);
 
 /* ---- Fragments of the caller's own, and the two algorithms */
 
@@ -906,7 +878,8 @@ textwrap_status textwrap_display_width_utf8(const uint8_t *text, size_t text_len
  * these textwrap_unfill, textwrap_indent and textwrap_dedent allocate nothing. */
 
 /* How many bytes textwrap_fill writes at most for a text of so many bytes, by these options: each byte
- * on a line of its own, after a line ending and the subsequent indent, and the initial indent. */
+ * on a line of its own, after a line ending and the subsequent indent, and the initial indent; with a
+ * dictionary a hyphen behind each line. */
 TEXTWRAP_CHECKED
 size_t textwrap_fill_bound(size_t text_len, const textwrap_options *options);
 
@@ -914,8 +887,8 @@ size_t textwrap_fill_bound(size_t text_len, const textwrap_options *options);
 TEXTWRAP_CHECKED
 size_t textwrap_wrap_lines_bound(size_t text_len);
 
-/* How many bytes textwrap_wrap writes at most to the room, for lines with an indent: without indents
- * none. */
+/* How many bytes textwrap_wrap writes at most to the room, for lines with an indent or a hyphen: without
+ * indents and a dictionary none. */
 TEXTWRAP_CHECKED
 size_t textwrap_wrap_room_bound(size_t text_len, const textwrap_options *options);
 

@@ -9,12 +9,6 @@ static size_t *numbers, numbers_len;
 
 const page_answer *page_answered(void) { return &answer; }
 
-static textwrap_dictionary dictionary(void) {
-    textwrap_dictionary read = textwrap_dictionary_new(numbers, numbers_len);
-    read.is_checked = 1;
-    return read;
-}
-
 /* ---- The pieces of a paragraph */
 
 /* How a paragraph of so many bytes is cut; each list has room for the most that there may be. */
@@ -24,31 +18,25 @@ typedef struct {
     size_t pieces_len, cuts_len, points_len, ends_len;
 } page_steps;
 
-static textwrap_status read_points(const uint8_t *word, size_t len, size_t *points, size_t *count) {
-    textwrap_status status = TEXTWRAP_DONE;
-    *count = 0;
-    if (numbers != NULL) {
-        textwrap_dictionary read = dictionary();
-        status = textwrap_hyphen_points(&read, word, len, points, len, count);
-    }
-    /* A word with hyphens has no points of a dictionary. */
-    if (status != TEXTWRAP_DONE || *count > 0) return status;
-    return textwrap_split_points(word, len, points, len, count);
+/* Where the pieces of a paragraph by these options begin, but for the first. */
+static textwrap_status find_places(const uint8_t *text, size_t len, const textwrap_options *options,
+                                   textwrap_piece *pieces, size_t *places, size_t *places_len) {
+    size_t count = 0;
+    textwrap_status status = textwrap_pieces(text, len, options, pieces, len + 2, &count);
+    if (status != TEXTWRAP_DONE) return status;
+    for (size_t i = 1; i < count; i++) places[(*places_len)++] = pieces[i].offset;
+    return status;
 }
 
-/* The words, where they begin, and where they may be split. */
+/* Where words begin, and where they may be split: where they begin is no point of one. */
 static textwrap_status find_steps(const uint8_t *text, size_t len, textwrap_options options, page_steps *steps) {
-    size_t words, count;
-    options.split_at_hyphens = options.break_words = 0;
-    textwrap_status status = textwrap_pieces(text, len, &options, steps->pieces, len + 2, &words);
-    for (size_t i = 0; i < words && status == TEXTWRAP_DONE; i++) {
-        textwrap_piece word = steps->pieces[i];
-        if (i > 0) steps->cuts[steps->cuts_len++] = word.offset;
-        status = read_points(text + word.offset, word.len, steps->points + steps->points_len, &count);
-        if (status != TEXTWRAP_DONE) return status;
-        for (; count > 0; count--) steps->points[steps->points_len++] += word.offset;
-    }
-    return status;
+    options.break_words = 0;
+    textwrap_status status =
+        find_places(text, len, &options, steps->pieces, steps->points, &steps->points_len);
+    if (status != TEXTWRAP_DONE) return status;
+    options.split_at_hyphens = 0;
+    options.dictionary.numbers_len = 0;
+    return find_places(text, len, &options, steps->pieces, steps->cuts, &steps->cuts_len);
 }
 
 static textwrap_status find_lines(const uint8_t *text, size_t len, const textwrap_options *options,
@@ -90,17 +78,10 @@ static void measure(const page_steps *steps, const textwrap_options *options, pa
 
 /* ---- The calls */
 
-static textwrap_status fill(const uint8_t *text, size_t len, const textwrap_options *options, uint8_t *room,
-                            size_t room_len) {
-    if (numbers == NULL) return textwrap_fill(text, len, options, room, room_len, &answer.text_len);
-    textwrap_dictionary read = dictionary();
-    return textwrap_fill_hyphenated(text, len, options, &read, room, room_len, &answer.text_len);
-}
-
 static textwrap_status lay(const uint8_t *text, size_t len, const textwrap_options *options, page_steps *steps,
                            uint8_t *room, page_line *lines) {
     /* Each byte may be a line, with a hyphen and a line feed. */
-    textwrap_status status = fill(text, len, options, room, 3 * len + 1);
+    textwrap_status status = textwrap_fill(text, len, options, room, 3 * len + 1, &answer.text_len);
     if (status == TEXTWRAP_DONE) status = find_steps(text, len, *options, steps);
     if (status == TEXTWRAP_DONE) status = find_lines(text, len, options, steps);
     if (status != TEXTWRAP_DONE) return status;
@@ -117,6 +98,8 @@ uint32_t page_lay(const uint8_t *text, size_t len, size_t width, uint32_t is_lea
     textwrap_options options = textwrap_options_new(width);
     options.optimal_fit = is_least;
     options.unicode_breaks = breaks;
+    if (numbers != NULL) options.dictionary = textwrap_dictionary_new(numbers, numbers_len);
+    options.dictionary.is_checked = 1;
     page_give(room);
     answer = (page_answer){0};
     size_t most = len + 3;

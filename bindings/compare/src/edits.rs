@@ -94,8 +94,8 @@ pub const EDITS: &[Edit] = &[
     Edit {
         name: "the fourth point of a word is lost",
         file: "src/word_splitters.rs",
-        old: "points.dedup();",
-        new: "points.truncate(3);",
+        old: "points.dedup();\n            points.retain",
+        new: "points.truncate(3);\n            points.retain",
     },
     Edit {
         name: "an empty line is a text of its own",

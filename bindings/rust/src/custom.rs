@@ -1,8 +1,7 @@
-//! Texts in which functions of the caller take part, or patterns.
+//! Texts in which functions of the caller take part.
 //!
 //! The functions give the words of a paragraph, their points or its lines. What they give is checked
-//! here, and the library makes the lines of it, and the rows of these. Patterns go the same way where a
-//! function takes part beside them, or the library has no call of its own for them.
+//! here, and the library makes the lines of it, and the rows of these.
 use crate::core::Word;
 use crate::display::{Column, Gaps};
 use crate::fallible::{self, unfill};
@@ -20,9 +19,6 @@ type Result<T> = core::result::Result<T, OutOfMemory>;
 /// The filled text.
 #[cold]
 pub(crate) fn filled(text: &str, options: Options<'_>) -> Result<String> {
-    if let Some(patterns) = options.patterns_alone() {
-        return patterns.filled(text, &options.to_sys());
-    }
     let (found, with) = (steps_of(text, &options)?, options.to_sys());
     let steps = mapped(&found, Steps::to_sys)?;
     text_by!(guess::filled(text, 8, &with), textwrap_fill_at(text, steps; &with))
@@ -37,9 +33,6 @@ pub(crate) fn justified(text: &str, options: &Options<'_>) -> Result<String> {
 
 /// The lines of the text.
 pub(crate) fn wrapped<'t>(text: &'t str, options: &Options<'_>) -> Result<Vec<Cow<'t, str>>> {
-    if let Some(patterns) = options.patterns_alone() {
-        return patterns.wrapped(text, &options.to_sys());
-    }
     let (found, with) = (steps_of(text, options)?, options.to_sys());
     let steps = mapped(&found, Steps::to_sys)?;
     let (lines, bytes) = guess::wrapped(text, &with);
@@ -49,9 +42,6 @@ pub(crate) fn wrapped<'t>(text: &'t str, options: &Options<'_>) -> Result<Vec<Co
 /// The filled text, filled again with the indents that it has.
 #[cold]
 pub(crate) fn refilled(filled_text: &str, options: Options<'_>) -> Result<String> {
-    if let Some(patterns) = options.patterns_alone() {
-        return patterns.refilled(filled_text, &options.to_sys());
-    }
     let (text, found) = unfill(filled_text)?;
     let joined = text.strip_suffix(found.line_ending.as_str());
     let ending = joined.map_or("", |_| options.line_ending.as_str());
@@ -69,9 +59,6 @@ pub(crate) fn columns(
     options: &Options<'_>,
     gaps: &Gaps<'_>,
 ) -> Result<Vec<String>> {
-    if let Some(patterns) = options.patterns_alone() {
-        return patterns.columns(text, columns, &options.to_sys(), &gaps.to_sys());
-    }
     let (width, around) = (options.width, gaps.to_sys());
     let column_width = value_by!(textwrap_column_width(; width, columns, &around));
     let wrapped = wrapped(text, &options.clone().width(column_width))?;

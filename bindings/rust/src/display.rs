@@ -57,7 +57,7 @@ pub struct Column<'a> {
 }
 
 impl Column<'_> {
-    /// The same as C has it, without the functions of the caller. It lends the indents.
+    /// The same as C has it, without the functions of the caller. It lends the indents and the patterns.
     pub(crate) fn to_sys(&self) -> sys::Column {
         let Column { options, alignment } = self;
         sys::Column { options: options.to_sys(), alignment: alignment.to_sys(), reserved: 0 }
@@ -357,7 +357,7 @@ where
 ///
 /// # Panics
 ///
-/// If a function of the caller, a dictionary or patterns find words or split them.
+/// If a function of the caller, or a dictionary of the crate `hyphenation`, finds words or splits them.
 ///
 /// # Examples
 ///
@@ -384,7 +384,7 @@ where
 ///
 /// # Panics
 ///
-/// If a function of the caller, a dictionary or patterns find words or split them.
+/// If a function of the caller, or a dictionary of the crate `hyphenation`, finds words or splits them.
 ///
 /// # Examples
 ///

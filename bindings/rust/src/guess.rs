@@ -39,22 +39,28 @@ pub(crate) fn with_more(bytes: usize, lines: usize, more: usize) -> usize {
     lines.saturating_mul(more).saturating_add(bytes)
 }
 
+/// The bytes that an indent and an added hyphen give to each line but the first.
+#[inline]
+fn later(options: &sys::Options) -> usize {
+    options.subsequent_indent.len + usize::from(options.dictionary.numbers_len > 0)
+}
+
 /// The bytes of a filled text that grows by one in so many. Line endings mostly come in the place of
 /// blanks, so it grows little, and by hardly ever more than half if it is justified. Lines matter only
-/// if indents stand before them.
+/// if indents stand before them, or hyphens behind them.
 #[inline]
 pub(crate) fn filled(text: &str, one_in: usize, options: &sys::Options) -> usize {
     let bytes = text.len() + text.len() / one_in + options.initial_indent.len;
-    match options.subsequent_indent.len {
+    match later(options) {
         0 => bytes,
-        indent => with_more(bytes, lines(text, options.width), indent),
+        more => with_more(bytes, lines(text, options.width), more),
     }
 }
 
-/// The lines of a text, and the bytes of those that are texts of their own because they have an indent.
+/// The lines of a text, and the bytes of those that are texts of their own, for an indent or a hyphen.
 pub(crate) fn wrapped(text: &str, options: &sys::Options) -> (usize, usize) {
     let lines = lines(text, options.width);
-    let (initial, later) = (options.initial_indent.len, options.subsequent_indent.len);
+    let (initial, later) = (options.initial_indent.len, later(options));
     let bytes = if initial + later == 0 { 0 } else { text.len() + initial };
     (lines, with_more(bytes, lines, later))
 }

@@ -20,11 +20,9 @@
 //! If memory runs out, a call [ends the program](crate#memory), and its twin, whose name begins with
 //! `try_`, returns [`OutOfMemory`].
 use crate::out_of_memory::{or_abort, OutOfMemory};
-use crate::room::{lines_by, listed, mapped, room_for, text_by, Refusal};
+use crate::room::{listed, mapped, room_for, Refusal};
 use crate::shared::Shared;
 use crate::{guess, sys};
-use alloc::borrow::Cow;
-use alloc::string::String;
 use alloc::vec::Vec;
 use core::error::Error;
 use core::fmt;
@@ -36,6 +34,7 @@ use core::fmt;
 pub struct Patterns {
     numbers: Shared,
     in_parts: bool,
+    soft_hyphens: bool,
     left: usize,
     right: usize,
 }
@@ -57,12 +56,13 @@ impl fmt::Display for PatternsError {
 
 impl Error for PatternsError {}
 
-/// How many numbers they are, whether parts are hyphenated, and the minima that were set.
+/// How many numbers they are, and what was set.
 impl fmt::Debug for Patterns {
     fn fmt(&self, f: &mut fmt::Formatter<'_>) -> fmt::Result {
         f.debug_struct("Patterns")
             .field("numbers", &self.numbers.len())
             .field("in_parts", &self.in_parts)
+            .field("soft_hyphens", &self.soft_hyphens)
             .field("left", &self.left)
             .field("right", &self.right)
             .finish()
@@ -118,7 +118,8 @@ impl Patterns {
 
     /// The patterns of these numbers, which are whole.
     fn of(numbers: Vec<usize>) -> Result<Patterns, OutOfMemory> {
-        Ok(Patterns { numbers: Shared::of(numbers)?, in_parts: false, left: 0, right: 0 })
+        let numbers = Shared::of(numbers)?;
+        Ok(Patterns { numbers, in_parts: false, soft_hyphens: false, left: 0, right: 0 })
     }
 
     /// The patterns as numbers, which [`from_numbers`](Patterns::from_numbers) takes in place of the
@@ -145,7 +146,7 @@ impl Patterns {
     }
 
     /// The patterns of these numbers, which [`as_numbers`](Patterns::as_numbers) gave. They do not tell
-    /// whether words are hyphenated [in parts](Patterns::in_parts), which at first they are not, nor what
+    /// what [`in_parts`](Patterns::in_parts), [`soft_hyphens`](Patterns::soft_hyphens) and
     /// [`minima`](Patterns::minima) set.
     ///
     /// It is `None` if the numbers are those of another version, or if a sum of all of them tells that
@@ -181,8 +182,8 @@ impl Patterns {
         Ok(Some(Patterns::of(mapped(numbers, usize::clone)?)?))
     }
 
-    /// Sets whether the parts of a word with hyphens are hyphenated too. Else such a word is split
-    /// behind its hyphens alone.
+    /// Sets whether the parts of a word with hyphens are hyphenated too, which at first they are not: such
+    /// a word is split behind its hyphens alone.
     ///
     /// # Examples
     ///
@@ -200,6 +201,28 @@ impl Patterns {
     #[must_use]
     pub fn in_parts(mut self, in_parts: bool) -> Patterns {
         self.in_parts = in_parts;
+        self
+    }
+
+    /// Sets whether soft hyphens (U+00AD) are the only points of a word in which a letter stands directly
+    /// behind one. At first they are not: a word has the points that it has without them.
+    ///
+    /// # Examples
+    ///
+    /// ```
+    /// use textwrap_proved::hyphens::Patterns;
+    /// use textwrap_proved::{wrap, Options, WordSplitter};
+    ///
+    /// let patterns = Patterns::parse("ta-ble\n")?.soft_hyphens(true);
+    /// assert_eq!(patterns.points("tab\u{ad}le"), [5]);
+    /// assert_eq!(patterns.points("table"), [2]);
+    /// let options = Options::new(4).word_splitter(WordSplitter::Patterns(patterns));
+    /// assert_eq!(wrap("tab\u{ad}le", options), ["tab\u{ad}-", "le"]);
+    /// # Ok::<(), textwrap_proved::hyphens::PatternsError>(())
+    /// ```
+    #[must_use]
+    pub fn soft_hyphens(mut self, soft_hyphens: bool) -> Patterns {
+        self.soft_hyphens = soft_hyphens;
         self
     }
 
@@ -227,9 +250,9 @@ impl Patterns {
     /// inside the word.
     ///
     /// Each longest run of letters is a word for itself, so the word may have quotation marks and
-    /// commas around it. Capital letters count as small ones; soft hyphens (U+00AD) and escape
-    /// sequences are not seen. A word with a hyphen (`-` or U+2010) has points only
-    /// [in parts](Patterns::in_parts).
+    /// commas around it. Capital letters count as small ones; escape sequences are not seen, nor are soft
+    /// hyphens, unless they are [the points](Patterns::soft_hyphens). A word with a hyphen (`-` or U+2010)
+    /// has points of the patterns only [in parts](Patterns::in_parts).
     ///
     /// # Examples
     ///
@@ -268,60 +291,17 @@ impl Patterns {
     /// The patterns as C has them. The library wrote their numbers, or has checked them, and nothing
     /// writes to them. So no call has to test them, which would take longer than to find the points of a
     /// word.
-    fn to_sys(&self) -> sys::Dictionary {
+    pub(crate) fn to_sys(&self) -> sys::Dictionary {
         sys::Dictionary {
             numbers: self.numbers.as_ptr(),
             numbers_len: self.numbers.len(),
             in_parts: self.in_parts.into(),
             is_checked: 1,
+            soft_hyphens: self.soft_hyphens.into(),
+            reserved: 0,
             left: self.left,
             right: self.right,
         }
-    }
-
-    /// The filled text, by options without a function.
-    pub(crate) fn filled(&self, text: &str, with: &sys::Options) -> Result<String, OutOfMemory> {
-        text_by!(guess::filled(text, 4, with), textwrap_fill_hyphenated(text; with, &self.to_sys()))
-    }
-
-    /// The lines of the text, by such options.
-    pub(crate) fn wrapped<'t>(
-        &self,
-        text: &'t str,
-        with: &sys::Options,
-    ) -> Result<Vec<Cow<'t, str>>, OutOfMemory> {
-        let dictionary = self.to_sys();
-        let (lines, bytes) = guess::wrapped(text, with);
-        // Lines with a hyphen are texts of their own too.
-        let bytes = bytes.max(text.len()).saturating_add(lines);
-        lines_by!(lines, bytes, textwrap_wrap_hyphenated(text; with, &dictionary))?.cows(text)
-    }
-
-    /// The filled text, filled again by such options with the indents that it has.
-    pub(crate) fn refilled(
-        &self,
-        filled_text: &str,
-        with: &sys::Options,
-    ) -> Result<String, OutOfMemory> {
-        let guess = guess::filled(filled_text, 4, with);
-        text_by!(guess, textwrap_refill_hyphenated(filled_text; with, &self.to_sys()))
-    }
-
-    /// The rows of the text in columns, by such options. There is a column.
-    pub(crate) fn columns(
-        &self,
-        text: &str,
-        columns: usize,
-        with: &sys::Options,
-        around: &sys::Gaps,
-    ) -> Result<Vec<String>, OutOfMemory> {
-        let dictionary = self.to_sys();
-        lines_by!(
-            0,
-            0,
-            textwrap_wrap_columns_hyphenated(text; columns, with, around, &dictionary)
-        )?
-        .texts()
     }
 }
 

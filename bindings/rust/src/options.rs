@@ -1,5 +1,4 @@
 //! How a text is wrapped.
-use crate::hyphens::Patterns;
 use crate::sys;
 use crate::wrap_algorithms::Penalties;
 use crate::{LineEnding, WordSeparator, WordSplitter, WrapAlgorithm};
@@ -215,8 +214,7 @@ impl<'a> Options<'a> {
         self
     }
 
-    /// Whether a function of the caller takes part, or patterns: then a text is wrapped paragraph by
-    /// paragraph.
+    /// Whether a function of the caller takes part: then a text is wrapped paragraph by paragraph.
     #[inline]
     pub(crate) fn has_function(&self) -> bool {
         matches!(self.wrap_algorithm, WrapAlgorithm::Custom(_))
@@ -224,27 +222,18 @@ impl<'a> Options<'a> {
             || !self.word_splitter.is_built_in()
     }
 
-    /// The patterns, if no function of the caller takes part beside them: then the library has calls for
-    /// a text by them.
-    pub(crate) fn patterns_alone(&self) -> Option<&Patterns> {
-        match (&self.word_splitter, &self.word_separator, &self.wrap_algorithm) {
-            (_, _, WrapAlgorithm::Custom(_)) | (_, WordSeparator::Custom(_), _) => None,
-            (WordSplitter::Patterns(patterns), _, _) => Some(patterns),
-            _ => None,
-        }
-    }
-
-    /// The same as C has them, or as they are if a function of the caller takes part, or patterns.
+    /// The same as C has them, with the splitter, whose patterns they borrow; or as they are if a function
+    /// of the caller takes part.
     #[inline]
-    pub(crate) fn built_in(self) -> Result<sys::Options, Self> {
+    pub(crate) fn built_in(self) -> Result<(sys::Options, WordSplitter), Self> {
         if self.has_function() {
             Err(self)
         } else {
-            Ok(self.to_sys())
+            Ok((self.to_sys(), self.word_splitter))
         }
     }
 
-    /// The same as C has them, without the functions of the caller and patterns. They lend the indents.
+    /// The same as C has them, without the functions of the caller. They lend the indents and the patterns.
     #[inline]
     pub(crate) fn to_sys(&self) -> sys::Options {
         let (optimal_fit, penalties) = match self.wrap_algorithm {
@@ -268,6 +257,7 @@ impl<'a> Options<'a> {
             short_last_line_fraction: penalties.short_last_line_fraction,
             short_last_line_penalty: penalties.short_last_line_penalty,
             hyphen_penalty: penalties.hyphen_penalty,
+            dictionary: self.word_splitter.to_sys(),
             reserved_sizes: [0; 4],
         }
     }

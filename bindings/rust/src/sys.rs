@@ -7,7 +7,7 @@ pub const TOO_SMALL: u32 = 3;
 pub const OVERFLOW: u32 = 5;
 pub const WRONG_PLACES: u32 = 6;
 pub const WRONG_PATTERNS: u32 = 7;
-pub const VERSION: u32 = 1;
+pub const VERSION: u32 = 2;
 pub const LEFT: u32 = 0;
 pub const RIGHT: u32 = 1;
 pub const CENTRE: u32 = 2;
@@ -44,6 +44,7 @@ pub struct Options {
     pub short_last_line_fraction: usize,
     pub short_last_line_penalty: usize,
     pub hyphen_penalty: usize,
+    pub dictionary: Dictionary,
     pub reserved_sizes: [usize; 4],
 }
 
@@ -125,6 +126,8 @@ pub struct Dictionary {
     pub numbers_len: usize,
     pub in_parts: u32,
     pub is_checked: u32,
+    pub soft_hyphens: u32,
+    pub reserved: u32,
     pub left: usize,
     pub right: usize,
 }
@@ -405,7 +408,6 @@ extern "C" {
         len: *mut usize,
     ) -> u32;
 
-
     pub fn textwrap_wrap_balanced(
         text: *const u8,
         text_len: usize,
@@ -481,54 +483,6 @@ extern "C" {
         points: *mut usize,
         points_len: usize,
         count: *mut usize,
-    ) -> u32;
-
-    pub fn textwrap_fill_hyphenated(
-        text: *const u8,
-        text_len: usize,
-        options: *const Options,
-        dictionary: *const Dictionary,
-        room: *mut u8,
-        room_len: usize,
-        len: *mut usize,
-    ) -> u32;
-
-    pub fn textwrap_wrap_hyphenated(
-        text: *const u8,
-        text_len: usize,
-        options: *const Options,
-        dictionary: *const Dictionary,
-        lines: *mut Line,
-        lines_len: usize,
-        count: *mut usize,
-        room: *mut u8,
-        room_len: usize,
-        len: *mut usize,
-    ) -> u32;
-
-    pub fn textwrap_refill_hyphenated(
-        text: *const u8,
-        text_len: usize,
-        options: *const Options,
-        dictionary: *const Dictionary,
-        room: *mut u8,
-        room_len: usize,
-        len: *mut usize,
-    ) -> u32;
-
-    pub fn textwrap_wrap_columns_hyphenated(
-        text: *const u8,
-        text_len: usize,
-        columns: usize,
-        options: *const Options,
-        gaps: *const Gaps,
-        dictionary: *const Dictionary,
-        rows: *mut Line,
-        rows_len: usize,
-        count: *mut usize,
-        room: *mut u8,
-        room_len: usize,
-        len: *mut usize,
     ) -> u32;
 
     pub fn textwrap_wrap_first_fit(

@@ -3,10 +3,10 @@
 //! A piece of a word that ends a line ends in a hyphen: one that the word has there, or one that is
 //! added. [`WordSplitter`] says where words may be split, and [`split_words`] splits them.
 use crate::core::{display_width, Word};
-use crate::guess;
 use crate::hyphens::Patterns;
 use crate::out_of_memory::{or_abort, OutOfMemory};
 use crate::room::{list_by, reserve};
+use crate::{guess, sys};
 use alloc::vec::Vec;
 use core::iter;
 #[cfg(feature = "hyphenation")]
@@ -144,15 +144,31 @@ impl WordSplitter {
         }
     }
 
-    /// Whether the points are those of one of the two splitters that options have in C.
+    /// Whether the points are found by the library, which finds right ones.
     #[inline]
     pub(crate) fn is_built_in(&self) -> bool {
-        matches!(self, WordSplitter::NoHyphenation | WordSplitter::HyphenSplitter)
+        matches!(
+            self,
+            WordSplitter::NoHyphenation | WordSplitter::HyphenSplitter | WordSplitter::Patterns(_)
+        )
     }
 
-    /// Whether the points are found by the library, which finds right ones.
-    fn is_right(&self) -> bool {
-        self.is_built_in() || matches!(self, WordSplitter::Patterns(_))
+    /// The dictionary as C has it: the patterns, which lend their numbers, or none.
+    #[inline]
+    pub(crate) fn to_sys(&self) -> sys::Dictionary {
+        match self {
+            WordSplitter::Patterns(patterns) => patterns.to_sys(),
+            _ => sys::Dictionary {
+                numbers: [].as_ptr(),
+                numbers_len: 0,
+                in_parts: 0,
+                is_checked: 0,
+                soft_hyphens: 0,
+                reserved: 0,
+                left: 0,
+                right: 0,
+            },
+        }
     }
 
     /// The offsets that cut something off, in order.
@@ -161,7 +177,7 @@ impl WordSplitter {
     /// If a function of the caller, or a dictionary, gives wrong ones.
     pub(crate) fn points_inside(&self, word: &str) -> Result<Vec<usize>, OutOfMemory> {
         let mut points = self.points_of(word)?;
-        if !self.is_right() {
+        if !self.is_built_in() {
             let name = if matches!(self, WordSplitter::Custom(_)) { "Custom" } else { "Hyphenation" };
             for (i, &point) in points.iter().enumerate() {
                 let before = if i > 0 { points[i - 1] } else { 0 };

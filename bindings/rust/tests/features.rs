@@ -174,7 +174,7 @@ mod hyphenation_by_patterns {
     use std::borrow::Cow::{Borrowed, Owned};
     use std::path::PathBuf;
     use textwrap_proved::core::Word;
-    use textwrap_proved::display::fill_justified;
+    use textwrap_proved::display::{fill_justified, wrap_balanced};
     use textwrap_proved::word_splitters::split_words;
     use textwrap_proved::wrap_algorithms::Penalties;
     use textwrap_proved::{fill, refill, wrap, wrap_columns, Options, WordSplitter, WrapAlgorithm};
@@ -249,6 +249,12 @@ mod hyphenation_by_patterns {
         let rows = wrap_columns("Oxidation is", 2, hyphenated(17), "", "|", "");
         assert_eq!(rows, ["Oxida-  |tion is "]);
         assert_eq!(fill_justified("a b Oxidation", hyphenated(12)), "a  b  Oxida-\ntion");
+    }
+
+    #[test]
+    #[should_panic(expected = "a text is balanced by the library's own words and points")]
+    fn a_text_is_not_balanced_by_a_dictionary() {
+        wrap_balanced("Oxidation is", hyphenated(8));
     }
 
     #[test]

@@ -8,7 +8,9 @@ use std::error::Error;
 use std::sync::OnceLock;
 use std::thread;
 use textwrap_proved::core::Word;
-use textwrap_proved::display::{fill_justified, table, wrap_balanced, Alignment, Column, Gaps};
+use textwrap_proved::display::{
+    balanced_width, fill_justified, table, wrap_balanced, Alignment, Column, Gaps,
+};
 use textwrap_proved::hyphens::{Patterns, PatternsError};
 use textwrap_proved::word_splitters::split_words;
 use textwrap_proved::wrap_algorithms::Penalties;
@@ -33,8 +35,12 @@ fn in_parts() -> WordSplitter {
     WordSplitter::Patterns(patterns().in_parts(true))
 }
 
+/// Soft hyphens are the points of a word that has some.
+fn soft() -> WordSplitter {
+    WordSplitter::Patterns(patterns().soft_hyphens(true))
+}
+
 /// First fit at a width, with words split by the patterns, that end at Unicode line breaks and at blanks.
-/// Only by the latter the library splits a text as a whole.
 fn both(width: usize) -> [Options<'static>; 2] {
     [WordSeparator::UnicodeBreakProperties, WordSeparator::AsciiSpace].map(|separator| {
         Options::new(width)
@@ -102,9 +108,12 @@ fn numbers_are_the_patterns_again() {
     assert_eq!(again, patterns());
     assert_eq!(again.points("hyphenation"), [2, 6]);
     assert_eq!(Patterns::try_from_numbers(&numbers), Ok(Some(again.clone())));
-    // They do not tell how words with hyphens are taken.
-    assert_ne!(again.clone().in_parts(true), again);
-    assert_eq!(Patterns::from_numbers(again.clone().in_parts(true).as_numbers()), Some(again));
+    // They do not tell what was set.
+    for set in [again.clone().in_parts(true), again.clone().soft_hyphens(true)] {
+        assert_ne!(set, again);
+        assert_eq!(Patterns::from_numbers(set.as_numbers()), Some(again.clone()));
+        assert_eq!(set.clone(), set);
+    }
 }
 
 /// More than the dictionary of most languages has.
@@ -169,9 +178,16 @@ fn clones_share_what_was_read() {
 
 #[test]
 fn what_is_printed_of_patterns_is_short() {
-    let shown = format!("{:?}", in_parts());
     let len = patterns().as_numbers().len();
-    assert_eq!(shown, format!("Patterns(Patterns {{ numbers: {len}, in_parts: true, left: 0, right: 0 }})"));
+    for (splitter, in_parts, soft_hyphens) in
+        [(whole(), false, false), (in_parts(), true, false), (soft(), false, true)]
+    {
+        let shown = format!(
+            "Patterns(Patterns {{ numbers: {len}, in_parts: {in_parts}, soft_hyphens: {soft_hyphens}, \
+             left: 0, right: 0 }})"
+        );
+        assert_eq!(format!("{splitter:?}"), shown);
+    }
 }
 
 // ---- The points of words
@@ -208,6 +224,22 @@ fn words_have_points() {
 }
 
 #[test]
+fn soft_hyphens_are_the_points_if_asked() {
+    for (word, points) in [
+        ("hyphena\u{ad}tion", &[9][..]),
+        ("h\u{ad}yphenatio\u{ad}n", &[3, 14]),
+        ("re-hyphen\u{ad}ation", &[11]),
+        ("hyphenation", &[2, 6]),
+        ("\u{ad}hyphenation\u{ad}", &[4, 8]),
+        ("hyphen\u{ad}\u{1b}[1mation", &[2, 12]),
+    ] {
+        assert_eq!(patterns().soft_hyphens(true).points(word), points, "{word:?}");
+    }
+    assert_eq!(soft().split_points("re-hyphen\u{ad}ation"), [3, 11]);
+    assert_eq!(patterns().soft_hyphens(true).soft_hyphens(false), patterns());
+}
+
+#[test]
 fn a_word_may_have_any_number_of_points() {
     let everywhere = Patterns::parse("LEFTHYPHENMIN 1\nRIGHTHYPHENMIN 1\na1a\n").unwrap();
     let word = "a".repeat(1_000);
@@ -241,6 +273,8 @@ fn splitters_are_equal_if_their_patterns_are() {
     assert_eq!(whole(), whole());
     assert_eq!(whole(), WordSplitter::Patterns(Patterns::parse(LIST).unwrap()));
     assert_ne!(whole(), in_parts());
+    assert_ne!(whole(), soft());
+    assert_eq!(soft(), soft());
     assert_ne!(whole(), WordSplitter::Patterns(Patterns::parse("hy3ph\n").unwrap()));
     assert_ne!(whole(), WordSplitter::HyphenSplitter);
     assert_ne!(WordSplitter::NoHyphenation, whole());
@@ -298,9 +332,80 @@ fn every_call_on_a_text_takes_patterns() {
 }
 
 #[test]
-#[should_panic(expected = "a text is balanced by the library's own words and points")]
-fn a_text_is_not_balanced_by_patterns() {
-    wrap_balanced("the hyphenation", &both(11)[1]);
+fn lines_that_end_in_a_hyphen_are_justified() {
+    for options in both(13) {
+        let text = "the hyphenation of a nation";
+        let justified = "the   hyphen-\nation   of  a\nnation";
+        assert_eq!(fill_justified(text, &options), justified);
+        let indented = options.subsequent_indent("> ");
+        let justified = "the   hyphen-\n> ation  of a\n> nation";
+        assert_eq!(fill_justified(text, indented), justified);
+    }
+}
+
+#[test]
+fn columns_of_a_table_have_patterns_of_their_own() {
+    let gaps = Gaps { left: "[", middle: "|", right: "]" };
+    let cells = ["the hyphenation", "a nation", "nation", "hyphenation"];
+    for options in both(11) {
+        let left = Column { options: options.clone(), alignment: Alignment::Left };
+        let without = Column {
+            options: options.clone().width(7).word_splitter(WordSplitter::HyphenSplitter),
+            alignment: Alignment::Right,
+        };
+        assert_eq!(table(&cells, &[left.clone(), without], &gaps), [
+            "[the hyphen-|      a]",
+            "[ation      | nation]",
+            "[nation     |hyphena]",
+            "[           |   tion]",
+        ]);
+        let narrow = Column { options: options.width(7), alignment: Alignment::Right };
+        assert_eq!(table(&cells, &[left, narrow], &gaps), [
+            "[the hyphen-|  a na-]",
+            "[ation      |   tion]",
+            "[nation     |hyphen-]",
+            "[           |  ation]",
+        ]);
+    }
+}
+
+#[test]
+fn texts_are_balanced_by_patterns() {
+    for options in both(11) {
+        assert_eq!(balanced_width("the hyphenation", &options), 9);
+        assert_eq!(wrap_balanced("the hyphenation", &options), ["the hy-", "phenation"]);
+        let indented = options.clone().subsequent_indent("> ");
+        let lines = wrap_balanced("the hyphenation", indented);
+        assert_eq!(lines, ["the hyphen-", "> ation"]);
+        assert!(matches!(lines[..], [Owned(_), Owned(_)]), "{lines:?}");
+        let by_least_cost = options.clone().wrap_algorithm(WrapAlgorithm::new_optimal_fit());
+        assert_eq!(balanced_width("the hyphenation", by_least_cost), 9);
+        let text = "a nation of hyphenation, the non-hyphenation and the hyphenation of a nation";
+        let count = |width| wrap(text, options.clone().width(width)).len();
+        let width = balanced_width(text, options.clone().width(30));
+        assert_eq!(
+            wrap_balanced(text, options.clone().width(30)),
+            wrap(text, options.clone().width(width))
+        );
+        assert!(width <= 30 && count(width) == count(30) && count(width - 1) > count(30));
+    }
+}
+
+/// The patterns know nothing of this word.
+#[test]
+fn a_line_ends_at_a_soft_hyphen_if_asked() {
+    let text = "Silben\u{ad}trennung";
+    for options in both(8) {
+        assert_eq!(wrap(text, &options), ["Silben\u{ad}tr", "ennung"]);
+        let whole = options.clone().break_words(false);
+        assert_eq!(wrap(text, whole), [text]);
+        let options = options.word_splitter(soft());
+        let lines = wrap(text, &options);
+        assert_eq!(lines, ["Silben\u{ad}-", "trennung"]);
+        assert!(matches!(lines[..], [Owned(_), Borrowed(_)]), "{lines:?}");
+        assert_eq!(fill(text, &options), "Silben\u{ad}-\ntrennung");
+        assert_eq!(fill("die Silben\u{ad}trennung", options), "die\nSilben\u{ad}-\ntrennung");
+    }
 }
 
 #[test]
@@ -376,8 +481,11 @@ fn points_in_parts(word: &str) -> Vec<usize> {
     in_parts().split_points(word)
 }
 
-/// The library splits words by a call for all of a text, by one for most words of a paragraph, or, for a
-/// function that looks up each word, by one for each.
+fn points_at_soft_hyphens(word: &str) -> Vec<usize> {
+    soft().split_points(word)
+}
+
+/// The library splits the words of a text itself, or, where a function takes part, one word after another.
 #[test]
 fn a_function_may_look_up_each_word() {
     let random = &mut Random::new(3);
@@ -386,10 +494,10 @@ fn a_function_may_look_up_each_word() {
         let (text, plain) = (text(random), drawn::options(random));
         let [left, middle, right] = [(); 3].map(|()| drawn::around(random));
         let gaps = Gaps { left, middle, right };
-        let (splitter, function) = if random.below(2) == 0 {
-            (whole(), WordSplitter::Custom(points_whole))
-        } else {
-            (in_parts(), WordSplitter::Custom(points_in_parts))
+        let (splitter, function) = match random.below(3) {
+            0 => (whole(), WordSplitter::Custom(points_whole)),
+            1 => (in_parts(), WordSplitter::Custom(points_in_parts)),
+            _ => (soft(), WordSplitter::Custom(points_at_soft_hyphens)),
         };
         for separator in [WordSeparator::UnicodeBreakProperties, WordSeparator::AsciiSpace] {
             let options = plain.clone().word_separator(separator).word_splitter(splitter.clone());

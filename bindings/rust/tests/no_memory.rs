@@ -178,14 +178,17 @@ fn calls_by_patterns() {
     refuse_each("try_from_numbers of damaged ones", || Patterns::try_from_numbers(&numbers[1..]));
     refuse_each("try_points", || patterns.try_points("question"));
     let gaps = Gaps { left: "[", middle: "│", right: "]" };
-    for (options, in_parts) in each_options()[..4].iter().zip([false, true].into_iter().cycle()) {
-        let splitter = WordSplitter::Patterns(patterns.clone().in_parts(in_parts));
+    for (options, is_set) in each_options()[..4].iter().zip([false, true].into_iter().cycle()) {
+        let patterns = patterns.clone().in_parts(is_set).soft_hyphens(is_set);
+        let splitter = WordSplitter::Patterns(patterns);
         let options = options.clone().word_splitter(splitter);
         refuse_each("fill", || fallible::fill(TEXT, &options));
         refuse_each("wrap", || fallible::wrap(TEXT, &options));
         refuse_each("refill", || fallible::refill("> foo bar\n> question\n", &options));
         refuse_each("wrap_columns", || fallible::wrap_columns(TEXT, 2, &options, "[", "│", "]"));
         refuse_each("fill_justified", || display::fallible::fill_justified(TEXT, &options));
+        refuse_each("wrap_balanced", || display::fallible::wrap_balanced(TEXT, &options));
+        refuse_each("balanced_width", || display::fallible::balanced_width(TEXT, &options));
         let columns = [Column { options, alignment: Alignment::Right }];
         refuse_each("table", || display::fallible::table(&[TEXT, "foo"], &columns, &gaps));
     }

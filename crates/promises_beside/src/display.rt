@@ -13,7 +13,7 @@ ghost use Rattle.textwrap_layout.specs.Options.{settings_view};
 ghost use Rattle.textwrap_layout.specs.Paragraph.{line_view, DividesBy};
 ghost use Rattle.textwrap_text.specs.Units.{text_width};
 ghost use Rattle.textwrap_words.specs.Words.{words_of};
-ghost use Rattle.textwrap_words.specs.WordSplitters.{Splitter, splitter_view};
+ghost use Rattle.textwrap_words.specs.WordSplitters.{Splitter, points_of, splitter_view};
 ghost use Rattle.textwrap_words.specs.declared.word_separators.WordSeparator.TheVariants.{AsciiSpace};
 
 use std::alloc::{AllocError, Global};
@@ -116,7 +116,7 @@ pub fn width_of_balanced(alloc: Global, text: &str, options: &Options<'_>) -> us
     requires separator { options.now.word_separator ≡ AsciiSpace }
     requires splitter { splitter_view options.now.word_splitter ≢ None }
     ensures balanced { (splitter : Splitter) → splitter_view options.now.word_splitter ≡ Some splitter
-        → IsBalanced (settings_view options.now) words_of splitter text.now result }
+        → IsBalanced (settings_view options.now) words_of (points_of splitter) text.now result }
 {
     balanced_width(alloc, text, options)
 }
@@ -131,7 +131,8 @@ pub fn balanced_lines<'t>(
     requires splitter { splitter_view options.now.word_splitter ≢ None }
     ensures lines { IfOk result (λ lines. (splitter : Splitter)
         → splitter_view options.now.word_splitter ≡ Some splitter → AreBalanced
-        (settings_view options.now) words_of splitter text.now (map line_view lines.items)) }
+        (settings_view options.now) words_of (points_of splitter) text.now
+        (map line_view lines.items)) }
 {
     let lines = wrap_balanced(alloc, text, options)?;
     Ok(lines)

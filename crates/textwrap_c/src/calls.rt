@@ -50,7 +50,7 @@ use textwrap_calls::{
 /// Exports [`textwrap_calls::bounds::textwrap_fill_bound`].
 #[unsafe(no_mangle)]
 pub extern "C" fn textwrap_fill_bound(text_len: usize, options: &TextwrapOptions<'_>) -> usize
-    ensures value { result ≡ as_len (fill_bound (options_settings options.now) text_len) }
+    ensures value { result ≡ as_len (fill_bound options.now text_len) }
     ensures enough { ForTextsOf text_len (λ text. HoldsEach (IsFilled (options_settings options.now)
         (Divides options.now (options_settings options.now))
         text) result) }
@@ -71,7 +71,7 @@ pub extern "C" fn textwrap_wrap_lines_bound(text_len: usize) -> usize
 /// Exports [`textwrap_calls::bounds::textwrap_wrap_room_bound`].
 #[unsafe(no_mangle)]
 pub extern "C" fn textwrap_wrap_room_bound(text_len: usize, options: &TextwrapOptions<'_>) -> usize
-    ensures value { result ≡ as_len (wrap_room_bound (options_settings options.now) text_len) }
+    ensures value { result ≡ as_len (wrap_room_bound options.now text_len) }
     ensures enough { ForTextsOf text_len (λ text. ForLinesOf options.now text
         (λ lines. Suffices result (length (built_text lines)))) }
 {

@@ -9,9 +9,11 @@ ghost use Rattle.textwrap_base.specs.Errors.{Fits64Bits, Passes128Bits};
 ghost use Rattle.textwrap_base.specs.OptimalFit.{IsByOptimalFit};
 ghost use Rattle.textwrap_base.specs.Table.{TableOverflows};
 ghost use Rattle.textwrap_calls.specs.Columns.{AreRows};
+ghost use Rattle.textwrap_calls.specs.Dictionary.{IsDamaged, IsKnownDictionary, hyphenation_of};
 ghost use Rattle.textwrap_calls.specs.Options.{AreKnown, AreTexts, TellsNotUtf8, TellsUnknown};
-ghost use Rattle.textwrap_calls.specs.Options.{numbers_of, options_algorithm, options_settings};
-ghost use Rattle.textwrap_calls.specs.Options.{options_splitter, says_yes, separator_of};
+ghost use Rattle.textwrap_calls.specs.Options.{have_dictionary, numbers_by, options_algorithm};
+ghost use Rattle.textwrap_calls.specs.Options.{options_points, options_settings, says_yes};
+ghost use Rattle.textwrap_calls.specs.Options.{separator_of};
 ghost use Rattle.textwrap_calls.specs.Room.{WritesText};
 ghost use Rattle.textwrap_calls.specs.Status.{done, not_utf8, out_of_memory, overflow, too_small};
 ghost use Rattle.textwrap_calls.specs.Status.{unknown_options, wrong_places};
@@ -22,27 +24,20 @@ ghost use Rattle.textwrap_display.specs.Needs.{needs_of};
 ghost use Rattle.textwrap_display.specs.Styles.{carried_lines};
 ghost use Rattle.textwrap_hyphens.specs.Points.{hyphenation_points};
 ghost use Rattle.textwrap_hyphens.specs.Seal.{is_sealed};
-ghost use Rattle.textwrap_layout.specs.Paragraph.{pieces_by, widths_of};
+ghost use Rattle.textwrap_layout.specs.Paragraph.{broken_pieces_of, widths_of};
 ghost use Rattle.textwrap_lines.specs.Steps.{pieces_at};
 ghost use Rattle.textwrap_more_calls.specs.Balancing.{AreBalancedBy, AreByFirstFit, IsBalancedBy};
 ghost use Rattle.textwrap_more_calls.specs.Breaks.{break_places};
-ghost use Rattle.textwrap_more_calls.specs.Dictionaries.{AreNumbersOf, IsDamaged};
-ghost use Rattle.textwrap_more_calls.specs.Dictionaries.{IsKnownDictionary, IsWrongAt};
-ghost use Rattle.textwrap_more_calls.specs.Dictionaries.{hyphenation_of};
+ghost use Rattle.textwrap_more_calls.specs.Dictionaries.{AreNumbersOf, IsWrongAt};
 ghost use Rattle.textwrap_more_calls.specs.Fragments.{AreEndsOf, AreKnownPenalties, fragment_sizes};
 ghost use Rattle.textwrap_more_calls.specs.Fragments.{fragments_problem};
-ghost use Rattle.textwrap_more_calls.specs.Hyphenated.{AreKnownHere, AreKnownInColumns};
-ghost use Rattle.textwrap_more_calls.specs.Hyphenated.{ArePlacedByDictionary, AreTextsInColumns};
-ghost use Rattle.textwrap_more_calls.specs.Hyphenated.{IsFilledByDictionary};
-ghost use Rattle.textwrap_more_calls.specs.Hyphenated.{IsInColumnsByDictionary};
-ghost use Rattle.textwrap_more_calls.specs.Hyphenated.{IsRefilledByDictionary};
 ghost use Rattle.textwrap_more_calls.specs.JustifiedSteps.{justified_at};
 ghost use Rattle.textwrap_more_calls.specs.Paragraphs.{paragraph_places, widths_view};
 ghost use Rattle.textwrap_more_calls.specs.Pieces.{AreOffsets, piece_places};
 ghost use Rattle.textwrap_more_calls.specs.Status.{damaged_table, wrong_patterns};
 ghost use Rattle.textwrap_more_calls.specs.Steps.{AreLineSteps, ArePlacedCuts, AreSteps, step_cuts};
 ghost use Rattle.textwrap_more_calls.specs.TextSteps.{AreStepsOf, filled_at, text_step_cuts};
-ghost use Rattle.textwrap_plain.specs.Options.{words_by};
+ghost use Rattle.textwrap_plain.specs.Options.{split_by_points, words_by};
 ghost use Rattle.textwrap_text.specs.LineEnding.{ending_bytes, paragraphs_of};
 ghost use Rattle.textwrap_text.specs.Units.{stripped};
 ghost use Rattle.textwrap_unicode.specs.Cuts.{unicode_cuts};
@@ -52,14 +47,13 @@ ghost use Rattle.textwrap_words.specs.WordSplitters.{hyphen_points};
 ghost use Rattle.textwrap_words.specs.Words.{piece, sizes_of};
 
 use std::alloc::Global;
-use textwrap_calls::columns::TextwrapGaps;
+use textwrap_calls::dictionary::TextwrapDictionary;
 use textwrap_calls::options::TextwrapOptions;
 use textwrap_calls::reported::TextwrapLine;
 use textwrap_calls::texts::TextwrapText;
 use textwrap_more_calls::breaks::TextwrapLineBreak;
 use textwrap_more_calls::fragments::{TextwrapFragment, TextwrapPenalties};
-use textwrap_more_calls::hyphens::dictionary::TextwrapDictionary;
-use textwrap_more_calls::hyphens::{points, reading, texts};
+use textwrap_more_calls::hyphens::{points, reading};
 use textwrap_more_calls::paragraphs::{TextwrapParagraph, TextwrapWidths};
 use textwrap_more_calls::pieces::TextwrapPiece;
 use textwrap_more_calls::steps::TextwrapSteps;
@@ -108,7 +102,8 @@ pub extern "C" fn textwrap_wrap_balanced(
         → AreByFirstFit options.now text.now others → count.new ≡ length others }
     ensures unknown { TellsUnknown result options.now }
     ensures not_utf8 { TellsNotUtf8 result options.now text.now }
-    ensures no_memory { options.now.unicode_breaks ≡ 0 → result ≢ out_of_memory }
+    ensures no_memory { options.now.unicode_breaks ≡ 0 → have_dictionary options.now ≡ false
+        → result ≢ out_of_memory }
     ensures statuses { result ≤ unknown_options }
 {
     balancing::textwrap_wrap_balanced(alloc, text, options, lines, count, room, len)
@@ -126,7 +121,8 @@ pub extern "C" fn textwrap_balanced_width(
     ensures kept { result ≢ done → width.new ≡ width.old }
     ensures unknown { TellsUnknown result options.now }
     ensures not_utf8 { TellsNotUtf8 result options.now text.now }
-    ensures no_memory { options.now.unicode_breaks ≡ 0 → result ≢ out_of_memory }
+    ensures no_memory { options.now.unicode_breaks ≡ 0 → have_dictionary options.now ≡ false
+        → result ≢ out_of_memory }
     ensures statuses { (result ≡ done) ⊎ (result ≡ not_utf8) ⊎ (result ≡ out_of_memory)
         ⊎ (result ≡ unknown_options) }
 {
@@ -143,7 +139,7 @@ pub extern "C" fn textwrap_line_breaks(
     count: &mut usize,
 ) -> u32
     ensures breaks { WritesText (λ answer. answer
-        ≡ break_places (numbers_of unicode_breaks) text.now)
+        ≡ break_places (numbers_by unicode_breaks) text.now)
         result breaks.old breaks.new count.old count.new }
     ensures unknown { result ≡ unknown_options ↔ (unicode_breaks < 1) ⊎ (2 < unicode_breaks) }
     ensures not_utf8 { result ≡ not_utf8 ↔ (1 ≤ unicode_breaks) × (unicode_breaks ≤ 2)
@@ -284,106 +280,6 @@ pub extern "C" fn textwrap_patterns_check(numbers: &[usize]) -> u32
     reading::textwrap_patterns_check(numbers)
 }
 
-/// Exports [`textwrap_more_calls::hyphens::texts::textwrap_fill_hyphenated`].
-#[unsafe(no_mangle)]
-pub extern "C" fn textwrap_fill_hyphenated(
-    alloc: Global,
-    text: &[u8],
-    options: &TextwrapOptions<'_>,
-    dictionary: &TextwrapDictionary<'_>,
-    room: &mut [u8],
-    len: &mut usize,
-) -> u32
-    ensures filled { WritesText (IsFilledByDictionary options.now dictionary.now text.now)
-        result room.old room.new len.old len.new }
-    ensures unknown { result ≡ unknown_options ↔ ¬ AreKnownHere options.now dictionary.now }
-    ensures not_utf8 { result ≡ not_utf8 ↔ AreKnownHere options.now dictionary.now
-        × ¬ (IsUtf8 text.now × AreTexts options.now) }
-    ensures damaged { result ≡ damaged_table ↔ AreKnownHere options.now dictionary.now
-        × (IsUtf8 text.now × AreTexts options.now) × IsDamaged dictionary.now }
-    ensures statuses { (result ≤ unknown_options) ⊎ (result ≡ damaged_table) }
-{
-    texts::textwrap_fill_hyphenated(alloc, text, options, dictionary, room, len)
-}
-
-/// Exports [`textwrap_more_calls::hyphens::texts::textwrap_refill_hyphenated`].
-#[unsafe(no_mangle)]
-pub extern "C" fn textwrap_refill_hyphenated(
-    alloc: Global,
-    text: &[u8],
-    options: &TextwrapOptions<'_>,
-    dictionary: &TextwrapDictionary<'_>,
-    room: &mut [u8],
-    len: &mut usize,
-) -> u32
-    ensures refilled { WritesText (IsRefilledByDictionary options.now dictionary.now text.now)
-        result room.old room.new len.old len.new }
-    ensures unknown { result ≡ unknown_options ↔ ¬ AreKnownHere options.now dictionary.now }
-    ensures not_utf8 { result ≡ not_utf8 ↔ AreKnownHere options.now dictionary.now
-        × ¬ (IsUtf8 text.now × AreTexts options.now) }
-    ensures damaged { result ≡ damaged_table ↔ AreKnownHere options.now dictionary.now
-        × (IsUtf8 text.now × AreTexts options.now) × IsDamaged dictionary.now }
-    ensures statuses { (result ≤ unknown_options) ⊎ (result ≡ damaged_table) }
-{
-    texts::textwrap_refill_hyphenated(alloc, text, options, dictionary, room, len)
-}
-
-/// Exports [`textwrap_more_calls::hyphens::texts::textwrap_wrap_hyphenated`].
-#[unsafe(no_mangle)]
-pub extern "C" fn textwrap_wrap_hyphenated(
-    alloc: Global,
-    text: &[u8],
-    options: &TextwrapOptions<'_>,
-    dictionary: &TextwrapDictionary<'_>,
-    lines: &mut [TextwrapLine],
-    count: &mut usize,
-    room: &mut [u8],
-    len: &mut usize,
-) -> u32
-    ensures wrapped { WritesLines (ArePlacedByDictionary options.now dictionary.now text.now)
-        text.now result lines.old lines.new count.old count.new room.old room.new len.old len.new }
-    ensures unknown { result ≡ unknown_options ↔ ¬ AreKnownHere options.now dictionary.now }
-    ensures not_utf8 { result ≡ not_utf8 ↔ AreKnownHere options.now dictionary.now
-        × ¬ (IsUtf8 text.now × AreTexts options.now) }
-    ensures damaged { result ≡ damaged_table ↔ AreKnownHere options.now dictionary.now
-        × (IsUtf8 text.now × AreTexts options.now) × IsDamaged dictionary.now }
-    ensures statuses { (result ≤ unknown_options) ⊎ (result ≡ damaged_table) }
-{
-    texts::textwrap_wrap_hyphenated(alloc, text, options, dictionary, lines, count, room, len)
-}
-
-/// Exports [`textwrap_more_calls::hyphens::texts::textwrap_wrap_columns_hyphenated`].
-#[unsafe(no_mangle)]
-pub extern "C" fn textwrap_wrap_columns_hyphenated(
-    alloc: Global,
-    text: &[u8],
-    columns: usize,
-    options: &TextwrapOptions<'_>,
-    gaps: &TextwrapGaps<'_>,
-    dictionary: &TextwrapDictionary<'_>,
-    rows: &mut [TextwrapLine],
-    count: &mut usize,
-    room: &mut [u8],
-    len: &mut usize,
-) -> u32
-    ensures columns { WritesLines (λ lines _. AreRows (IsInColumnsByDictionary options.now
-        dictionary.now gaps.now columns text.now) lines)
-        text.now result rows.old rows.new count.old count.new room.old room.new len.old len.new }
-    ensures unknown { result ≡ unknown_options
-        ↔ ¬ AreKnownInColumns columns options.now gaps.now dictionary.now }
-    ensures not_utf8 { result ≡ not_utf8
-        ↔ AreKnownInColumns columns options.now gaps.now dictionary.now
-        × ¬ AreTextsInColumns text.now options.now gaps.now }
-    ensures damaged { result ≡ damaged_table
-        ↔ AreKnownInColumns columns options.now gaps.now dictionary.now
-        × AreTextsInColumns text.now options.now gaps.now × IsDamaged dictionary.now }
-    ensures statuses { (result ≤ unknown_options) ⊎ (result ≡ damaged_table) }
-{
-    texts::textwrap_wrap_columns_hyphenated(
-        alloc, text, columns, options, gaps, dictionary, rows, count, room, len,
-    )
-}
-
 /// Exports [`textwrap_more_calls::justified_steps::textwrap_fill_justified_at`].
 #[unsafe(no_mangle)]
 pub extern "C" fn textwrap_fill_justified_at(
@@ -458,10 +354,9 @@ pub extern "C" fn textwrap_pieces(
     pieces: &mut [TextwrapPiece],
     count: &mut usize,
 ) -> u32
-    ensures pieces { WritesText (λ answer. answer ≡ piece_places 0 (pieces_by
-        (options_settings options.now) (words_by (separator_of options.now))
-        (options_splitter options.now)
-        paragraph.now)) result pieces.old pieces.new count.old count.new }
+    ensures pieces { WritesText (λ answer. answer ≡ piece_places 0 (broken_pieces_of
+        (options_settings options.now) (split_by_points (options_points options.now)
+        (words_by (separator_of options.now) paragraph.now)))) result pieces.old pieces.new count.old count.new }
     ensures unknown { TellsUnknown result options.now }
     ensures not_utf8 { TellsNotUtf8 result options.now paragraph.now }
     ensures statuses { result ≤ unknown_options }

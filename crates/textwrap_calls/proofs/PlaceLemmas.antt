@@ -1,7 +1,6 @@
 -- Lines stand where they are reported: those that were cut from a text, all of a text, and rows.
 use Rattle.std.proofs.Math.Seq.{drop-append_seam, take-append_seam, take-length}
 use Rattle.std.proofs.lemmas.Simd.{map-map}
-use Rattle.textwrap.specs.{Paragraph.DividesAt, WordSplitters.Splitter, WrapAlgorithms.Algorithm}
 use Rattle.textwrap_base.proofs.Division.Map.{IsDividedBy-whole}
 use Rattle.textwrap_calls.proofs.Common.{AreGroups, length-drop, Place, Settings, Slice, WordText}
 use Rattle.textwrap_calls.proofs.Common.{Bool, Built, lines_of, map, take, tiled, ◌++◌, ◌∙◌, ◌≡◌}
@@ -19,10 +18,12 @@ use Rattle.textwrap_layout.proofs.Text.Sinks.{built_text-push, lines_of-cut_line
 use Rattle.textwrap_layout.proofs.{Paragraph.Pieces.pieces-tile, Text.Paragraphs.paragraphs_of-utf8}
 use Rattle.textwrap_layout.specs.Places.{built_bytes, cut_line, cut_lines, CutLine, text_cuts}
 use Rattle.textwrap_lines.proofs.Text.Groups.{groups-tile}
-use Rattle.textwrap_plain.specs.declared.options.PlainSeparator.{PlainSeparator}
+use Rattle.textwrap_calls.proofs.Common.{Divides, TextwrapOptions, options_algorithm}
+use Rattle.textwrap_calls.proofs.Common.{options_settings, separator_of}
+use Rattle.textwrap_calls.proofs.ReadOptions.{options-cuts}
+use Rattle.textwrap_calls.specs.Options.{options_points}
 use Rattle.textwrap_plain.{proofs.Words.texts-at, specs.Options.words_by}
 use Rattle.textwrap_text.proofs.Common.{drop-drop, map-append, starts_with_length, ⊤}
-use Rattle.textwrap_words.proofs.{Common.ArePoints, Word.Pieces.ArePoints-cuts}
 
 -- ---- lines that were cut from a text stand where they are reported
 
@@ -211,31 +212,28 @@ lines_of-text_cuts ending start (parts ∷ groups) = simp (
 )
 
 -- the pieces of a divided paragraph are the paragraph
-divided-tile : (settings : Settings) (separator : PlainSeparator) (splitter : Splitter)
-    (algorithm : Algorithm) (is_later : Bool) (paragraph : List ℕ)
+pub divided-tile : (o : TextwrapOptions) (settings : Settings) (is_later : Bool) (paragraph : List ℕ)
     (division : List (List WordText)) → IsUtf8 paragraph
-    → DividesAt (words_by separator) splitter algorithm settings is_later paragraph division
-    → tiled (flat division) ≡ paragraph
-divided-tile settings separator splitter algorithm is_later paragraph division utf8
-    (pieces, are, divided) =
-    ap tiled (IsDividedBy-whole sizes_of algorithm (widths_of settings is_later) pieces division
-    divided)
-    ∙ pieces-tile settings (λ line words. words ≡ words_by separator line) (ArePoints splitter)
-    (texts-at separator) (ArePoints-cuts splitter) paragraph pieces utf8 are
+    → Divides o settings is_later paragraph division → tiled (flat division) ≡ paragraph
+divided-tile o settings is_later paragraph division utf8 (pieces, are, divided) =
+    ap tiled (IsDividedBy-whole sizes_of (options_algorithm o) (widths_of settings is_later) pieces
+    division divided)
+    ∙ pieces-tile settings (λ line words. words ≡ words_by (separator_of o) line)
+    (λ word points. points ≡ options_points o word) (texts-at (separator_of o)) (options-cuts o)
+    paragraph pieces utf8 are
 
 -- what is reported of the lines of a text shows them
-pub placed-shown : (settings : Settings) (separator : PlainSeparator) (splitter : Splitter)
-    (algorithm : Algorithm)
-    (text : List ℕ) (lines : List Line) (places : List Place) → IsUtf8 text
-    → ArePlacedLines settings (DividesAt (words_by separator) splitter algorithm settings) text lines places
+pub placed-shown : (o : TextwrapOptions) (text : List ℕ) (lines : List Line) (places : List Place)
+    → IsUtf8 text
+    → ArePlacedLines (options_settings o) (Divides o (options_settings o)) text lines places
     → (rest : List ℕ) → ShowLines text (built_text lines ++ rest) 0 0 lines places
-placed-shown settings separator splitter algorithm text lines places utf8 placed rest =
+placed-shown o text lines places utf8 placed rest =
+    let settings = options_settings o in
     let ending = ending_bytes settings.line_ending in
     let paragraphs = paragraphs_of settings.line_ending text in
     let groups = placed.are.groups in
     let tile : map covered_by groups ≡ paragraphs =
-    groups-tile settings (DividesAt (words_by separator) splitter algorithm settings)
-    (divided-tile settings separator splitter algorithm) false paragraphs groups
+    groups-tile settings (Divides o settings) (divided-tile o settings) false paragraphs groups
     (paragraphs_of-utf8 settings.line_ending text utf8) placed.are.defined in
     let given = ap (λ ps. lines_of (text_cuts (length ending) 0 ps groups)) (sym tile)
     ∙ lines_of-text_cuts (length ending) 0 groups ∙ sym placed.are.given in

@@ -5,9 +5,9 @@ use Rattle.textwrap.specs.Refilling.{joined_text, keeps_ending, line_prefix}
 use Rattle.textwrap.specs.Refilling.{unfilled_initial, unfilled_subsequent, with_indents_of}
 use Rattle.textwrap_calls.proofs.Common.{All-from_get_or, Divides, IsPrintableByte, TextwrapOptions}
 use Rattle.textwrap_calls.proofs.Common.{IsRefilled, options_settings, slice_range}
-use Rattle.textwrap_calls.proofs.Common.{options_splitter, word_of}
+use Rattle.textwrap_calls.proofs.Common.{word_of}
 use Rattle.textwrap_calls.proofs.Common.{[], All-head, append-nil, nat_tests, ShowLines, true≢false}
-use Rattle.textwrap_calls.proofs.Common.{options_algorithm, is_blank_line, length-slice, separator_of, ℕ}
+use Rattle.textwrap_calls.proofs.Common.{is_blank_line, length-slice, ℕ}
 use Rattle.textwrap_calls.proofs.Common.{arith, cond, false, get_or, length, List, lt-ltb, subst}
 use Rattle.textwrap_calls.proofs.Common.{cases_lt, is_whole, IsFilled, IsUtf8, place_of, says_yes}
 use Rattle.textwrap_calls.proofs.Common.{drop, inl, inr, refl, sym, true, ◌++◌, ◌+◌, ◌-◌, ◌<◌, ◌==◌}
@@ -108,7 +108,7 @@ pub only-line-shown : (o : TextwrapOptions) (text line : List ℕ) → IsUtf8 te
     → IsOnlyLine o text line → (rest : List ℕ)
     → ShowLines text rest 0 0 (Slice line ∷ []) (place_of 0 0 (Slice line) ∷ [])
 only-line-shown o text line =
-    placed-shown (options_settings o) (separator_of o) (options_splitter o) (options_algorithm o) text
+    placed-shown o text
     (Slice line ∷ []) (place_of 0 0 (Slice line) ∷ [])
 
 -- ---- A text that is one line and begins with no indent is refilled as it is filled

@@ -1,11 +1,81 @@
--- What is made by options as the library has them is made by the numbers that they were read from.
+-- What is made by options as the library has them is made by the numbers that they were read from; and
+-- what the points of words keep to.
 use Rattle.textwrap_calls.proofs.Common.{Divides, Settings, options_settings, TextwrapOptions, WordText}
-use Rattle.textwrap_calls.{proofs.Common.{Bool, List, ℕ}, specs.Options.AreRead}
+use Rattle.textwrap_calls.proofs.Common.{ap, arith, false, refl, subst, sym, true, ◌∙◌, ◌≡◌, ◌≤◌}
+use Rattle.textwrap_calls.{proofs.Common.{Bool, IsUtf8, List, ℕ, ◌==◌}, specs.Options.AreRead}
+use Rattle.textwrap_calls.specs.Bounds.{hyphens_of}
+use Rattle.textwrap_calls.specs.Dictionary.{minimum_or, says_yes}
+use Rattle.textwrap_calls.specs.Options.{have_dictionary, options_points}
+use Rattle.textwrap_calls.specs.declared.dictionary.TextwrapDictionary.{TextwrapDictionary}
+use Rattle.textwrap_hyphens.specs.Table.{held_in}
+use Rattle.textwrap_hyphens.specs.declared.table.PatternTable.{PatternTable}
 use Rattle.textwrap_plain.specs.declared.options.PlainOptions.{PlainOptions}
+use Rattle.textwrap_plain.specs.declared.options.PlainSplitter.{PlainSplitter}
+use Rattle.textwrap_plain.specs.declared.options.PlainSplitter.TheVariants.{BuiltIn, Dictionary}
 use Rattle.textwrap_plain.{proofs.Named.named, specs.Options.DividesPlainly}
-use Rattle.textwrap_plain.specs.Options.{plain_settings}
+use Rattle.textwrap_plain.proofs.Balance.Counts.{IsInside, points_by-inside}
+use Rattle.textwrap_plain.specs.CutSides.{points_by-cuts}
+use Rattle.textwrap_plain.specs.Options.{port_splitter, plain_settings, points_by}
+use Rattle.textwrap_text.proofs.Common.{None}
+use Rattle.textwrap_words.specs.Cuts.{AreCuts, AreNext}
+use Rattle.textwrap_words.specs.declared.pieces.BuiltInSplitter.TheVariants.{HyphenSplitter, NoHyphenation}
 
 module _ (o : TextwrapOptions) (read : PlainOptions) (are : AreRead o read) where
   pub as-read : (P : Settings → (Settings → Bool → List ℕ → List (List WordText) → Type 0) → Type 0)
       → P (plain_settings read) (DividesPlainly read) → P (options_settings o) (Divides o)
-  as-read P given = named P are.settings are.separator are.splitter are.algorithm given
+  as-read P given = named P are.settings are.separator are.points are.algorithm given
+
+-- ---- the splitter that options name
+
+-- the dictionary as the library has it
+table_of : TextwrapDictionary → PatternTable
+table_of d =
+    let said = held_in d.numbers.now (says_yes d.in_parts) in
+    record {
+      words = d.numbers;
+      in_parts = says_yes d.in_parts;
+      left = minimum_or d.left said.left;
+      right = minimum_or d.right said.right;
+      soft_hyphens = says_yes d.soft_hyphens;
+    }
+
+-- only a dictionary adds hyphens
+pub record IsNamed (o : TextwrapOptions) (splitter : PlainSplitter) : Type 0 where
+  pub points : options_points o ≡ points_by splitter
+  pub hyphens : port_splitter splitter ≡ None → 1 ≤ hyphens_of o
+
+pub splitter-named : (o : TextwrapOptions) → (splitter : PlainSplitter) × IsNamed o splitter
+unfolding table_of
+splitter-named o = by (have_dictionary o) refl (o.split_at_hyphens == 0) refl
+  where
+    by : (dictionary : Bool) → have_dictionary o ≡ dictionary → (whole : Bool)
+        → (o.split_at_hyphens == 0) ≡ whole → (splitter : PlainSplitter) × IsNamed o splitter
+    by true is whole whole_is = (
+      Dictionary (table_of o.dictionary),
+      record {
+        points = rw is refl;
+        hyphens = λ none. rw is (omega arith);
+      },
+    )
+    by false is true whole_is = (
+      BuiltIn NoHyphenation,
+      record { points = rw (is, whole_is) refl; hyphens = λ none. cc },
+    )
+    by false is false whole_is = (
+      BuiltIn HyphenSplitter,
+      record { points = rw (is, whole_is) refl; hyphens = λ none. cc },
+    )
+
+-- ---- its points
+
+pub options-cuts : (o : TextwrapOptions) (word points : List ℕ) → IsUtf8 word
+    → points ≡ options_points o word → AreCuts word points
+options-cuts o word points utf8 are =
+    let (splitter, is) = splitter-named o in
+    points_by-cuts splitter word points utf8 (are ∙ ap (λ f. f word) is.points)
+
+pub options-inside : (o : TextwrapOptions) (word : List ℕ)
+    → AreNext (IsInside word) (options_points o word) 0
+options-inside o word =
+    let (splitter, is) = splitter-named o in
+    subst (λ f. AreNext (IsInside word) (f word) 0) (sym is.points) (points_by-inside splitter word)

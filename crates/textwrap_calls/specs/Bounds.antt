@@ -1,11 +1,10 @@
 -- How much room answers take at most, by the lengths of the texts.
 use Rattle.std.specs.Prelude.{◌≡◌, ℕ, ◌+◌, ◌-◌, ◌*◌, ◌/◌, ◌^◌, ◌≤◌, ◌⊎◌, max, ◌==◌, ◌&&◌, List}
 use Rattle.std.specs.Prelude.{length, IsUtf8, if◌then◌else◌}
-use Rattle.textwrap.specs.Options.{Settings}
 use Rattle.textwrap.specs.Paragraph.{Line}
 use Rattle.textwrap.specs.Columns.{IsInColumns}
 use Rattle.textwrap_calls.specs.Columns.{AreRows}
-use Rattle.textwrap_calls.specs.Options.{Divides, options_settings}
+use Rattle.textwrap_calls.specs.Options.{Divides, have_dictionary, options_settings}
 use Rattle.textwrap_calls.specs.declared.columns.TextwrapGaps.{TextwrapGaps}
 use Rattle.textwrap_calls.specs.declared.options.TextwrapOptions.{TextwrapOptions}
 use Rattle.textwrap_text.specs.LineEnding.{ending_bytes}
@@ -43,27 +42,37 @@ ForRowsOf o gaps columns text Holds = (rows : List Line)
 
 -- ---- the bounds, without the limit of a number
 
--- each byte on a line of its own, after an ending and the later indent, and the initial indent
-abbrev pub fill_bound : Settings → ℕ → ℕ
-fill_bound settings len =
-    length settings.initial_indent
-    + len * (1 + length settings.subsequent_indent + length (ending_bytes settings.line_ending))
+-- the hyphens that are printed behind a line at most
+abbrev pub hyphens_of : TextwrapOptions → ℕ
+hyphens_of o = if have_dictionary o then 1 else 0
 
--- the lines that have an indent, each byte on a line of its own; without indents there are none
-abbrev pub wrap_room_bound : Settings → ℕ → ℕ
-wrap_room_bound settings len =
-    if (length settings.initial_indent == 0) && (length settings.subsequent_indent == 0) then 0
-    else length settings.initial_indent + len * (1 + length settings.subsequent_indent)
+-- each byte on a line of its own, after an ending and the later indent, and the initial indent; behind
+-- each line its hyphen
+abbrev pub fill_bound : TextwrapOptions → ℕ → ℕ
+fill_bound o len =
+    length o.initial_indent.now + hyphens_of o
+    + len * (1 + length o.subsequent_indent.now + hyphens_of o
+    + length (ending_bytes (options_settings o).line_ending))
+
+-- the lines that have an indent or a hyphen, each byte on a line of its own; without both there are none
+abbrev pub wrap_room_bound : TextwrapOptions → ℕ → ℕ
+wrap_room_bound o len =
+    if (length o.initial_indent.now == 0)
+    && ((length o.subsequent_indent.now == 0) && (hyphens_of o == 0)) then 0
+    else length o.initial_indent.now + hyphens_of o
+    + len * (1 + length o.subsequent_indent.now + hyphens_of o)
 
 -- each byte on a line of its own, and one line before them, in so many columns; without columns
 -- there are none
 abbrev pub rows_bound : ℕ → ℕ → ℕ
 rows_bound len columns = if columns == 0 then 0 else len / columns + 1
 
--- the gaps and the columns of each row, and the lines with their indents, each byte on one of its own
+-- the gaps and the columns of each row, and the lines with their indents and hyphens, each byte on one
+-- of its own
 abbrev pub columns_room_bound : TextwrapOptions → TextwrapGaps → ℕ → ℕ → ℕ
 columns_room_bound o gaps len columns =
     rows_bound len columns
     * (length gaps.left.now + length gaps.right.now + (columns - 1) * length gaps.middle.now
     + max o.width columns)
-    + (length o.initial_indent.now + len * (1 + length o.subsequent_indent.now))
+    + (length o.initial_indent.now + hyphens_of o
+    + len * (1 + length o.subsequent_indent.now + hyphens_of o))

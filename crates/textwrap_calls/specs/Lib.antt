@@ -1,5 +1,6 @@
 pub mod Bounds
 pub mod Columns
+pub mod Dictionary
 pub mod Display
 pub mod Options
 pub mod Printable

@@ -1,15 +1,17 @@
 -- What the numbers of the options mean.
-use Rattle.std.specs.Prelude.{◌≡◌, ◌≢◌, ◌↔◌, ℕ, ◌≤◌, ◌==◌, List, [], ◌∷◌, Bool, not, IsUtf8}
-use Rattle.std.specs.Prelude.{if◌then◌else◌}
+use Rattle.std.specs.Prelude.{◌≡◌, ◌≢◌, ◌↔◌, ℕ, ◌≤◌, ◌==◌, List, [], ◌∷◌, Bool, not, true, IsUtf8}
+use Rattle.std.specs.Prelude.{false, if◌then◌else◌, length, None}
+use Rattle.textwrap_hyphens.specs.Splitting.{split_points}
 use Rattle.textwrap_plain.specs.Options.{plain_algorithm, plain_settings, plain_splitter}
-use Rattle.textwrap_plain.specs.Options.{words_by}
+use Rattle.textwrap_plain.specs.Options.{DividesFrom, points_by, words_by}
+use Rattle.textwrap_words.specs.WordSplitters.{points_of}
 use Rattle.textwrap_plain.specs.declared.options.PlainOptions.{PlainOptions}
 use Rattle.textwrap_plain.specs.declared.options.PlainSeparator.{PlainSeparator}
 use Rattle.textwrap_plain.specs.declared.options.PlainSeparator.TheVariants.{AtBlanks, AtBreaks}
 use Rattle.textwrap_unicode.specs.declared.numbers.Numbers.{Numbers}
 use Rattle.textwrap_unicode.specs.declared.numbers.Numbers.TheVariants.{ByExpression, ByPairs}
 use Rattle.textwrap.specs.Filling.{IsFilled}
-use Rattle.textwrap.specs.Paragraph.{DividesAt, Line}
+use Rattle.textwrap.specs.Paragraph.{Line}
 use Rattle.textwrap.specs.Refilling.{IsRefilled}
 use Rattle.textwrap.specs.Words.{WordText}
 use Rattle.textwrap.specs.Options.{Settings, settings_at}
@@ -19,12 +21,10 @@ use Rattle.textwrap_base.specs.declared.penalties.Penalties.{Penalties}
 use Rattle.textwrap_layout.specs.Places.{ArePlacedLines}
 use Rattle.textwrap_layout.specs.declared.places.Place.{Place}
 use Rattle.textwrap_text.specs.declared.line_ending.LineEnding.TheVariants.{LF, CRLF}
+pub use Rattle.textwrap_calls.specs.Dictionary.{says_yes}
+use Rattle.textwrap_calls.specs.Dictionary.{hyphenation_of, is_whole}
 use Rattle.textwrap_calls.specs.Status.{not_utf8, out_of_memory, unknown_options}
 use Rattle.textwrap_calls.specs.declared.options.TextwrapOptions.{TextwrapOptions}
-
--- a number that says yes or no
-abbrev pub says_yes : ℕ → Bool
-says_yes n = not (n == 0)
 
 abbrev pub options_penalties : TextwrapOptions → Penalties
 options_penalties o = record {
@@ -41,13 +41,22 @@ options_algorithm o = if o.optimal_fit == 0 then ByFirstFit else ByOptimalFit (o
 abbrev pub options_splitter : TextwrapOptions → Splitter
 options_splitter o = if o.split_at_hyphens == 0 then Whole else AtHyphens
 
+-- a dictionary splits words
+abbrev pub have_dictionary : TextwrapOptions → Bool
+have_dictionary o = not (length o.dictionary.numbers.now == 0)
+
+-- where words are split: by the dictionary, if there is one
+abbrev pub options_points : TextwrapOptions → List ℕ → List ℕ
+options_points o =
+    if have_dictionary o then split_points (hyphenation_of o.dictionary) else points_of (options_splitter o)
+
 -- how numbers are kept together, by the number that says so
-abbrev pub numbers_of : ℕ → Numbers
-numbers_of n = if n == 1 then ByPairs else ByExpression
+abbrev pub numbers_by : ℕ → Numbers
+numbers_by n = if n == 1 then ByPairs else ByExpression
 
 abbrev pub separator_of : TextwrapOptions → PlainSeparator
 separator_of o =
-    if o.unicode_breaks == 0 then AtBlanks else AtBreaks (numbers_of o.unicode_breaks)
+    if o.unicode_breaks == 0 then AtBlanks else AtBreaks (numbers_by o.unicode_breaks)
 
 abbrev pub options_settings : TextwrapOptions → Settings
 options_settings o = record (settings_at o.width) {
@@ -59,10 +68,10 @@ options_settings o = record (settings_at o.width) {
   even_paragraphs = says_yes o.even_paragraphs;
 }
 
--- a paragraph is divided so under these settings, by the words, the splitter and the algorithm of the
+-- a paragraph is divided so under these settings, by the words, the points and the algorithm of the
 -- options
 abbrev pub Divides : TextwrapOptions → Settings → Bool → List ℕ → List (List WordText) → Type 0
-Divides o = DividesAt (words_by (separator_of o)) (options_splitter o) (options_algorithm o)
+Divides o = DividesFrom (words_by (separator_of o)) (options_points o) (options_algorithm o)
 
 -- the text, filled by the options
 abbrev pub IsFilledByOptions : TextwrapOptions → List ℕ → List ℕ → Type 0
@@ -82,12 +91,13 @@ ArePlacedBy o text lines places =
 pub record AreRead (o : TextwrapOptions) (read : PlainOptions) : Type 0 where
   pub settings : plain_settings read ≡ options_settings o
   pub separator : read.word_separator ≡ separator_of o
-  pub splitter : plain_splitter read ≡ options_splitter o
+  pub points : points_by read.word_splitter ≡ options_points o
+  pub built_in : have_dictionary o ≡ false → plain_splitter read ≢ None
   pub algorithm : plain_algorithm read ≡ options_algorithm o
 
 -- the version is known, and each number means something
 pub record AreKnown (o : TextwrapOptions) : Type 0 where
-  pub version : o.version ≡ 1
+  pub version : o.version ≡ 2
   pub optimal_fit : o.optimal_fit ≤ 1
   pub split_at_hyphens : o.split_at_hyphens ≤ 1
   pub break_words : o.break_words ≤ 1
@@ -95,6 +105,7 @@ pub record AreKnown (o : TextwrapOptions) : Type 0 where
   pub even_paragraphs : o.even_paragraphs ≤ 1
   pub crlf : o.crlf ≤ 1
   pub unicode_breaks : o.unicode_breaks ≤ 2
+  pub dictionary : is_whole o.dictionary ≡ true
   pub reserved_sizes : o.reserved_sizes ≡ 0 ∷ 0 ∷ 0 ∷ 0 ∷ []
 
 -- the indents are texts
@@ -112,6 +123,7 @@ TellsUnknown status o = status ≡ unknown_options ↔ ¬ AreKnown o
 abbrev pub TellsNotUtf8 : ℕ → TextwrapOptions → List ℕ → Type 0
 TellsNotUtf8 status o text = status ≡ not_utf8 ↔ AreKnown o × ¬ (IsUtf8 text × AreTexts o)
 
--- at blanks and by first fit it is never OUT_OF_MEMORY
+-- at blanks, by first fit and without a dictionary it is never OUT_OF_MEMORY
 abbrev pub NeedsNoMemory : ℕ → TextwrapOptions → Type 0
-NeedsNoMemory status o = o.unicode_breaks ≡ 0 → o.optimal_fit ≡ 0 → status ≢ out_of_memory
+NeedsNoMemory status o =
+    o.unicode_breaks ≡ 0 → o.optimal_fit ≡ 0 → have_dictionary o ≡ false → status ≢ out_of_memory

@@ -49,7 +49,7 @@ IsReflowedBy o text reflowed =
 
 -- the version is known, and each number means something
 pub record AreKnown (o : TextwrapReflowOptions) : Type 0 where
-  pub version : o.version ≡ 1
+  pub version : o.version ≡ 2
   pub optimal_fit : o.optimal_fit ≤ 1
   pub ending : o.ending ≤ 2
   pub markdown : o.markdown ≤ 1

@@ -2,7 +2,7 @@
 use Rattle.std.specs.Prelude.{◌≡◌, ℕ, ◌≤◌, List, All, map}
 use Rattle.textwrap_calls.specs.Columns.{AreTextGaps}
 use Rattle.textwrap_calls.specs.Display.{alignment_of}
-use Rattle.textwrap_calls.specs.Options.{AreKnown, AreTexts, options_settings, options_splitter}
+use Rattle.textwrap_calls.specs.Options.{AreKnown, AreTexts, options_settings, options_points}
 use Rattle.textwrap_calls.specs.Options.{options_algorithm, separator_of}
 use Rattle.textwrap_calls.specs.Texts.{bytes_of, IsText}
 use Rattle.textwrap_calls.specs.declared.columns.TextwrapGaps.{TextwrapGaps}
@@ -11,14 +11,14 @@ use Rattle.textwrap_calls.specs.declared.tables.TextwrapColumn.{TextwrapColumn}
 use Rattle.textwrap_calls.specs.declared.texts.TextwrapText.{TextwrapText}
 use Rattle.textwrap_display.specs.Tables.{Shape}
 use Rattle.textwrap_plain.specs.Options.{words_by}
-use Rattle.textwrap_plain.specs.Tables.{PlainParts}
+use Rattle.textwrap_plain.specs.Tables.{PlainColumnParts}
 
 -- what a column is made of
-abbrev pub parts_of_column : TextwrapColumn → PlainParts
+abbrev pub parts_of_column : TextwrapColumn → PlainColumnParts
 parts_of_column column = record {
   words = words_by (separator_of column.options);
   settings = options_settings column.options;
-  splitter = options_splitter column.options;
+  points = options_points column.options;
   algorithm = options_algorithm column.options;
   alignment = alignment_of column.alignment;
 }

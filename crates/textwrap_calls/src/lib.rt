@@ -10,6 +10,7 @@
 
 pub mod bounds;
 pub mod columns;
+pub mod dictionary;
 pub mod display;
 pub mod filling;
 pub mod indentation;

@@ -1,23 +1,27 @@
 //! How a text is wrapped, as C has it.
-ghost use Rattle.std.specs.Prelude.{◌≡◌, ◌⊎◌, ◌↔◌, true, IfOk, IfErr, IsUtf8, MatchOption};
+ghost use Rattle.std.specs.Prelude.{◌≡◌, ◌≢◌, ◌⊎◌, ◌↔◌, false, None, true, IfOk, IfErr, IsUtf8, MatchOption};
 ghost use Rattle.textwrap_calls.specs.Options.{options_algorithm, AreKnown, AreRead, AreTexts};
-ghost use Rattle.textwrap_calls.specs.Options.{separator_of, options_settings, options_splitter};
+ghost use Rattle.textwrap_calls.specs.Options.{have_dictionary, options_points, options_settings};
+ghost use Rattle.textwrap_calls.specs.Options.{separator_of};
 ghost use Rattle.textwrap_calls.specs.Status.{not_utf8, unknown_options};
 ghost use Rattle.textwrap_layout.specs.Direct.{as_algorithm};
 ghost use Rattle.textwrap_layout.specs.Options.{layout_view, settings_view};
-ghost use Rattle.textwrap_words.specs.Pieces.{as_splitter};
+ghost use Rattle.textwrap_plain.specs.Options.{port_splitter, points_by};
 
+use crate::dictionary::{TextwrapDictionary, is_whole, read_unchecked};
 use crate::status::{NOT_UTF8, UNKNOWN_OPTIONS};
 use simdutf8::basic::from_utf8;
 use textwrap::wrap_algorithms::Penalties;
 use textwrap::{LineEnding, Options};
 use textwrap_layout::layout::Layout;
 use textwrap_layout::options::DEFAULTS;
-use textwrap_plain::{BuiltInAlgorithm, BuiltInSplitter, PlainOptions, PlainSeparator};
+use textwrap_plain::{
+    BuiltInAlgorithm, BuiltInSplitter, PlainOptions, PlainSeparator, PlainSplitter,
+};
 use textwrap_unicode::Numbers;
 
 /// The version of [`TextwrapOptions`].
-pub const VERSION: u32 = 1;
+pub const VERSION: u32 = 2;
 
 /// How a text is wrapped: what the library's `Options` say, in numbers. A text is a pointer and a
 /// length, and a number that says yes or no is 1 or 0.
@@ -56,8 +60,12 @@ pub struct TextwrapOptions<'a> {
     pub short_last_line_fraction: usize,
     /// What a short last line costs.
     pub short_last_line_penalty: usize,
-    /// What a line costs more that ends in an added hyphen. The built-in splitters add none.
+    /// What a line costs more that ends in an added hyphen, as a dictionary adds it.
     pub hyphen_penalty: usize,
+    /// The dictionary that splits words: where it has hyphens, and behind hyphens of their own, whatever
+    /// `split_at_hyphens` says. A hyphen is printed where a line ends at a point of the dictionary. Without
+    /// numbers there is none.
+    pub dictionary: TextwrapDictionary<'a>,
     /// 0 each, until a later option takes one, for which 0 will change nothing.
     pub reserved_sizes: [usize; 4],
 }
@@ -172,7 +180,8 @@ pub fn refusal(given: &TextwrapOptions<'_>) -> u32
     }
 }
 
-/// Whether the version is known, and each number means something.
+/// Whether the version is known, each number means something, and the dictionary was not damaged, if there
+/// is one.
 pub fn are_known(given: &TextwrapOptions<'_>) -> bool
     ensures { result ≡ true ↔ AreKnown given.now }
 {
@@ -185,6 +194,7 @@ pub fn are_known(given: &TextwrapOptions<'_>) -> bool
         && given.crlf <= 1
         && given.unicode_breaks <= 2
         && given.reserved_sizes == [0; 4]
+        && is_whole(&given.dictionary)
 }
 
 /// Where words end.
@@ -215,12 +225,16 @@ fn read_algorithm(given: &TextwrapOptions<'_>) -> BuiltInAlgorithm
 }
 
 /// The splitter that is asked for.
-fn read_splitter(given: &TextwrapOptions<'_>) -> BuiltInSplitter
-    ensures { as_splitter result ≡ options_splitter given.now }
+fn read_splitter<'a>(given: &TextwrapOptions<'a>) -> PlainSplitter<'a>
+    ensures points { points_by result ≡ options_points given.now }
+    ensures built_in { have_dictionary given.now ≡ false → port_splitter result ≢ None }
 {
-    if given.split_at_hyphens == 0 {
+    if !given.dictionary.numbers.is_empty() {
+        return PlainSplitter::Dictionary(read_unchecked(&given.dictionary));
+    }
+    PlainSplitter::BuiltIn(if given.split_at_hyphens == 0 {
         BuiltInSplitter::NoHyphenation
     } else {
         BuiltInSplitter::HyphenSplitter
-    }
+    })
 }

@@ -20,7 +20,8 @@ use textwrap_plain::placed::place_into;
 /// slice of the text is reported at the place that it was cut from. A line with an indent is a text of
 /// its own: these go to the front of the room, one after another, and `len` is that of all. Where
 /// the lines or the room are too short for them, they hold the first of them, and `count` and `len` say
-/// what a second call has to bring. At blanks and by first fit nothing is allocated.
+/// what a second call has to bring. At blanks, by first fit and without a dictionary
+/// nothing is allocated.
 pub fn textwrap_wrap(
     alloc: Global,
     text: &[u8],

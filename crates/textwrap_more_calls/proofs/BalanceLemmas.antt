@@ -2,7 +2,8 @@
 -- the options; and what a refusal says of texts.
 use Rattle.textwrap_plain.proofs.Balance.Search.{balanced-many}
 use Rattle.textwrap_calls.proofs.Common.{arith, done, inl, inr, length, Line, List, ℕ, ◌∙◌}
-use Rattle.textwrap_calls.proofs.Common.{separator_of, options_settings, options_splitter, subst}
+use Rattle.textwrap_calls.proofs.Common.{separator_of, options_settings, subst}
+use Rattle.textwrap_calls.specs.Options.{options_points}
 use Rattle.textwrap_calls.proofs.Common.{TextwrapLine}
 use Rattle.textwrap_calls.proofs.Common.{too_small, ◌↔◌, ◌≡◌, ◌⊎◌}
 use Rattle.textwrap_calls.specs.Options.{ArePlacedBy}
@@ -38,7 +39,7 @@ module _ (o options : TextwrapOptions) (text : List ℕ) (width : ℕ) {status :
       let (lines, places, are, count, len, reported, room, small, shown) =
       writes.written answered in
       let placed = subst (λ p. ArePlacedBy p text lines places) at are in
-      count ∙ balanced-many (options_settings o) (words_by (separator_of o)) (options_splitter o) text width
+      count ∙ balanced-many (options_settings o) (words_by (separator_of o)) (options_points o) text width
       lines others balanced placed.are other_are
 
 -- what is not known, or has no memory, tells nothing of texts

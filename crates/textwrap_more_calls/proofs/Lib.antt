@@ -2,8 +2,6 @@ pub mod BalanceLemmas
 pub mod EndLemmas
 pub mod OffsetLemmas
 pub mod PieceLemmas
-pub mod PlacedHyphens
-pub mod ReadOptions
 pub mod StepLemmas
 pub mod TextStepLemmas
 pub mod Common

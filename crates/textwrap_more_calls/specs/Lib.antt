@@ -2,7 +2,6 @@ pub mod Balancing
 pub mod Breaks
 pub mod Dictionaries
 pub mod Fragments
-pub mod Hyphenated
 pub mod JustifiedSteps
 pub mod Paragraphs
 pub mod Pieces

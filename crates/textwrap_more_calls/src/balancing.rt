@@ -1,7 +1,8 @@
 //! Balanced lines of a text, and the width that they have.
-ghost use Rattle.std.specs.Prelude.{◌≡◌, ◌≢◌, ◌≤◌, ◌⊎◌, List, length, IfErr, IfOk, IsUtf8};
+ghost use Rattle.std.specs.Prelude.{◌≡◌, ◌≢◌, ◌≤◌, ◌⊎◌, false, true, List, length, IfErr, IfOk, IsUtf8};
 ghost use Rattle.textwrap.specs.Paragraph.{Line};
 ghost use Rattle.textwrap_calls.specs.Options.{AreKnown, AreTexts, TellsUnknown, TellsNotUtf8};
+ghost use Rattle.textwrap_calls.specs.Options.{have_dictionary};
 ghost use Rattle.textwrap_calls.specs.Status.{done, not_utf8, out_of_memory, too_small};
 ghost use Rattle.textwrap_calls.specs.Status.{unknown_options};
 ghost use Rattle.textwrap_calls.specs.Wrapping.{WritesLongLines};
@@ -18,7 +19,7 @@ use textwrap_plain::balanced_width;
 
 /// Writes the balanced lines of a text as `textwrap_wrap` writes its lines: those of first fit at the
 /// width of `textwrap_balanced_width`. They are as many as by first fit at the width of the options. At
-/// blanks nothing is allocated.
+/// blanks and without a dictionary nothing is allocated.
 pub fn textwrap_wrap_balanced(
     alloc: Global,
     text: &[u8],
@@ -34,7 +35,8 @@ pub fn textwrap_wrap_balanced(
         → AreByFirstFit options.now text.now others → count.new ≡ length others }
     ensures unknown { TellsUnknown result options.now }
     ensures not_utf8 { TellsNotUtf8 result options.now text.now }
-    ensures no_memory { options.now.unicode_breaks ≡ 0 → result ≢ out_of_memory }
+    ensures no_memory { options.now.unicode_breaks ≡ 0 → have_dictionary options.now ≡ false
+        → result ≢ out_of_memory }
     ensures statuses { result ≤ unknown_options }
 {
     let width = match find_width(alloc, text, options) {
@@ -48,7 +50,8 @@ pub fn textwrap_wrap_balanced(
 /// Writes the least width at which first fit takes no more lines of a text than at the width of the
 /// options, and at which each piece of it has room: the wider of the indents, and after it any one
 /// word, split but not broken, with its hyphen. Where some piece has none at the width of the options,
-/// it is that width. The algorithm of the options is not used. At blanks nothing is allocated.
+/// it is that width. The algorithm of the options is not used. At blanks and without a dictionary nothing
+/// is allocated.
 ///
 /// At 40 columns `It was the best of times, it was the worst` takes two lines, and so it does at 23.
 pub fn textwrap_balanced_width(
@@ -61,7 +64,8 @@ pub fn textwrap_balanced_width(
     ensures kept { result ≢ done → width.new ≡ width.old }
     ensures unknown { TellsUnknown result options.now }
     ensures not_utf8 { TellsNotUtf8 result options.now text.now }
-    ensures no_memory { options.now.unicode_breaks ≡ 0 → result ≢ out_of_memory }
+    ensures no_memory { options.now.unicode_breaks ≡ 0 → have_dictionary options.now ≡ false
+        → result ≢ out_of_memory }
     ensures statuses { (result ≡ done) ⊎ (result ≡ not_utf8) ⊎ (result ≡ out_of_memory)
         ⊎ (result ≡ unknown_options) }
 {
@@ -86,7 +90,8 @@ fn find_width(alloc: Global, text: &[u8], options: &TextwrapOptions<'_>) -> Resu
         ((status ≡ unknown_options) × ¬ AreKnown options.now)
         ⊎ ((status ≡ not_utf8) × AreKnown options.now × ¬ (IsUtf8 text.now × AreTexts options.now))
         ⊎ ((status ≡ out_of_memory) × AreKnown options.now
-        × (IsUtf8 text.now × AreTexts options.now) × (options.now.unicode_breaks ≢ 0))) }
+        × (IsUtf8 text.now × AreTexts options.now)
+        × ((options.now.unicode_breaks ≢ 0) ⊎ (have_dictionary options.now ≡ true)))) }
 {
     let options = read_options(options)?;
     let Ok(text) = from_utf8(text) else {

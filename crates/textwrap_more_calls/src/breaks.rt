@@ -1,7 +1,7 @@
 //! Unicode line breaks.
 ghost use Rattle.std.specs.Prelude.{◌≡◌, ◌<◌, ◌≤◌, ◌↔◌, ◌⊎◌, IfOk, IsUtf8};
 ghost use Rattle.textwrap_more_calls.specs.Breaks.{break_places};
-ghost use Rattle.textwrap_calls.specs.Options.{numbers_of};
+ghost use Rattle.textwrap_calls.specs.Options.{numbers_by};
 ghost use Rattle.textwrap_calls.specs.Room.{WritesText};
 ghost use Rattle.textwrap_calls.specs.Status.{not_utf8, too_small, unknown_options};
 ghost use Rattle.textwrap_unicode.specs.Cuts.{unicode_cuts};
@@ -34,7 +34,7 @@ pub fn textwrap_line_breaks(
     count: &mut usize,
 ) -> u32
     ensures breaks { WritesText (λ answer. answer
-        ≡ break_places (numbers_of unicode_breaks) text.now)
+        ≡ break_places (numbers_by unicode_breaks) text.now)
         result breaks.old breaks.new count.old count.new }
     ensures unknown { result ≡ unknown_options ↔ (unicode_breaks < 1) ⊎ (2 < unicode_breaks) }
     ensures not_utf8 { result ≡ not_utf8 ↔ (1 ≤ unicode_breaks) × (unicode_breaks ≤ 2)

@@ -1,21 +1,21 @@
 //! Words, and the pieces that they are split and broken into, by where they stand.
 ghost use Rattle.std.specs.Prelude.{◌≡◌, ◌⊎◌, ◌↔◌, ◌≤◌, [], IfOk, IsUtf8, true, map};
-ghost use Rattle.textwrap_calls.specs.Options.{separator_of, options_settings, options_splitter};
+ghost use Rattle.textwrap_calls.specs.Options.{separator_of, options_settings, options_points};
 ghost use Rattle.textwrap_calls.specs.Options.{TellsUnknown, TellsNotUtf8};
 ghost use Rattle.textwrap_more_calls.specs.Pieces.{AreOffsets, offsets_past, piece_places};
 ghost use Rattle.textwrap_calls.specs.Room.{WritesText};
 ghost use Rattle.textwrap_calls.specs.Status.{done, not_utf8, too_small, unknown_options};
 ghost use Rattle.textwrap_calls.specs.Status.{wrong_places};
 ghost use Rattle.textwrap_layout.specs.Options.{settings_view};
-ghost use Rattle.textwrap_layout.specs.Paragraph.{pieces_by, pieces_of};
-ghost use Rattle.textwrap_plain.specs.Options.{words_by};
+ghost use Rattle.textwrap_layout.specs.Paragraph.{broken_pieces_of, pieces_of};
+ghost use Rattle.textwrap_plain.specs.Options.{points_by, split_by_points, words_by};
 ghost use Rattle.textwrap_words.specs.Breaking.{broken_pieces, pieces_left};
 ghost use Rattle.textwrap_words.specs.Pieces.{as_splitter};
 ghost use Rattle.textwrap_text.specs.Units.{stripped};
 ghost use Rattle.textwrap_words.specs.WordOffsets.{words_at};
 ghost use Rattle.textwrap_words.specs.WordSplitters.{hyphen_points};
 ghost use Rattle.textwrap_words.specs.Words.{piece, word_view, Tiles};
-ghost use Rattle.textwrap_plain.specs.Options.{plain_settings, plain_splitter};
+ghost use Rattle.textwrap_plain.specs.Options.{plain_settings};
 
 use simdutf8::basic::from_utf8;
 use std::alloc::{AllocError, Global};
@@ -28,7 +28,7 @@ use textwrap_calls::room::put;
 use textwrap_calls::status::{NOT_UTF8, OUT_OF_MEMORY, WRONG_PLACES};
 use textwrap_lines::inner::paragraph_pieces;
 use textwrap_plain::placed::paragraph_pieces as paragraph_pieces_by;
-use textwrap_plain::{PlainOptions, PlainSeparator};
+use textwrap_plain::{PlainOptions, PlainSeparator, PlainSplitter};
 use textwrap_text::characters::Characters;
 use textwrap_words::inner::BuiltInSplitter;
 
@@ -58,10 +58,9 @@ pub fn textwrap_pieces(
     pieces: &mut [TextwrapPiece],
     count: &mut usize,
 ) -> u32
-    ensures pieces { WritesText (λ answer. answer ≡ piece_places 0 (pieces_by
-        (options_settings options.now) (words_by (separator_of options.now))
-        (options_splitter options.now)
-        paragraph.now)) result pieces.old pieces.new count.old count.new }
+    ensures pieces { WritesText (λ answer. answer ≡ piece_places 0 (broken_pieces_of
+        (options_settings options.now) (split_by_points (options_points options.now)
+        (words_by (separator_of options.now) paragraph.now)))) result pieces.old pieces.new count.old count.new }
     ensures unknown { TellsUnknown result options.now }
     ensures not_utf8 { TellsNotUtf8 result options.now paragraph.now }
     ensures statuses { result ≤ unknown_options }
@@ -85,16 +84,16 @@ fn listed_pieces(
     paragraph: &str,
     options: &PlainOptions<'_>,
 ) -> Result<Vec<TextwrapPiece>, AllocError>
-    ensures { IfOk result (λ pieces. pieces.items ≡ piece_places 0 (pieces_by
-        (plain_settings options.now) (words_by options.now.word_separator)
-        (plain_splitter options.now) paragraph.now)) }
+    ensures { IfOk result (λ pieces. pieces.items ≡ piece_places 0 (broken_pieces_of
+        (plain_settings options.now) (split_by_points (points_by options.now.word_splitter)
+        (words_by options.now.word_separator paragraph.now)))) }
 {
-    match options.word_separator {
-        PlainSeparator::AtBlanks => {
+    match (options.word_separator, options.word_splitter) {
+        (PlainSeparator::AtBlanks, PlainSplitter::BuiltIn(splitter)) => {
             let layout = with_layout(options.layout());
-            placed_pieces(alloc, paragraph, &layout, options.word_splitter)
+            placed_pieces(alloc, paragraph, &layout, splitter)
         }
-        PlainSeparator::AtBreaks(_) => {
+        _ => {
             let found = paragraph_pieces_by(alloc, paragraph, options)?;
             place_words(alloc, paragraph, &found)
         }

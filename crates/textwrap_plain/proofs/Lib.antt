@@ -1,9 +1,9 @@
 pub mod Balance
 pub mod Named
-pub mod Words
 pub mod Passing
 pub mod Pieces
-pub mod PlainPieces
+pub mod Split
 pub mod Unique
 pub mod Widths
+pub mod Words
 pub mod Wrapping

@@ -1,29 +1,44 @@
 -- What holds by the options that hold no function holds by what they name.
 use Rattle.textwrap_display.proofs.TableGroups.{MakeThose}
 use Rattle.textwrap_layout.{proofs.Text.Paragraphs.join-paragraphs_of}
-use Rattle.textwrap_layout.proofs.Common.{DividesAt, line_bytes}
+use Rattle.textwrap_layout.proofs.Common.{line_bytes}
 use Rattle.textwrap_layout.proofs.Common.{IsFilled, Settings, is_whole}
 use Rattle.textwrap_layout.proofs.Common.{line_from, parts_of}
 use Rattle.textwrap_layout.proofs.Paragraph.LeftOff.{AreParagraphParts-whole, line_from-whole}
 use Rattle.textwrap_plain.specs.{Tables.PlainMakes, declared.display.PlainColumn.PlainColumn}
 use Rattle.textwrap_plain.specs.{Tables.plain_shape}
-use Rattle.textwrap_plain.specs.{Tables.plain_parts, declared.options.PlainSeparator.PlainSeparator}
-use Rattle.textwrap_plain.specs.Options.{words_by}
+use Rattle.textwrap_plain.specs.{Tables.plain_parts}
 use Rattle.textwrap_text.proofs.Common.{ap, cond, false, refl, true, ℕ, ◌∙◌}
 use Rattle.textwrap_text.proofs.Common.{Bool, [], join_with, sym, without_final_blanks, ◌∷◌}
-use Rattle.textwrap_text.proofs.Common.{List, ending_bytes, map, paragraphs_of, subst, ◌≡◌}
+use Rattle.textwrap_text.proofs.Common.{List, Option, Some, ending_bytes, map, paragraphs_of, subst, ◌≡◌}
 use Rattle.textwrap_text.specs.declared.line_ending.LineEnding.{LineEnding}
 use Rattle.textwrap_words.proofs.{Common.word_of}
-use Rattle.textwrap_words.proofs.Common.{Algorithm, Splitter, WordText}
+use Rattle.textwrap_words.proofs.Common.{Algorithm, Splitter, WordText, as_splitter, points_of}
+use Rattle.textwrap_plain.specs.Options.{DividesFrom, port_splitter, points_by, words_by}
+use Rattle.textwrap_plain.specs.declared.options.PlainSeparator.{PlainSeparator}
+use Rattle.textwrap_plain.specs.declared.options.PlainSplitter.{PlainSplitter}
+use Rattle.textwrap_plain.specs.declared.options.PlainSplitter.TheVariants.{BuiltIn, Dictionary}
 
 pub named : (P : Settings → (Settings → Bool → List ℕ → List (List WordText) → Type 0) → Type 0)
-    {s t : Settings} {w v : PlainSeparator} {p q : Splitter} {a b : Algorithm} → s ≡ t → w ≡ v
-    → p ≡ q → a ≡ b → P s (DividesAt (words_by w) p a) → P t (DividesAt (words_by v) q b)
-named P {s} {t} {w} {v} {p} {q} {a} {b} settings words splitter algorithm is =
-    subst (λ r. P r (DividesAt (words_by v) q b)) settings
-    (subst (λ u. P s (DividesAt (words_by u) q b)) words
-    (subst (λ o. P s (DividesAt (words_by w) o b)) splitter
-    (subst (λ e. P s (DividesAt (words_by w) p e)) algorithm is)))
+    {s t : Settings} {w v : PlainSeparator} {p q : List ℕ → List ℕ} {a b : Algorithm} → s ≡ t → w ≡ v
+    → p ≡ q → a ≡ b → P s (DividesFrom (words_by w) p a) → P t (DividesFrom (words_by v) q b)
+named P {s} {t} {w} {v} {p} {q} {a} {b} settings words points algorithm is =
+    subst (λ r. P r (DividesFrom (words_by v) q b)) settings
+    (subst (λ u. P s (DividesFrom (words_by u) q b)) words
+    (subst (λ o. P s (DividesFrom (words_by w) o b)) points
+    (subst (λ e. P s (DividesFrom (words_by w) p e)) algorithm is)))
+
+-- ---- what holds by a splitter without functions holds by the one that options name
+
+pub by-splitter : (P : Settings → (List ℕ → List ℕ) → Type 0) {settings others : Settings}
+    (given : PlainSplitter) (splitter : Splitter) (view : Option Splitter) → settings ≡ others
+    → view ≡ port_splitter given → view ≡ Some splitter → P settings (points_by given)
+    → P others (points_of splitter)
+by-splitter P {settings} {others} (BuiltIn given) splitter view same view_is is holds =
+    let names : as_splitter given ≡ splitter = cc in
+    subst (λ p. P others (points_of p)) names
+    (subst (λ s. P s (points_of (as_splitter given))) same holds)
+by-splitter P {settings} {others} (Dictionary table) splitter view same view_is is holds = cc
 
 -- ---- a text that is one line as a whole
 

@@ -7,12 +7,19 @@ use Rattle.textwrap_words.proofs.Word.BrokenPieces.{IsTight, broken_words-tight,
 use Rattle.textwrap_words.proofs.Word.Words.{All-each}
 use Rattle.textwrap_layout.proofs.Common.{empty_word, front_pieces, later_width}
 use Rattle.textwrap_base.proofs.Common.{total_width}
-use Rattle.textwrap_words.proofs.Common.{MaySeparate, WordText, sizes_of}
-use Rattle.textwrap_words.proofs.Word.Parts.{MaySeparate-texts}
+use Rattle.textwrap_words.proofs.Common.{WordText, sizes_of}
 use Rattle.textwrap_words.proofs.Word.Pieces.{AreTexts, split-measured, split-tile}
-use Rattle.textwrap_layout.proofs.Common.{ArePieces, Settings, settings_view}
-use Rattle.textwrap_layout.specs.declared.options.Options.{Options}
+use Rattle.textwrap_layout.proofs.Common.{ArePieces, Settings}
 use Rattle.textwrap_hyphens.specs.Table.{held}
+use Rattle.textwrap_base.specs.Errors.{Fits64Bits}
+use Rattle.textwrap_layout.proofs.Common.{ArePoints, AreWordsCut, as_splitter}
+use Rattle.textwrap_layout.proofs.Paragraph.Pieces.{AreWordsCut-texts, pieces-bounded, pieces-tile}
+use Rattle.textwrap_words.proofs.Word.Words.{total_width-narrow}
+use Rattle.textwrap_plain.specs.Options.{points_by}
+use Rattle.textwrap_plain.specs.declared.options.PlainSplitter.{PlainSplitter}
+use Rattle.textwrap_plain.specs.declared.options.PlainSplitter.TheVariants.{BuiltIn, Dictionary}
+use Rattle.textwrap_text.proofs.Common.{◌<◌, ◌^◌}
+use Rattle.textwrap_words.proofs.Word.Pieces.{ArePoints-cuts, ArePoints-hyphens}
 use Rattle.textwrap_hyphens.specs.declared.table.PatternTable.{PatternTable}
 use Rattle.textwrap_hyphens.proofs.SplitPieces.{HasHyphenAtMost, held-cuts, split-carries}
 use Rattle.textwrap_hyphens.proofs.SplitPieces.{split-hyphens}
@@ -59,22 +66,20 @@ module _ (settings : Settings) (Words : List ℕ → List WordText → Type 0)
             (words, words_are, split_are)),
       )
 
-module _ {E C : Type 0} {e : _} {c : _} (options : Options E C e c) (patterns : PatternTable) where
   -- behind each of them nothing is printed, or a hyphen
   pub hyphenated-hyphens : (paragraph : List ℕ) (pieces : List WordText) → IsUtf8 paragraph
-      → ArePieces (settings_view options) (MaySeparate options.word_separator)
-      (ArePointsBy (held patterns)) paragraph pieces → All HasHyphenAtMost pieces
+      → ArePieces settings Words (ArePointsBy (held patterns)) paragraph pieces
+      → All HasHyphenAtMost pieces
   hyphenated-hyphens paragraph pieces utf8 (words, split, words_are, split_are, is) =
-      let are = MaySeparate-texts options.word_separator paragraph words utf8 words_are in
-      let limit = later_width (settings_view options) in
+      let are = texts paragraph words utf8 words_are in
+      let limit = later_width settings in
       let hyphens = split-hyphens patterns words split are.measured are.plain split_are in
-      subst (All HasHyphenAtMost) (sym is) (elim options.break_words
-      as (λ b. All HasHyphenAtMost (cond b (front_pieces (settings_view options)
+      subst (All HasHyphenAtMost) (sym is) (elim settings.break_words
+      as (λ b. All HasHyphenAtMost (cond b (front_pieces settings
       ++ broken_words limit split) split)) [
         | true ↦
-            All-append HasHyphenAtMost (front_pieces (settings_view options))
-            (broken_words limit split)
-            (front-hyphens (eqb (length options.initial_indent.now) 0))
+            All-append HasHyphenAtMost (front_pieces settings) (broken_words limit split)
+            (front-hyphens (eqb (length settings.initial_indent) 0))
             (All-each HasHyphenAtMost HasHyphenAtMost (broken_word limit)
             (λ w has. broken_word-hyphens limit w has (ltb limit w.width)) split hyphens)
         | false ↦ hyphens
@@ -82,16 +87,40 @@ module _ {E C : Type 0} {e : _} {c : _} (options : Options E C e c) (patterns : 
 
   -- where words are broken, one that is wider than a line has one character that takes columns
   pub hyphenated-tight : (paragraph : List ℕ) (pieces : List WordText) → IsUtf8 paragraph
-      → options.break_words ≡ true
-      → ArePieces (settings_view options) (MaySeparate options.word_separator)
-      (ArePointsBy (held patterns)) paragraph pieces
-      → All (IsTight (later_width (settings_view options))) pieces
+      → settings.break_words ≡ true
+      → ArePieces settings Words (ArePointsBy (held patterns)) paragraph pieces
+      → All (IsTight (later_width settings)) pieces
   hyphenated-tight paragraph pieces utf8 breaks (words, split, words_are, split_are, is) =
-      let limit = later_width (settings_view options) in
-      let measured = split-measured (MaySeparate options.word_separator)
-      (ArePointsBy (held patterns)) (MaySeparate-texts options.word_separator) (held-cuts patterns)
+      let limit = later_width settings in
+      let measured = split-measured Words (ArePointsBy (held patterns)) texts (held-cuts patterns)
       paragraph split utf8 (words, words_are, split_are) in
       subst (All (IsTight limit)) (sym is) (rw breaks
-      (All-append (IsTight limit) (front_pieces (settings_view options)) (broken_words limit split)
-      (front-tight limit (eqb (length options.initial_indent.now) 0))
+      (All-append (IsTight limit) (front_pieces settings) (broken_words limit split)
+      (front-tight limit (eqb (length settings.initial_indent) 0))
       (broken_words-tight limit split measured)))
+
+-- ---- the pieces by options without functions
+
+-- their widths fit a number
+pub plain-fits : (splitter : PlainSplitter) (settings : Settings) (paragraph : List ℕ)
+    (pieces : List WordText) → IsUtf8 paragraph → length paragraph < 2 ^ 63
+    → ArePieces settings AreWordsCut (λ word points. points ≡ points_by splitter word) paragraph pieces
+    → Fits64Bits (total_width sizes_of pieces)
+plain-fits (BuiltIn given) settings paragraph pieces utf8 short are =
+    let splitter = as_splitter given in
+    omega (
+      arith,
+      short,
+      ap length
+          (pieces-tile settings AreWordsCut (ArePoints splitter) AreWordsCut-texts
+          (ArePoints-cuts splitter) paragraph pieces utf8 are),
+      total_width-narrow pieces
+          (pieces-bounded settings AreWordsCut (ArePoints splitter) AreWordsCut-texts
+          (ArePoints-cuts splitter) (ArePoints-hyphens splitter) paragraph pieces utf8 are),
+    )
+plain-fits (Dictionary table) settings paragraph pieces utf8 short are =
+    omega (
+      arith,
+      short,
+      hyphenated-wide settings AreWordsCut AreWordsCut-texts table paragraph pieces utf8 are,
+    )

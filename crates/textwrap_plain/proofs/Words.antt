@@ -1,19 +1,26 @@
 -- The words of a line by options without functions, and what lines of them keep to.
-use Rattle.textwrap_base.proofs.Division.Map.{IsDividedBy-whole}
+use Rattle.textwrap_base.proofs.Division.Map.{IsDividedBy-some, IsDividedBy-whole}
 use Rattle.textwrap_layout.proofs.Common.{ArePrintedWithin, CanKeepToWidth, Line, LinesKeepToWidth}
-use Rattle.textwrap_layout.proofs.Common.{AreTextLines, DividesAt, IsWrapped, Settings}
+use Rattle.textwrap_layout.proofs.Common.{AreTextLines, IsWrapped, Settings}
 use Rattle.textwrap_layout.proofs.Paragraph.Pieces.{AreWordsCut-texts}
 use Rattle.textwrap_lines.proofs.Text.Printed.{ArePrintedWithin-by}
-use Rattle.textwrap_plain.specs.CutSides.{words_by-cut}
-use Rattle.textwrap_lines.proofs.Text.Promises.{IsWrapped-parts, LinesKeepToWidth-by}
+use Rattle.textwrap_plain.proofs.Wrapping.{AddOnlyHyphens-by, LinesKeepButHyphens-by, hyphens-alone}
+use Rattle.textwrap_plain.specs.CutSides.{points_by-cuts, words_by-cut}
+use Rattle.textwrap_plain.specs.Hyphenated.{AddOnlyHyphens, AddsHyphenAtMost, LinesKeepButHyphens}
+use Rattle.textwrap_hyphens.specs.declared.table.PatternTable.{PatternTable}
+use Rattle.textwrap_lines.proofs.Text.Promises.{IsWrapped-by, LinesKeepToWidth-by}
 use Rattle.textwrap_plain.specs.{Options.words_by, declared.options.PlainSeparator.PlainSeparator}
+use Rattle.textwrap_plain.specs.Options.{DividesFrom, port_splitter, points_by}
+use Rattle.textwrap_plain.specs.declared.options.PlainSplitter.{PlainSplitter}
+use Rattle.textwrap_plain.specs.declared.options.PlainSplitter.TheVariants.{BuiltIn, Dictionary}
 use Rattle.textwrap_text.proofs.Common.{append-nil, arith}
-use Rattle.textwrap_text.proofs.Common.{IsUtf8, List, Some, rules, subst, ℕ}
-use Rattle.textwrap_text.proofs.Common.{[], sym, true, ◌≡◌}
-use Rattle.textwrap_words.proofs.Common.{Algorithm, ArePoints, IsDividedBy, Splitter, WordText}
-use Rattle.textwrap_words.proofs.Common.{ByFirstFit, sizes_of}
+use Rattle.textwrap_text.proofs.Common.{All, Bool, IsUtf8, List, None, Some, refl, rules, subst, take, ℕ}
+use Rattle.textwrap_text.proofs.Common.{[], sym, true, ◌≡◌, ◌≢◌}
+use Rattle.textwrap_text.proofs.Lists.Parts.{Begins, flat}
+use Rattle.textwrap_words.proofs.Common.{Algorithm, IsDividedBy, WordText, as_splitter}
+use Rattle.textwrap_words.proofs.Common.{ByFirstFit, ends_in_hyphen, sizes_of}
 use Rattle.textwrap_words.proofs.Word.{Pieces.AreTexts}
-use Rattle.textwrap_words.proofs.Word.Pieces.{ArePoints-cuts, ArePoints-hyphens}
+use Rattle.textwrap_words.proofs.Word.Pieces.{ArePoints-hyphens}
 
 -- the words of a line are texts of it
 pub words_by-texts : (separator : PlainSeparator) (line : List ℕ) → IsUtf8 line
@@ -28,41 +35,89 @@ pub texts-at : (separator : PlainSeparator) (line : List ℕ) (words : List Word
 texts-at separator line words utf8 is =
     subst (AreTexts line) (sym is) (words_by-texts separator line utf8)
 
-pub IsWrapped-at : (separator : PlainSeparator) {settings : Settings} {algorithm : Algorithm}
-    {splitter : Splitter} {text : List ℕ} {lines : List Line} → IsUtf8 text
-    → AreTextLines settings (DividesAt (words_by separator) splitter algorithm settings) text lines
-    → IsWrapped settings (Some splitter) (Some algorithm)
-    (DividesAt (words_by separator) splitter algorithm settings) text lines
-IsWrapped-at separator {settings} {algorithm} {splitter} {text} {lines} =
-    IsWrapped-parts (λ line words. words ≡ words_by separator line) (texts-at separator) settings
-    algorithm splitter text lines
+-- where the splitter is one of the port, no piece of a word has a penalty
+points_by-hyphens : (splitter : PlainSplitter) → port_splitter splitter ≢ None → (text points : List ℕ)
+    → points ≡ points_by splitter text → All (λ p. ends_in_hyphen (take p text) ≡ true) points
+points_by-hyphens (BuiltIn splitter) is_built_in = ArePoints-hyphens (as_splitter splitter)
+points_by-hyphens (Dictionary table) is_built_in = absurd (is_built_in refl)
 
--- and by first fit
-module _ (separator : PlainSeparator) {settings : Settings} {algorithm : Algorithm}
-    (splitter : Splitter) {text : List ℕ} {lines : List Line} (utf8 : IsUtf8 text)
-    (first : algorithm ≡ ByFirstFit) where
-  pub LinesKeepToWidth-at : settings.even_paragraphs ≡ true → settings.break_words ≡ true
-      → AreTextLines settings (DividesAt (words_by separator) splitter algorithm settings) text
-      lines
-      → LinesKeepToWidth settings (DividesAt (words_by separator) splitter algorithm settings) text
-      lines
-  LinesKeepToWidth-at =
-      LinesKeepToWidth-by settings (λ line words. words ≡ words_by separator line)
-      (ArePoints splitter) (IsDividedBy algorithm sizes_of) (texts-at separator)
-      (ArePoints-cuts splitter)
-      (λ widths pieces division divided. ([], search (rules, arith, append-nil, IsDividedBy-whole)))
-      (ArePoints-hyphens splitter)
-      (λ widths pieces division. subst (λ a. IsDividedBy a sizes_of widths pieces division) first)
-      text lines utf8
+lines-begin : (algorithm : Algorithm) (widths : List ℕ) (pieces : List WordText)
+    (division : List (List WordText)) → IsDividedBy algorithm sizes_of widths pieces division
+    → Begins pieces (flat division)
+lines-begin algorithm widths pieces division divided =
+    ([], search (rules, arith, append-nil, IsDividedBy-whole))
 
-  pub ArePrintedWithin-at : CanKeepToWidth settings text
-      → AreTextLines settings (DividesAt (words_by separator) splitter algorithm settings) text
-      lines
-      → ArePrintedWithin settings (DividesAt (words_by separator) splitter algorithm settings) text
-      lines
-  ArePrintedWithin-at =
-      ArePrintedWithin-by settings (λ line words. words ≡ words_by separator line)
-      (ArePoints splitter) (IsDividedBy algorithm sizes_of) (texts-at separator)
-      (ArePoints-cuts splitter) (ArePoints-hyphens splitter)
-      (λ widths pieces division. subst (λ a. IsDividedBy a sizes_of widths pieces division) first)
-      text lines utf8
+abbrev By : PlainSeparator → PlainSplitter → Algorithm → Settings → Bool → List ℕ
+    → List (List WordText) → Type 0
+By separator splitter = DividesFrom (words_by separator) (points_by splitter)
+
+lines-greedy : {algorithm : Algorithm} → algorithm ≡ ByFirstFit → (widths : List ℕ)
+    (pieces : List WordText) (division : List (List WordText))
+    → IsDividedBy algorithm sizes_of widths pieces division
+    → IsDividedBy ByFirstFit sizes_of widths pieces division
+lines-greedy first widths pieces division =
+    subst (λ a. IsDividedBy a sizes_of widths pieces division) first
+
+pub hyphens-at : (separator : PlainSeparator) (table : PatternTable) (algorithm : Algorithm)
+    {settings : Settings} {text : List ℕ} {lines : List Line} → IsUtf8 text
+    → (are : AreTextLines settings (By separator (Dictionary table) algorithm settings) text lines)
+    → All AddsHyphenAtMost (flat are.groups)
+hyphens-at separator table algorithm {settings} {text} {lines} utf8 are =
+    hyphens-alone settings (λ line words. words ≡ words_by separator line) (texts-at separator) table
+    (IsDividedBy algorithm sizes_of) (lines-begin algorithm) text lines utf8 are
+
+pub AddOnlyHyphens-at : (separator : PlainSeparator) (splitter : PlainSplitter)
+    (algorithm : Algorithm) {settings : Settings} {text : List ℕ} {lines : List Line} → IsUtf8 text
+    → port_splitter splitter ≡ None
+    → AreTextLines settings (By separator splitter algorithm settings) text lines
+    → AddOnlyHyphens settings (By separator splitter algorithm settings) text lines
+AddOnlyHyphens-at separator (BuiltIn splitter) algorithm utf8 none are = cc
+AddOnlyHyphens-at separator (Dictionary table) algorithm {settings} {text} {lines} utf8 none are =
+    AddOnlyHyphens-by settings (λ line words. words ≡ words_by separator line)
+    (texts-at separator) table (IsDividedBy algorithm sizes_of) (lines-begin algorithm) text lines
+    utf8 are
+
+module _ (separator : PlainSeparator) {settings : Settings} {algorithm : Algorithm} {text : List ℕ}
+    {lines : List Line} (utf8 : IsUtf8 text) where
+  pub IsWrapped-at : (splitter : PlainSplitter)
+      → AreTextLines settings (By separator splitter algorithm settings) text lines
+      → IsWrapped settings (port_splitter splitter) (Some algorithm)
+      (By separator splitter algorithm settings) text lines
+  IsWrapped-at splitter =
+      IsWrapped-by settings (λ line words. words ≡ words_by separator line)
+      (λ word points. points ≡ points_by splitter word) (IsDividedBy algorithm sizes_of)
+      (texts-at separator) (points_by-cuts splitter) (lines-begin algorithm) (port_splitter splitter)
+      (Some algorithm) (points_by-hyphens splitter) (λ _. IsDividedBy-whole sizes_of algorithm)
+      (λ _. IsDividedBy-some sizes_of algorithm)
+      (λ first. let is : algorithm ≡ ByFirstFit = cc in lines-greedy is) text lines utf8
+
+  -- and by first fit
+  module _ (first : algorithm ≡ ByFirstFit) where
+    pub LinesKeepButHyphens-at : (splitter : PlainSplitter) → port_splitter splitter ≡ None
+        → settings.break_words ≡ true
+        → AreTextLines settings (By separator splitter algorithm settings) text lines
+        → LinesKeepButHyphens settings (By separator splitter algorithm settings) text lines
+    LinesKeepButHyphens-at (BuiltIn splitter) none breaks are = cc
+    LinesKeepButHyphens-at (Dictionary table) none breaks are =
+        LinesKeepButHyphens-by settings (λ line words. words ≡ words_by separator line)
+        (texts-at separator) table (IsDividedBy algorithm sizes_of) (lines-begin algorithm)
+        (lines-greedy first) breaks text lines utf8 are
+
+    module _ (splitter : PlainSplitter) (is_built_in : port_splitter splitter ≢ None) where
+      pub LinesKeepToWidth-at : settings.even_paragraphs ≡ true → settings.break_words ≡ true
+          → AreTextLines settings (By separator splitter algorithm settings) text lines
+          → LinesKeepToWidth settings (By separator splitter algorithm settings) text lines
+      LinesKeepToWidth-at =
+          LinesKeepToWidth-by settings (λ line words. words ≡ words_by separator line)
+          (λ word points. points ≡ points_by splitter word) (IsDividedBy algorithm sizes_of)
+          (texts-at separator) (points_by-cuts splitter) (lines-begin algorithm)
+          (points_by-hyphens splitter is_built_in) (lines-greedy first) text lines utf8
+
+      pub ArePrintedWithin-at : CanKeepToWidth settings text
+          → AreTextLines settings (By separator splitter algorithm settings) text lines
+          → ArePrintedWithin settings (By separator splitter algorithm settings) text lines
+      ArePrintedWithin-at =
+          ArePrintedWithin-by settings (λ line words. words ≡ words_by separator line)
+          (λ word points. points ≡ points_by splitter word) (IsDividedBy algorithm sizes_of)
+          (texts-at separator) (points_by-cuts splitter) (points_by-hyphens splitter is_built_in)
+          (lines-greedy first) text lines utf8

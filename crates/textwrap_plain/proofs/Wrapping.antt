@@ -1,7 +1,7 @@
 -- What a hyphenated text promises.
 use Rattle.textwrap_text.proofs.Common.{All, All-cons, All-nil, Bool, [], cond, inl, map, subst, sym}
 use Rattle.textwrap_text.proofs.Common.{false, true, ◌++◌, ◌∷◌, ◌≤◌}
-use Rattle.textwrap_text.proofs.Lists.Parts.{all-left, flat}
+use Rattle.textwrap_text.proofs.Lists.Parts.{Begins, all-left, flat}
 use Rattle.std.specs.Prelude.{MatchBool}
 use Rattle.textwrap_base.proofs.Common.{closed_width}
 use Rattle.textwrap_words.proofs.Common.{WordText, broken_words, sizes_of, word_of}
@@ -17,50 +17,41 @@ use Rattle.textwrap_plain.proofs.Pieces.{hyphenated-hyphens, hyphenated-tight}
 use Rattle.textwrap_hyphens.proofs.SplitPieces.{HasHyphenAtMost}
 use Rattle.textwrap_plain.specs.Hyphenated.{AddOnlyHyphens, AddsHyphenAtMost, KeepButHyphens}
 use Rattle.textwrap_plain.specs.Hyphenated.{LinesKeepButHyphens, OnlyHyphensPass}
-use Rattle.textwrap_text.proofs.Common.{IsUtf8, List, None, ap, arith, refl, ℕ, ◌∙◌, ◌≡◌}
-use Rattle.textwrap_words.proofs.Common.{Algorithm, MayDivide, MaySeparate, algorithm_view}
+use Rattle.textwrap_text.proofs.Common.{IsUtf8, List, None, ap, refl, ℕ, ◌∙◌, ◌≡◌, ◌↔◌}
+use Rattle.textwrap_words.proofs.Common.{Algorithm, ByFirstFit, IsDividedBy, MayDivide, MaySeparate}
+use Rattle.textwrap_words.proofs.Common.{algorithm_view, words_of}
+use Rattle.textwrap_words.proofs.Word.Pieces.{AreTexts}
+use Rattle.textwrap_words.proofs.Word.Words.{words_unique}
 use Rattle.textwrap_words.proofs.Word.Divisions.{MayDivide-begins, MayDivide-greedy, MayDivide-some}
 use Rattle.textwrap_words.proofs.Word.Divisions.{MayDivide-whole}
 use Rattle.textwrap_words.proofs.Word.Parts.{MaySeparate-texts}
-use Rattle.textwrap_layout.proofs.Common.{AreTextLines, IsFilled, IsWrapped, Line, Settings}
+use Rattle.textwrap_layout.proofs.Common.{AreTextLines, IsDividedInto, IsWrapped, Line, Settings}
 use Rattle.textwrap_layout.proofs.Common.{settings_view}
 use Rattle.textwrap_layout.proofs.Paragraph.Pieces.{division-as}
 use Rattle.textwrap_layout.specs.declared.options.Options.{Options}
 use Rattle.textwrap_lines.proofs.Text.Promises.{IsWrapped-by}
-use Rattle.textwrap.specs.Columns.{IsInColumns, at_column_width}
-use Rattle.textwrap.specs.Refilling.{IsRefilled, with_indents_of}
 use Rattle.textwrap_hyphens.specs.Table.{held}
 use Rattle.textwrap_hyphens.specs.declared.table.PatternTable.{PatternTable}
 use Rattle.textwrap_hyphens.proofs.SplitPieces.{held-cuts}
 use Rattle.textwrap_plain.specs.Hyphenated.{ArePointsBy, DividesAtPoints, DividesHyphenated}
 use Rattle.textwrap_plain.specs.Hyphenated.{DividesHyphenatedUnder, HasPartsBeside}
+use Rattle.textwrap_plain.specs.Options.{DividesFrom, DividesPlainly, plain_algorithm}
+use Rattle.textwrap_plain.specs.declared.options.PlainOptions.{PlainOptions}
+use Rattle.textwrap_plain.specs.declared.options.PlainSeparator.TheVariants.{AtBlanks}
+use Rattle.textwrap_plain.specs.declared.options.PlainSplitter.TheVariants.{Dictionary}
+use Rattle.textwrap_hyphens.specs.Hyphenation.{Hyphenation}
+use Rattle.textwrap_hyphens.specs.Splitting.{split_points}
 
-module _ {E C : Type 0} {e : _} {c : _} (options : Options E C e c) (patterns : PatternTable) where
-  pub IsWrapped-hyphenated : (text : List ℕ) (lines : List Line) → IsUtf8 text
-      → AreTextLines (settings_view options) (DividesHyphenated options (held patterns)) text lines
-      → IsWrapped (settings_view options) None (algorithm_view options.wrap_algorithm)
-      (DividesHyphenated options (held patterns)) text lines
-  IsWrapped-hyphenated text lines utf8 are =
-      let algorithm = options.wrap_algorithm in
-      IsWrapped-by (settings_view options) (MaySeparate options.word_separator)
-      (ArePointsBy (held patterns)) (MayDivide algorithm (λ w. w))
-      (MaySeparate-texts options.word_separator) (held-cuts patterns)
-      (MayDivide-begins algorithm (λ w. w)) None (algorithm_view algorithm)
-      (λ built_in. absurd (built_in refl))
-      (λ built_in widths pieces division. MayDivide-whole algorithm (λ w. w) widths pieces division
-      built_in)
-      (λ built_in widths pieces division. MayDivide-some algorithm (λ w. w) widths pieces division
-      built_in)
-      (λ first widths pieces division. MayDivide-greedy algorithm (λ w. w) widths pieces division
-      first) text lines utf8 are
+-- ---- what the lines keep to
 
-  -- ---- what the lines keep to
-
-  abbrev settings : Settings
-  settings = settings_view options
-
+module _ (settings : Settings) (Words : List ℕ → List WordText → Type 0)
+    (texts : (line : List ℕ) (words : List WordText) → IsUtf8 line → Words line words
+    → AreTexts line words) (patterns : PatternTable)
+    (Lines : List ℕ → List WordText → List (List WordText) → Type 0)
+    (begins : (widths : List ℕ) (pieces : List WordText) (division : List (List WordText))
+    → Lines widths pieces division → Begins pieces (flat division)) where
   abbrev Divides : Bool → List ℕ → List (List WordText) → Type 0
-  Divides = DividesHyphenated options (held patterns)
+  Divides = IsDividedInto settings Words (ArePointsBy (held patterns)) Lines
 
   abbrev AreParts : Bool → List ℕ → List LineParts → Type 0
   AreParts = AreParagraphParts settings Divides
@@ -72,26 +63,29 @@ module _ {E C : Type 0} {e : _} {c : _} (options : Options E C e c) (patterns : 
       (laid_out-cases (λ d. All HasHyphenAtMost (flat d)) paragraph _ division
       (All-cons HasHyphenAtMost (word_of paragraph) [] (inl refl) (All-nil HasHyphenAtMost))
       (λ (pieces, are, divided).
-      let (rest, whole) = MayDivide-begins options.wrap_algorithm (λ w. w)
-      (widths_of settings is_later) pieces division divided in
+      let (rest, whole) = begins (widths_of settings is_later) pieces division divided in
       all-left HasHyphenAtMost (flat division) rest (subst (All HasHyphenAtMost) (sym whole)
-      (hyphenated-hyphens options patterns paragraph pieces utf8 are)))
+      (hyphenated-hyphens settings Words texts patterns paragraph pieces utf8 are)))
       (is_whole settings is_later paragraph) laid_out))
 
-  pub AddOnlyHyphens-hyphenated : (text : List ℕ) (lines : List Line) → IsUtf8 text
-      → AreTextLines settings Divides text lines → AddOnlyHyphens settings Divides text lines
-  AddOnlyHyphens-hyphenated text lines utf8 are =
+  pub hyphens-alone : (text : List ℕ) (lines : List Line) → IsUtf8 text
+      → (are : AreTextLines settings Divides text lines) → All AddsHyphenAtMost (flat are.groups)
+  hyphens-alone text lines utf8 are =
       let paragraphs = paragraphs_of settings.line_ending text in
-      record {
-        are = are;
-        hyphens = groups-all AddsHyphenAtMost false paragraphs are.groups
-            (groups-map IsUtf8 AreParts (λ is_later paragraph parts. All AddsHyphenAtMost parts)
-            paragraph-hyphens false paragraphs are.groups
-            (paragraphs_of-utf8 settings.line_ending text utf8) are.defined);
-      }
+      groups-all AddsHyphenAtMost false paragraphs are.groups
+      (groups-map IsUtf8 AreParts (λ is_later paragraph parts. All AddsHyphenAtMost parts)
+      paragraph-hyphens false paragraphs are.groups
+      (paragraphs_of-utf8 settings.line_ending text utf8) are.defined)
+
+  pub AddOnlyHyphens-by : (text : List ℕ) (lines : List Line) → IsUtf8 text
+      → AreTextLines settings Divides text lines → AddOnlyHyphens settings Divides text lines
+  AddOnlyHyphens-by text lines utf8 are =
+      record { are = are; hyphens = hyphens-alone text lines utf8 are }
 
   -- by first fit, where words are broken
-  module _ (first : options.wrap_algorithm ≡ FirstFit) (breaks : options.break_words ≡ true) where
+  module _ (greedy : (widths : List ℕ) (pieces : List WordText) (division : List (List WordText))
+      → Lines widths pieces division → IsDividedBy ByFirstFit sizes_of widths pieces division)
+      (breaks : settings.break_words ≡ true) where
     division-passes : (is_later : Bool) (paragraph : List ℕ) (division : List (List WordText))
         → IsUtf8 paragraph → Divides is_later paragraph division
         → OnlyHyphensPass (widths_of settings is_later) 0 division
@@ -100,9 +94,8 @@ module _ {E C : Type 0} {e : _} {c : _} (options : Options E C e c) (patterns : 
         let same : pieces ≡ front_pieces settings ++ broken = are.4
         ∙ ap (λ b. cond b (front_pieces settings ++ broken) are.1) breaks in
         greedy_passes settings is_later broken division
-        (rw same at (MayDivide-greedy options.wrap_algorithm (λ w. w) (widths_of settings is_later)
-        pieces division (ap algorithm_view first) divided))
-        (rw same at (hyphenated-tight options patterns paragraph pieces utf8 breaks are))
+        (rw same at (greedy (widths_of settings is_later) pieces division divided))
+        (rw same at (hyphenated-tight settings Words texts patterns paragraph pieces utf8 breaks are))
 
     paragraph-keeps : (is_later : Bool) (paragraph : List ℕ) (parts : List LineParts)
         → IsUtf8 paragraph → AreParts is_later paragraph parts
@@ -125,10 +118,10 @@ module _ {E C : Type 0} {e : _} {c : _} (options : Options E C e c) (patterns : 
         (sym (ap (map (λ p. p.pieces)) is ∙ parts_from-pieces settings is_later division))
         (by refl laid_out)
 
-    pub LinesKeepButHyphens-hyphenated : (text : List ℕ) (lines : List Line) → IsUtf8 text
+    pub LinesKeepButHyphens-by : (text : List ℕ) (lines : List Line) → IsUtf8 text
         → AreTextLines settings Divides text lines
         → LinesKeepButHyphens settings Divides text lines
-    LinesKeepButHyphens-hyphenated text lines utf8 are =
+    LinesKeepButHyphens-by text lines utf8 are =
         let paragraphs = paragraphs_of settings.line_ending text in
         record {
           are = are;
@@ -136,47 +129,85 @@ module _ {E C : Type 0} {e : _} {c : _} (options : Options E C e c) (patterns : 
               paragraphs are.groups (paragraphs_of-utf8 settings.line_ending text utf8) are.defined;
         }
 
--- ---- where words stand between blanks and the algorithm is built in
+-- ---- by options that may hold functions
 
 module _ {E C : Type 0} {e : _} {c : _} (options : Options E C e c) (patterns : PatternTable)
-    (settings : Settings) (algorithm : Algorithm)
-    (parts : HasPartsBeside options settings algorithm) where
-  pub divides-under : (s : Settings) → DividesHyphenatedUnder options (held patterns) s
-      ≡ DividesAtPoints (held patterns) algorithm s
-  divides-under s = rw (
-    parts.separator,
-    division-as options.wrap_algorithm algorithm parts.algorithm_is,
-  ) refl
+    (text : List ℕ) (lines : List Line) (utf8 : IsUtf8 text)
+    (are : AreTextLines (settings_view options) (DividesHyphenated options (held patterns)) text lines)
+  where
+    pub IsWrapped-hyphenated : IsWrapped (settings_view options) None
+        (algorithm_view options.wrap_algorithm) (DividesHyphenated options (held patterns)) text lines
+    IsWrapped-hyphenated =
+        let algorithm = options.wrap_algorithm in
+        IsWrapped-by (settings_view options) (MaySeparate options.word_separator)
+        (ArePointsBy (held patterns)) (MayDivide algorithm (λ w. w))
+        (MaySeparate-texts options.word_separator) (held-cuts patterns)
+        (MayDivide-begins algorithm (λ w. w)) None (algorithm_view algorithm)
+        (λ built_in. absurd (built_in refl))
+        (λ built_in widths pieces division. MayDivide-whole algorithm (λ w. w) widths pieces division
+        built_in)
+        (λ built_in widths pieces division. MayDivide-some algorithm (λ w. w) widths pieces division
+        built_in)
+        (λ first widths pieces division. MayDivide-greedy algorithm (λ w. w) widths pieces division
+        first) text lines utf8 are
 
-  pub divides : DividesHyphenated options (held patterns)
-      ≡ DividesAtPoints (held patterns) algorithm settings
-  divides = divides-under (settings_view options)
-      ∙ ap (DividesAtPoints (held patterns) algorithm) parts.settings_are
+    pub AddOnlyHyphens-hyphenated : AddOnlyHyphens (settings_view options)
+        (DividesHyphenated options (held patterns)) text lines
+    AddOnlyHyphens-hyphenated =
+        AddOnlyHyphens-by (settings_view options) (MaySeparate options.word_separator)
+        (MaySeparate-texts options.word_separator) patterns (MayDivide options.wrap_algorithm (λ w. w))
+        (MayDivide-begins options.wrap_algorithm (λ w. w)) text lines utf8 are
 
-  pub lines-as : (text : List ℕ) (lines : List Line)
-      → AreTextLines (settings_view options) (DividesHyphenated options (held patterns)) text lines
-      → AreTextLines settings (DividesAtPoints (held patterns) algorithm settings) text lines
-  lines-as text lines are = grind (arith, divides)
+    pub LinesKeepButHyphens-hyphenated : options.wrap_algorithm ≡ FirstFit
+        → options.break_words ≡ true → LinesKeepButHyphens (settings_view options)
+        (DividesHyphenated options (held patterns)) text lines
+    LinesKeepButHyphens-hyphenated first breaks =
+        LinesKeepButHyphens-by (settings_view options) (MaySeparate options.word_separator)
+        (MaySeparate-texts options.word_separator) patterns (MayDivide options.wrap_algorithm (λ w. w))
+        (MayDivide-begins options.wrap_algorithm (λ w. w))
+        (λ widths pieces division. MayDivide-greedy options.wrap_algorithm (λ w. w) widths pieces
+        division (ap algorithm_view first)) breaks text lines utf8 are
 
-  pub filled-as : (text filled : List ℕ)
-      → IsFilled (settings_view options) (DividesHyphenated options (held patterns)) text filled
-      → IsFilled settings (DividesAtPoints (held patterns) algorithm settings) text filled
-  filled-as text filled is = grind (arith, divides)
+-- ---- where words stand between blanks and the algorithm is built in
 
-  pub refilled-as : (text refilled : List ℕ)
-      → IsRefilled (settings_view options) (DividesHyphenatedUnder options (held patterns)) text
-      refilled → IsRefilled settings (DividesAtPoints (held patterns) algorithm) text refilled
-  refilled-as text refilled (filled, is, ends) =
-      rw (← parts.settings_are, ← divides-under (with_indents_of text (settings_view options)))
-      (filled, is, ends)
+pub divides-under : {E C : Type 0} {e : _} {c : _} (options : Options E C e c) (h : Hyphenation)
+    (algorithm : Algorithm) → HasPartsBeside options algorithm → (s : Settings)
+    → DividesHyphenatedUnder options h s ≡ DividesAtPoints h algorithm s
+divides-under options h algorithm parts s = rw (
+  parts.separator,
+  division-as options.wrap_algorithm algorithm parts.algorithm_is,
+) refl
 
-  pub columns-as : (columns : ℕ) (text left middle right : List ℕ) (rows : List (List ℕ))
-      → IsInColumns (settings_view options) (DividesHyphenatedUnder options (held patterns))
-      columns text left middle right rows
-      → IsInColumns settings (DividesAtPoints (held patterns) algorithm) columns text left middle
-      right rows
-  columns-as columns text left middle right rows (lines, are, is) =
-      rw (
-        ← parts.settings_are,
-        ← divides-under (at_column_width (settings_view options) columns left middle right),
-      ) (lines, are, is)
+pub at-points : {E C : Type 0} {e : _} {c : _} (options : Options E C e c) (h : Hyphenation)
+    (algorithm : Algorithm) → HasPartsBeside options algorithm → (settings : Settings) (is_later : Bool)
+    (paragraph : List ℕ) (division : List (List WordText))
+    → DividesHyphenatedUnder options h settings is_later paragraph division
+    ↔ DividesAtPoints h algorithm settings is_later paragraph division
+at-points options h algorithm parts settings is_later paragraph division =
+    subst (λ Divides. Divides is_later paragraph division
+    ↔ DividesAtPoints h algorithm settings is_later paragraph division)
+    (sym (divides-under options h algorithm parts settings)) (λ divided. divided, λ divided. divided)
+
+-- by options without functions
+module _ (o : PlainOptions) (table : PatternTable) (blanks : o.word_separator ≡ AtBlanks)
+    (dictionary : o.word_splitter ≡ Dictionary table) (settings : Settings) (is_later : Bool)
+    (paragraph : List ℕ) (division : List (List WordText)) where
+  named : DividesPlainly o settings is_later paragraph division
+      ≡ DividesFrom words_of (split_points (held table)) (plain_algorithm o) settings is_later
+      paragraph division
+  named = rw (blanks, dictionary) refl
+
+  pub plain-points : DividesPlainly o settings is_later paragraph division
+      ↔ DividesAtPoints (held table) (plain_algorithm o) settings is_later paragraph division
+  plain-points = (
+    λ given. let (pieces, (words, split, words_are, split_are, is), divided) = rw named at given in (
+      pieces,
+      (words, split, (words_unique paragraph words).1 words_are, split_are, is),
+      divided,
+    ),
+    λ (pieces, (words, split, words_are, split_are, is), divided). rw named (
+      pieces,
+      (words, split, (words_unique paragraph words).0 words_are, split_are, is),
+      divided,
+    ),
+  )

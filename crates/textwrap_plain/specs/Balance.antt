@@ -4,12 +4,12 @@ use Rattle.std.specs.List.{flat_map}
 use Rattle.textwrap_base.specs.Division.{closed_width}
 use Rattle.textwrap_text.specs.LineEnding.{paragraphs_of}
 use Rattle.textwrap_text.specs.Units.{text_width}
-use Rattle.textwrap_words.specs.WordSplitters.{Splitter, split_words}
 use Rattle.textwrap_words.specs.Words.{WordText, sizes_of}
 use Rattle.textwrap_words.specs.WrapAlgorithms.{ByFirstFit}
 use Rattle.textwrap_layout.specs.Options.{Settings}
-use Rattle.textwrap_layout.specs.Paragraph.{DividesAt, Line}
+use Rattle.textwrap_layout.specs.Paragraph.{Line}
 use Rattle.textwrap_layout.specs.Text.{AreTextLines}
+use Rattle.textwrap_plain.specs.Options.{DividesFrom, split_by_points}
 
 abbrev pub at_width : Settings → ℕ → Settings
 at_width settings width = record settings { width = width }
@@ -19,18 +19,18 @@ abbrev pub wider_indent : Settings → ℕ
 wider_indent settings =
     max (text_width settings.initial_indent) (text_width settings.subsequent_indent)
 
--- a text by its settings, and how its words are found and split
-module _ (settings : Settings) (words : List ℕ → List WordText) (splitter : Splitter)
+-- a text by its settings, the words of a line, and the points of a word
+module _ (settings : Settings) (words : List ℕ → List WordText) (points : List ℕ → List ℕ)
     (text : List ℕ) where
   -- these are its lines by first fit at a width
   abbrev pub AreFirstFitAt : ℕ → List Line → Type 0
   AreFirstFitAt width lines =
       let settings = at_width settings width in
-      AreTextLines settings (DividesAt words splitter ByFirstFit settings) text lines
+      AreTextLines settings (DividesFrom words points ByFirstFit settings) text lines
 
   -- the pieces of its words, which are split but not broken
   abbrev pub whole_pieces : List WordText
-  whole_pieces = flat_map (λ paragraph. split_words splitter (words paragraph))
+  whole_pieces = flat_map (λ paragraph. split_by_points points (words paragraph))
       (paragraphs_of settings.line_ending text)
 
   -- the wider indent has room on a line, and so has each piece after it, with its penalty
@@ -61,10 +61,10 @@ module _ (settings : Settings) (words : List ℕ → List WordText) (splitter : 
 
 -- ---- as it is found
 
-module _ (settings : Settings) (words : List ℕ → List WordText) (splitter : Splitter)
+module _ (settings : Settings) (words : List ℕ → List WordText) (points : List ℕ → List ℕ)
     (text : List ℕ) where
   -- it takes so many lines at a width
   abbrev pub TakesLines : ℕ → ℕ → Type 0
   TakesLines width count =
-      (lines : List Line) × AreFirstFitAt settings words splitter text width lines
+      (lines : List Line) × AreFirstFitAt settings words points text width lines
       × (length lines ≡ count)

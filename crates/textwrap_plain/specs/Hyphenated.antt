@@ -36,10 +36,9 @@ abbrev pub DividesAtPoints : Hyphenation → Algorithm → Settings → Bool →
 DividesAtPoints h algorithm settings =
     IsDividedInto settings AreWordsOf (ArePointsBy h) (IsDividedBy algorithm sizes_of)
 
--- these are the settings, words stand between blanks, and the algorithm is this one
+-- words stand between blanks, and the algorithm is this one
 pub record HasPartsBeside {E C : Type 0} {e : _} {c : _} (o : Options E C e c)
-    (settings : Settings) (algorithm : Algorithm) : Type 0 where
-  pub settings_are : settings_view o ≡ settings
+    (algorithm : Algorithm) : Type 0 where
   pub separator : o.word_separator ≡ AsciiSpace
   pub algorithm_is : algorithm_view o.wrap_algorithm ≡ Some algorithm
 

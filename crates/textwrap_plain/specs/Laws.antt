@@ -1,9 +1,24 @@
 -- What the laws say.
+use Rattle.std.specs.Prelude.{◌≡◌, ◌↔◌, ℕ, Bool, IsUtf8, List, None, true}
 use Rattle.textwrap.specs.Filling.{IsFilled}
 use Rattle.textwrap.specs.Laws.{IsUnique}
-use Rattle.textwrap.specs.Text.{AreTextLines}
-use Rattle.textwrap_plain.specs.Options.{DividesPlainly, plain_settings}
+use Rattle.textwrap.specs.Options.{Settings, settings_view}
+use Rattle.textwrap.specs.Paragraph.{Line}
+use Rattle.textwrap.specs.Text.{AreTextLines, IsWrapped}
+use Rattle.textwrap.specs.Words.{WordText}
+use Rattle.textwrap.specs.WrapAlgorithms.{Algorithm, algorithm_view}
+use Rattle.textwrap_hyphens.specs.Hyphenation.{Hyphenation}
+use Rattle.textwrap_hyphens.specs.Table.{held}
+use Rattle.textwrap_hyphens.specs.declared.table.PatternTable.{PatternTable}
+use Rattle.textwrap_layout.specs.declared.options.Options.{Options}
+use Rattle.textwrap_plain.specs.Hyphenated.{AddOnlyHyphens, DividesAtPoints, DividesHyphenated}
+use Rattle.textwrap_plain.specs.Hyphenated.{DividesHyphenatedUnder, HasPartsBeside}
+use Rattle.textwrap_plain.specs.Hyphenated.{LinesKeepButHyphens}
+use Rattle.textwrap_plain.specs.Options.{DividesPlainly, plain_algorithm, plain_settings}
 use Rattle.textwrap_plain.specs.declared.options.PlainOptions.{PlainOptions}
+use Rattle.textwrap_plain.specs.declared.options.PlainSeparator.TheVariants.{AtBlanks}
+use Rattle.textwrap_plain.specs.declared.options.PlainSplitter.TheVariants.{Dictionary}
+use Rattle.textwrap_words.specs.declared.wrap_algorithms.WrapAlgorithm.TheVariants.{FirstFit}
 
 -- under any options without functions a text has one list of lines at most
 abbrev pub PlainLinesAreUnique : Type 0
@@ -14,3 +29,57 @@ PlainLinesAreUnique =
 abbrev pub PlainTextIsUnique : Type 0
 PlainTextIsUnique =
     (o : PlainOptions) → IsUnique (IsFilled (plain_settings o) (DividesPlainly o (plain_settings o)))
+
+-- by any dictionary, built-in algorithm and settings a text has one list of lines at most
+abbrev pub HyphenatedLinesAreUnique : Type 0
+HyphenatedLinesAreUnique =
+    (h : Hyphenation) (settings : Settings) (algorithm : Algorithm)
+    → IsUnique (AreTextLines settings (DividesAtPoints h algorithm settings))
+
+-- and one filled text
+abbrev pub HyphenatedTextIsUnique : Type 0
+HyphenatedTextIsUnique =
+    (h : Hyphenation) (settings : Settings) (algorithm : Algorithm)
+    → IsUnique (IsFilled settings (DividesAtPoints h algorithm settings))
+
+-- options without functions divide a paragraph into words between blanks, split by a dictionary, as a
+-- dictionary does
+abbrev pub PlainIsAtPoints : Type 0
+PlainIsAtPoints =
+    (o : PlainOptions) (table : PatternTable) → o.word_separator ≡ AtBlanks
+    → o.word_splitter ≡ Dictionary table → (settings : Settings) (is_later : Bool)
+    (paragraph : List ℕ) (division : List (List WordText))
+    → DividesPlainly o settings is_later paragraph division
+    ↔ DividesAtPoints (held table) (plain_algorithm o) settings is_later paragraph division
+
+-- and so do options that name the same words and algorithm
+abbrev pub AreAtPoints : {E C : Type 0} {e : _} {c : _} → Options E C e c → PatternTable → Type 0
+AreAtPoints o table =
+    (algorithm : Algorithm) → HasPartsBeside o algorithm → (settings : Settings) (is_later : Bool)
+    (paragraph : List ℕ) (division : List (List WordText))
+    → DividesHyphenatedUnder o (held table) settings is_later paragraph division
+    ↔ DividesAtPoints (held table) algorithm settings is_later paragraph division
+
+-- ---- the lines of a text by a dictionary and any options
+
+abbrev pub AreWrapped : {E C : Type 0} {e : _} {c : _} → Options E C e c → PatternTable → Type 0
+AreWrapped o table =
+    (text : List ℕ) (lines : List Line) → IsUtf8 text
+    → AreTextLines (settings_view o) (DividesHyphenated o (held table)) text lines
+    → IsWrapped (settings_view o) None (algorithm_view o.wrap_algorithm)
+    (DividesHyphenated o (held table)) text lines
+
+-- behind a line nothing is printed, or a hyphen
+abbrev pub AddHyphensAlone : {E C : Type 0} {e : _} {c : _} → Options E C e c → PatternTable → Type 0
+AddHyphensAlone o table =
+    (text : List ℕ) (lines : List Line) → IsUtf8 text
+    → AreTextLines (settings_view o) (DividesHyphenated o (held table)) text lines
+    → AddOnlyHyphens (settings_view o) (DividesHyphenated o (held table)) text lines
+
+-- by first fit, where words are broken, the lines keep to their widths but for hyphens
+abbrev pub KeepToWidthButHyphens : {E C : Type 0} {e : _} {c : _} → Options E C e c → PatternTable
+    → Type 0
+KeepToWidthButHyphens o table =
+    o.wrap_algorithm ≡ FirstFit → o.break_words ≡ true → (text : List ℕ) (lines : List Line)
+    → IsUtf8 text → AreTextLines (settings_view o) (DividesHyphenated o (held table)) text lines
+    → LinesKeepButHyphens (settings_view o) (DividesHyphenated o (held table)) text lines

@@ -1,20 +1,28 @@
 -- What options without functions say, and the lines that they name.
-use Rattle.std.specs.Prelude.{◌≡◌, ℕ, ◌-◌, Bool, false, List, map, slice_index}
+use Rattle.std.specs.Prelude.{◌≡◌, ◌≢◌, ℕ, ◌-◌, Bool, false, List, None, Option, Some, map, slice_index}
+use Rattle.std.specs.List.{flat_map}
 use Rattle.textwrap.specs.Cuts.{parts_between}
 use Rattle.textwrap.specs.Options.{default_algorithm, Settings, settings_at}
 use Rattle.textwrap.specs.WordSplitters.{Splitter, AtHyphens}
+use Rattle.textwrap_words.specs.WordSplitters.{points_of, split_pieces}
 use Rattle.textwrap.specs.Words.{WordText, is_cut, word_of, words_of}
-use Rattle.textwrap.specs.WrapAlgorithms.{Algorithm}
+use Rattle.textwrap.specs.WrapAlgorithms.{Algorithm, ByFirstFit}
 use Rattle.textwrap_layout.specs.Direct.{as_algorithm}
-use Rattle.textwrap_layout.specs.Paragraph.{DividesAt}
+use Rattle.textwrap_hyphens.specs.Splitting.{split_points}
+use Rattle.textwrap_hyphens.specs.Table.{held}
+use Rattle.textwrap_layout.specs.Paragraph.{IsDividedInto}
 use Rattle.textwrap_layout.specs.declared.layout.Layout.{Layout}
 use Rattle.textwrap_words.specs.Pieces.{as_splitter}
+use Rattle.textwrap_words.specs.WrapAlgorithms.{IsDividedBy}
+use Rattle.textwrap_words.specs.Words.{sizes_of}
 use Rattle.textwrap_unicode.specs.Cuts.{cuts_by}
 use Rattle.textwrap_unicode.specs.Pairs.{at_breaks}
 use Rattle.textwrap_unicode.specs.declared.numbers.Numbers.TheVariants.{ByExpression, ByPairs}
 use Rattle.textwrap_plain.specs.declared.options.PlainOptions.{PlainOptions}
 use Rattle.textwrap_plain.specs.declared.options.PlainSeparator.{PlainSeparator}
 use Rattle.textwrap_plain.specs.declared.options.PlainSeparator.TheVariants.{AtBlanks, AtBreaks}
+use Rattle.textwrap_plain.specs.declared.options.PlainSplitter.{PlainSplitter}
+use Rattle.textwrap_plain.specs.declared.options.PlainSplitter.TheVariants.{BuiltIn, Dictionary}
 
 -- the words of a line: between blanks, or between the places where Unicode lets it end
 abbrev pub words_by : PlainSeparator → List ℕ → List WordText
@@ -50,19 +58,49 @@ plain_layout o = record {
   even_paragraphs = o.even_paragraphs;
 }
 
-abbrev pub plain_splitter : PlainOptions → Splitter
-plain_splitter o = as_splitter o.word_splitter
+-- the splitter of the port, if it is one
+abbrev pub port_splitter : PlainSplitter → Option Splitter
+port_splitter (BuiltIn splitter) = Some (as_splitter splitter)
+port_splitter (Dictionary table) = None
+
+-- where it splits a word
+abbrev pub points_by : PlainSplitter → List ℕ → List ℕ
+points_by (BuiltIn splitter) = points_of (as_splitter splitter)
+points_by (Dictionary table) = split_points (held table)
+
+abbrev pub plain_splitter : PlainOptions → Option Splitter
+plain_splitter o = port_splitter o.word_splitter
 
 abbrev pub plain_algorithm : PlainOptions → Algorithm
 plain_algorithm o = as_algorithm o.wrap_algorithm
 
--- a paragraph is divided so under these settings, by the options' words, splitter and algorithm
+-- words, each replaced by its pieces at the points that a function names
+abbrev pub split_by_points : (List ℕ → List ℕ) → List WordText → List WordText
+split_by_points points words = flat_map (λ w. split_pieces (points w.word) w) words
+
+-- a paragraph is divided so under these settings, where functions name the words of a line and the
+-- points of a word
+abbrev pub DividesFrom : (List ℕ → List WordText) → (List ℕ → List ℕ) → Algorithm → Settings → Bool
+    → List ℕ → List (List WordText) → Type 0
+DividesFrom words points algorithm settings =
+    IsDividedInto settings (λ line ws. ws ≡ words line) (λ word ps. ps ≡ points word)
+    (IsDividedBy algorithm sizes_of)
+
+-- the same by the options' words, splitter and algorithm
 abbrev pub DividesPlainly : PlainOptions → Settings → Bool → List ℕ → List (List WordText) → Type 0
-DividesPlainly o = DividesAt (words_by o.word_separator) (plain_splitter o) (plain_algorithm o)
+DividesPlainly o =
+    DividesFrom (words_by o.word_separator) (points_by o.word_splitter) (plain_algorithm o)
+
+-- words stand between blanks, no dictionary splits them, and each line takes as many of their pieces
+-- as fit
+pub record AreDirect (o : PlainOptions) : Type 0 where
+  pub separator : o.word_separator ≡ AtBlanks
+  pub splitter : plain_splitter o ≢ None
+  pub algorithm : plain_algorithm o ≡ ByFirstFit
 
 -- these are the defaults at a width
 pub record AreDefaults (width : ℕ) (o : PlainOptions) : Type 0 where
   pub settings : plain_settings o ≡ settings_at width
   pub separator : o.word_separator ≡ AtBreaks ByPairs
-  pub splitter : plain_splitter o ≡ AtHyphens
+  pub splitter : plain_splitter o ≡ Some AtHyphens
   pub algorithm : plain_algorithm o ≡ default_algorithm

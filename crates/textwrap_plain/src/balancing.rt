@@ -2,34 +2,38 @@
 //! no more of them than the width of the options, as `text-wrap: balance` of browsers makes lines
 //! (CSS Text Module Level 4).
 ghost use Rattle.std.specs.Prelude.{◌≡◌, ◌≢◌, ◌≤◌, ℕ, List, None, Some, IfOk, IsOk, length, map, max};
-ghost use Rattle.textwrap_base.specs.Errors.{OnlyMemoryRunsOut};
+ghost use Rattle.textwrap_base.specs.Cost.{total_width};
+ghost use Rattle.textwrap_base.specs.Errors.{Fits64Bits, OnlyMemoryRunsOut};
 ghost use Rattle.textwrap_words.specs.CutPiecesLeft.{cut_standing_left};
-ghost use Rattle.textwrap_words.specs.Pieces.{as_splitter};
 ghost use Rattle.textwrap_words.specs.PiecesLeft.{standing_left};
-ghost use Rattle.textwrap_words.specs.Words.{words_of};
-ghost use Rattle.textwrap_words.specs.WordSplitters.{Splitter, split_words, splitter_view};
+ghost use Rattle.textwrap_words.specs.Words.{sizes_of, word_view, words_of};
+ghost use Rattle.textwrap_words.specs.WordSplitters.{Splitter, points_of, splitter_view};
 ghost use Rattle.textwrap_words.specs.declared.word_separators.WordSeparator.TheVariants.{AsciiSpace};
 ghost use Rattle.textwrap_layout.specs.Options.{layout_view, settings_view};
 ghost use Rattle.textwrap_layout.specs.Paragraph.{Line, line_view};
 ghost use Rattle.textwrap_layout.specs.PiecesLeft.{left_standing};
 ghost use Rattle.textwrap_plain.specs.Balance.{AreFirstFitAt, AreBalanced, HasRoom, IsBalanced};
 ghost use Rattle.textwrap_plain.specs.Balance.{TakesLines, whole_pieces};
+ghost use Rattle.textwrap_plain.specs.Options.{port_splitter, points_by, split_by_points};
 ghost use Rattle.textwrap_plain.specs.Widest.{widest_of_words, widest_place};
 
+use crate::options::PlainSplitter;
+use crate::parts::PlainParts;
 use std::alloc::{AllocError, Allocator};
 use std::borrow::CowStr;
 use textwrap::words::display_width;
 use textwrap::{Options, WordSplitter, WrapError};
-use textwrap_layout::built_in::BuiltIn;
 use textwrap_layout::frame::Frame;
 use textwrap_layout::layout::Layout;
 use textwrap_layout::paragraph_pieces::{Cuts, ParagraphPieces, cut_paragraph};
-use textwrap_layout::parts::{BuiltInAlgorithm, BuiltInParts};
+use textwrap_layout::parts::BuiltInAlgorithm;
+use textwrap_layout::pieces::find_pieces;
 use textwrap_layout::printable_cuts::{BlankCuts, PrintableCuts};
 use textwrap_lines::inner::{place_into, wrap_by};
 use textwrap_lines::parts::split_paragraph;
 use textwrap_lines::placed::TextwrapLine;
 use textwrap_words::inner::{BuiltInSplitter, CutPieces, Pieces};
+use textwrap_words::words::Word;
 
 /// A balanced width, and what it took to find it.
 #[derive(Clone, Copy, Debug)]
@@ -51,7 +55,7 @@ pub fn balanced_width<A: Allocator + Copy>(alloc: A, text: &str, options: &Optio
     requires separator { options.now.word_separator ≡ AsciiSpace }
     requires splitter { splitter_view options.now.word_splitter ≢ None }
     ensures balanced { (splitter : Splitter) → splitter_view options.now.word_splitter ≡ Some splitter
-        → IsBalanced (settings_view options.now) words_of splitter text.now result }
+        → IsBalanced (settings_view options.now) words_of (points_of splitter) text.now result }
 {
     let found = balanced_width_by(alloc, text, Layout::of(options), &at_blanks(options));
     match found {
@@ -77,11 +81,13 @@ pub fn wrap_balanced<'t, A: Allocator + Copy>(
     requires splitter { splitter_view options.now.word_splitter ≢ None }
     ensures lines { IfOk result (λ lines. (splitter : Splitter)
         → splitter_view options.now.word_splitter ≡ Some splitter → AreBalanced
-        (settings_view options.now) words_of splitter text.now (map line_view lines.items)) }
+        (settings_view options.now) words_of (points_of splitter) text.now
+        (map line_view lines.items)) }
     // As many as first fit takes at the width of the options.
     ensures as_many { IfOk result (λ lines. (splitter : Splitter)
         → splitter_view options.now.word_splitter ≡ Some splitter → (others : List Line)
-        → AreFirstFitAt (settings_view options.now) words_of splitter text.now options.now.width others
+        → AreFirstFitAt (settings_view options.now) words_of (points_of splitter) text.now
+        options.now.width others
         → length lines.items ≡ length others) }
     ensures only_memory { OnlyMemoryRunsOut result }
 {
@@ -89,20 +95,18 @@ pub fn wrap_balanced<'t, A: Allocator + Copy>(
 }
 
 /// Words between blanks, the splitter of the options, and first fit.
-fn at_blanks(options: &Options<'_>) -> BuiltIn<BlankCuts>
+fn at_blanks(options: &Options<'_>) -> PlainParts<'static, BlankCuts>
     requires { splitter_view options.now.word_splitter ≢ None }
-    ensures { splitter_view options.now.word_splitter ≡ Some (as_splitter result.parts.splitter) }
+    ensures { splitter_view options.now.word_splitter ≡ port_splitter result.splitter }
 {
-    BuiltIn {
-        parts: BuiltInParts {
-            splitter: match options.word_splitter {
-                WordSplitter::NoHyphenation => BuiltInSplitter::NoHyphenation,
-                WordSplitter::HyphenSplitter => BuiltInSplitter::HyphenSplitter,
-                WordSplitter::Custom(_) => unreachable!(),
-            },
-            algorithm: BuiltInAlgorithm::FirstFit,
-        },
+    PlainParts {
         words: BlankCuts {},
+        splitter: PlainSplitter::BuiltIn(match options.word_splitter {
+            WordSplitter::NoHyphenation => BuiltInSplitter::NoHyphenation,
+            WordSplitter::HyphenSplitter => BuiltInSplitter::HyphenSplitter,
+            WordSplitter::Custom(_) => unreachable!(),
+        }),
+        algorithm: BuiltInAlgorithm::FirstFit,
     }
 }
 
@@ -115,14 +119,14 @@ pub fn wrap_balanced_by<'t, A: Allocator + Copy, W: PrintableCuts + Copy>(
     alloc: A,
     text: &'t str,
     layout: Layout<'_>,
-    parts: &BuiltIn<W>,
+    parts: &PlainParts<'_, W>,
 ) -> Result<Vec<CowStr<'t, A>, A>, WrapError>
     ensures lines { IfOk result (λ lines. AreBalanced (layout_view layout.entry)
-        (W.words parts.now.words) (as_splitter parts.now.parts.splitter) text.now
+        (W.words parts.now.words) (points_by parts.now.splitter) text.now
         (map line_view lines.items)) }
     ensures as_many { IfOk result (λ lines. (others : List Line)
         → AreFirstFitAt (layout_view layout.entry) (W.words parts.now.words)
-        (as_splitter parts.now.parts.splitter) text.now layout.entry.width others
+        (points_by parts.now.splitter) text.now layout.entry.width others
         → length lines.items ≡ length others) }
     ensures only_memory { OnlyMemoryRunsOut result }
 {
@@ -131,12 +135,9 @@ pub fn wrap_balanced_by<'t, A: Allocator + Copy, W: PrintableCuts + Copy>(
         width: balance.width,
         ..layout
     };
-    let first_fit = BuiltIn {
-        parts: BuiltInParts {
-            splitter: parts.parts.splitter,
-            algorithm: BuiltInAlgorithm::FirstFit,
-        },
-        words: parts.words,
+    let first_fit = PlainParts {
+        algorithm: BuiltInAlgorithm::FirstFit,
+        ..*parts
     };
     wrap_by(alloc, text, narrow, &first_fit)
 }
@@ -151,12 +152,12 @@ pub fn balanced_width_by<A: Allocator + Copy, W: PrintableCuts + Copy>(
     alloc: A,
     text: &str,
     layout: Layout<'_>,
-    parts: &BuiltIn<W>,
+    parts: &PlainParts<'_, W>,
 ) -> Result<Balance, WrapError>
     ensures balanced { IfOk result (λ balance. IsBalanced (layout_view layout.entry)
-        (W.words parts.now.words) (as_splitter parts.now.parts.splitter) text.now balance.width) }
+        (W.words parts.now.words) (points_by parts.now.splitter) text.now balance.width) }
     ensures fillings { IfOk result (λ balance. balance.fillings ≤ 65) }
-    ensures done { W.at_blanks parts.now.words → IsOk result }
+    ensures done { W.at_blanks parts.now.words → port_splitter parts.now.splitter ≢ None → IsOk result }
     ensures only_memory { OnlyMemoryRunsOut result }
 {
     let width = layout.width;
@@ -164,7 +165,7 @@ pub fn balanced_width_by<A: Allocator + Copy, W: PrintableCuts + Copy>(
         display_width(layout.initial_indent),
         display_width(layout.subsequent_indent),
     );
-    let widest = widest_piece(text, layout, parts)?;
+    let widest = widest_piece(alloc, text, layout, parts)?;
     if indent > width || widest > width - indent {
         return Ok(Balance { width, fillings: 0 });
     }
@@ -175,22 +176,23 @@ pub fn balanced_width_by<A: Allocator + Copy, W: PrintableCuts + Copy>(
 ///
 /// # Errors
 /// [`AllocError`] where memory runs out.
-fn widest_piece<W: PrintableCuts + Copy>(
+fn widest_piece<A: Allocator + Copy, W: PrintableCuts + Copy>(
+    alloc: A,
     text: &str,
     layout: Layout<'_>,
-    parts: &BuiltIn<W>,
+    parts: &PlainParts<'_, W>,
 ) -> Result<usize, AllocError>
     ensures widest { IfOk result (λ columns. columns ≡ widest_of_words (whole_pieces
         (layout_view layout.entry) (W.words parts.now.words)
-        (as_splitter parts.now.parts.splitter) text.now)) }
-    ensures done { W.at_blanks parts.now.words → IsOk result }
+        (points_by parts.now.splitter) text.now)) }
+    ensures done { W.at_blanks parts.now.words → port_splitter parts.now.splitter ≢ None → IsOk result }
 {
     let line_ending = layout.line_ending;
     let mut widest = 0;
     let mut rest = Some(text);
     while let Some(text) = rest {
         let (paragraph, after) = split_paragraph(text, line_ending);
-        widest = wider(widest, widest_in(paragraph, layout, parts)?);
+        widest = wider(widest, widest_in(alloc, paragraph, layout, parts)?);
         rest = after;
     }
     Ok(widest)
@@ -200,28 +202,49 @@ fn widest_piece<W: PrintableCuts + Copy>(
 ///
 /// # Errors
 /// [`AllocError`] where memory runs out.
-fn widest_in<W: PrintableCuts + Copy>(
+fn widest_in<A: Allocator + Copy, W: PrintableCuts + Copy>(
+    alloc: A,
     paragraph: &str,
     layout: Layout<'_>,
-    parts: &BuiltIn<W>,
+    parts: &PlainParts<'_, W>,
 ) -> Result<usize, AllocError>
-    ensures widest { IfOk result (λ columns. columns ≡ widest_of_words (split_words
-        (as_splitter parts.now.parts.splitter) (W.words parts.now.words paragraph.now))) }
-    ensures done { W.at_blanks parts.now.words → IsOk result }
+    ensures widest { IfOk result (λ columns. columns ≡ widest_of_words (split_by_points
+        (points_by parts.now.splitter) (W.words parts.now.words paragraph.now))) }
+    ensures done { W.at_blanks parts.now.words → port_splitter parts.now.splitter ≢ None → IsOk result }
 {
     let frame = Frame::of(Layout {
         break_words: false,
         ..layout
     });
-    let found = parts.words.word_cuts(paragraph)?;
-    let cuts = Cuts {
-        words: found.as_deref(),
-        splitter: parts.parts.splitter,
-    };
-    Ok(widest_of(cut_paragraph(paragraph, &frame, &cuts)))
+    match parts.splitter {
+        PlainSplitter::BuiltIn(splitter) => {
+            let found = parts.words.word_cuts(paragraph)?;
+            let cuts = Cuts {
+                words: found.as_deref(),
+                splitter,
+            };
+            Ok(widest_of(cut_paragraph(paragraph, &frame, &cuts)))
+        }
+        PlainSplitter::Dictionary(_) => {
+            let pieces = find_pieces(alloc, paragraph, &frame, parts)?;
+            Ok(widest_of_list(&pieces))
+        }
+    }
 }
 
-/// The columns of the widest of these pieces. Each kind of them has a loop of its own, which asks of no
+/// The columns of the widest of these pieces with its penalty.
+fn widest_of_list(pieces: &[Word<'_>]) -> usize
+    requires { Fits64Bits (total_width sizes_of (map word_view pieces.now)) }
+    ensures { result ≡ widest_of_words (map word_view pieces.now) }
+{
+    let mut widest = 0;
+    for piece in pieces {
+        widest = wider(widest, piece.width + piece.penalty.len());
+    }
+    widest
+}
+
+/// The columns of the widest of these pieces, none of which has a penalty. Each kind of them has a loop of its own, which asks of no
 /// piece which kind it is.
 fn widest_of(pieces: ParagraphPieces<'_, '_>) -> usize
     ensures { result ≡ widest_place (left_standing pieces.entry) }
@@ -263,18 +286,18 @@ fn search<A: Allocator + Copy, W: PrintableCuts + Copy>(
     alloc: A,
     text: &str,
     layout: Layout<'_>,
-    parts: &BuiltIn<W>,
+    parts: &PlainParts<'_, W>,
     least: usize,
 ) -> Result<Balance, WrapError>
     requires within { least ≤ layout.width }
     requires room { HasRoom (layout_view layout) (W.words parts.now.words)
-        (as_splitter parts.now.parts.splitter) text.now least }
+        (points_by parts.now.splitter) text.now least }
     requires least { (other : ℕ) → HasRoom (layout_view layout) (W.words parts.now.words)
-        (as_splitter parts.now.parts.splitter) text.now other → least ≤ other }
+        (points_by parts.now.splitter) text.now other → least ≤ other }
     ensures balanced { IfOk result (λ balance. IsBalanced (layout_view layout.entry)
-        (W.words parts.now.words) (as_splitter parts.now.parts.splitter) text.now balance.width) }
+        (W.words parts.now.words) (points_by parts.now.splitter) text.now balance.width) }
     ensures fillings { IfOk result (λ balance. balance.fillings ≤ 65) }
-    ensures done { W.at_blanks parts.now.words → IsOk result }
+    ensures done { W.at_blanks parts.now.words → port_splitter parts.now.splitter ≢ None → IsOk result }
     ensures only_memory { OnlyMemoryRunsOut result }
 {
     let most = count_lines(alloc, text, layout, parts, layout.width)?;
@@ -305,21 +328,18 @@ fn count_lines<A: Allocator + Copy, W: PrintableCuts + Copy>(
     alloc: A,
     text: &str,
     layout: Layout<'_>,
-    parts: &BuiltIn<W>,
+    parts: &PlainParts<'_, W>,
     width: usize,
 ) -> Result<usize, WrapError>
     ensures counted { IfOk result (TakesLines (layout_view layout.entry) (W.words parts.now.words)
-        (as_splitter parts.now.parts.splitter) text.now width) }
-    ensures done { W.at_blanks parts.now.words → IsOk result }
+        (points_by parts.now.splitter) text.now width) }
+    ensures done { W.at_blanks parts.now.words → port_splitter parts.now.splitter ≢ None → IsOk result }
     ensures only_memory { OnlyMemoryRunsOut result }
 {
     let narrow = Layout { width, ..layout };
-    let first_fit = BuiltIn {
-        parts: BuiltInParts {
-            splitter: parts.parts.splitter,
-            algorithm: BuiltInAlgorithm::FirstFit,
-        },
-        words: parts.words,
+    let first_fit = PlainParts {
+        algorithm: BuiltInAlgorithm::FirstFit,
+        ..*parts
     };
     let mut lines: [TextwrapLine; 0] = [];
     let mut room: [u8; 0] = [];

@@ -1,10 +1,11 @@
 //! Lines for display, by options without functions.
-ghost use Rattle.std.specs.Prelude.{◌≡◌, IfOk, IsOk, List, length, map, string_bytes};
+ghost use Rattle.std.specs.Prelude.{◌≡◌, ◌≢◌, IfOk, IsOk, None, List, length, map, string_bytes};
 ghost use Rattle.textwrap_plain.specs.Balance.{AreBalanced, AreFirstFitAt, IsBalanced};
 ghost use Rattle.textwrap_display.specs.JustifiedText.{IsJustifiedText};
 ghost use Rattle.textwrap_display.specs.Tables.{gaps_view, texts_in};
 ghost use Rattle.textwrap_layout.specs.Paragraph.{Line, line_view};
-ghost use Rattle.textwrap_plain.specs.Options.{DividesPlainly, plain_settings, plain_splitter, words_by};
+ghost use Rattle.textwrap_plain.specs.Options.{DividesPlainly, plain_settings, plain_splitter};
+ghost use Rattle.textwrap_plain.specs.Options.{points_by, words_by};
 ghost use Rattle.textwrap_plain.specs.declared.options.PlainSeparator.TheVariants.{AtBlanks};
 ghost use Rattle.textwrap_plain.specs.Tables.{IsPlainTable, plain_parts};
 ghost use Rattle.textwrap_base.specs.Errors.{OnlyMemoryRunsOut};
@@ -93,8 +94,8 @@ pub fn table(
 }
 
 /// The width that [`balanced_width`](crate::balancing::balanced_width) returns: the least one at which first fit
-/// takes no more lines of a text than at the width of the options. Words end where the options say. At
-/// blanks nothing is allocated.
+/// takes no more lines of a text than at the width of the options. Words end and are split where the
+/// options say. At blanks and without a dictionary nothing is allocated.
 ///
 /// # Errors
 /// [`WrapError::Memory`] where memory runs out.
@@ -104,8 +105,9 @@ pub fn balanced_width(
     options: &PlainOptions<'_>,
 ) -> Result<usize, WrapError>
     ensures balanced { IfOk result (IsBalanced (plain_settings options.now)
-        (words_by options.now.word_separator) (plain_splitter options.now) text.now) }
-    ensures done { options.now.word_separator ≡ AtBlanks → IsOk result }
+        (words_by options.now.word_separator) (points_by options.now.word_splitter) text.now) }
+    ensures done { options.now.word_separator ≡ AtBlanks → plain_splitter options.now ≢ None
+        → IsOk result }
     ensures only_memory { OnlyMemoryRunsOut result }
 {
     let balance = find_balance(alloc, text, options)?;
@@ -118,8 +120,10 @@ pub fn balanced_width(
 /// [`WrapError::Memory`] where memory runs out.
 fn find_balance(alloc: Global, text: &str, options: &PlainOptions<'_>) -> Result<Balance, WrapError>
     ensures balanced { IfOk result (λ balance. IsBalanced (plain_settings options.now)
-        (words_by options.now.word_separator) (plain_splitter options.now) text.now balance.width) }
-    ensures done { options.now.word_separator ≡ AtBlanks → IsOk result }
+        (words_by options.now.word_separator) (points_by options.now.word_splitter) text.now
+        balance.width) }
+    ensures done { options.now.word_separator ≡ AtBlanks → plain_splitter options.now ≢ None
+        → IsOk result }
     ensures only_memory { OnlyMemoryRunsOut result }
 {
     let layout = options.layout();
@@ -145,11 +149,11 @@ pub fn wrap_balanced<'t>(
     options: &PlainOptions<'_>,
 ) -> Result<Vec<CowStr<'t>>, WrapError>
     ensures lines { IfOk result (λ lines. AreBalanced (plain_settings options.now)
-        (words_by options.now.word_separator) (plain_splitter options.now) text.now
+        (words_by options.now.word_separator) (points_by options.now.word_splitter) text.now
         (map line_view lines.items)) }
     ensures as_many { IfOk result (λ lines. (others : List Line)
         → AreFirstFitAt (plain_settings options.now) (words_by options.now.word_separator)
-        (plain_splitter options.now) text.now options.now.width others
+        (points_by options.now.word_splitter) text.now options.now.width others
         → length lines.items ≡ length others) }
     ensures only_memory { OnlyMemoryRunsOut result }
 {

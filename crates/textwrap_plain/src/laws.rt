@@ -1,8 +1,39 @@
 //! Facts about the definitions.
+ghost use Rattle.textwrap_plain.specs.Laws.{AddHyphensAlone, AreAtPoints, AreWrapped};
+ghost use Rattle.textwrap_plain.specs.Laws.{HyphenatedLinesAreUnique, HyphenatedTextIsUnique};
+ghost use Rattle.textwrap_plain.specs.Laws.{KeepToWidthButHyphens, PlainIsAtPoints};
 ghost use Rattle.textwrap_plain.specs.Laws.{PlainLinesAreUnique, PlainTextIsUnique};
+
+use textwrap::Options;
+use textwrap_hyphens::table::PatternTable;
 
 /// Under any options without functions a text has one list of lines, and one filled text.
 pub fn plain_lines_are_unique()
     ensures lines { PlainLinesAreUnique }
     ensures text { PlainTextIsUnique }
+{}
+
+/// By any dictionary, between blanks and by a built-in algorithm, a text has one list of lines, and one
+/// filled text.
+pub fn hyphenated_lines_are_unique()
+    ensures lines { HyphenatedLinesAreUnique }
+    ensures text { HyphenatedTextIsUnique }
+{}
+
+/// Where words stand between blanks, options without functions divide a paragraph by a dictionary as
+/// options that may hold functions do by [`Hyphenated`](crate::parts::Hyphenated).
+pub fn plain_words_at_blanks()
+    ensures { PlainIsAtPoints }
+{}
+
+/// By [`Hyphenated`](crate::parts::Hyphenated) of any options, also of those with functions of a caller, a
+/// text loses only blanks; behind a line nothing is printed, or a hyphen; and by first fit, where words are
+/// broken, a line passes its width only where it is one piece, by its hyphen or as one character that takes
+/// columns. Where words stand between blanks, and the algorithm is built in, a paragraph is divided as its
+/// words, the dictionary and the algorithm alone say.
+pub fn hyphenated_lines(options: &Options<'_>, patterns: &PatternTable<'_>)
+    ensures wrapped { AreWrapped options.now patterns.now }
+    ensures hyphens { AddHyphensAlone options.now patterns.now }
+    ensures keep { KeepToWidthButHyphens options.now patterns.now }
+    ensures built_in { AreAtPoints options.now patterns.now }
 {}

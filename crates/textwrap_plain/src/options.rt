@@ -1,10 +1,11 @@
 //! How a text is wrapped, by built-in parts alone.
 ghost use Rattle.std.specs.Prelude.{◌≡◌, ◌↔◌, IsTrue, Some};
-ghost use Rattle.textwrap.specs.WrapAlgorithms.{algorithm_view, ByFirstFit};
-ghost use Rattle.textwrap_plain.specs.Options.{plain_algorithm, AreDefaults};
+ghost use Rattle.textwrap.specs.WrapAlgorithms.{algorithm_view};
+ghost use Rattle.textwrap_plain.specs.Options.{plain_algorithm, AreDefaults, AreDirect};
 
 use textwrap::wrap_algorithms::Penalties;
 use textwrap::{LineEnding, WrapAlgorithm};
+use textwrap_hyphens::table::PatternTable;
 use textwrap_layout::parts::BuiltInAlgorithm;
 use textwrap_unicode::Numbers;
 use textwrap_words::inner::BuiltInSplitter;
@@ -17,6 +18,19 @@ pub enum PlainSeparator {
     /// Where Unicode lets a line end
     /// ([UAX #14](https://www.unicode.org/reports/tr14/)), as `unicode_cuts` of `textwrap_unicode` says.
     AtBreaks(Numbers),
+}
+
+/// Where words are split.
+#[derive(Clone, Copy, Debug)]
+pub enum PlainSplitter<'a> {
+    /// Nowhere, or behind hyphens of their own between letters or digits.
+    BuiltIn(BuiltInSplitter),
+    /// Where this dictionary has hyphens, and behind hyphens of their own. A hyphen is printed where a
+    /// line ends at a point of the dictionary, and is counted as a part of the line; by least cost such
+    /// a line costs the hyphen penalty. Behind a hyphen of the word none is added. The parts of such a
+    /// word are hyphenated only if the dictionary is asked for them. A part of a word that just fits
+    /// the line passes it by its hyphen.
+    Dictionary(PatternTable<'a>),
 }
 
 /// How a text is wrapped: what `Options` of `textwrap` say, but for functions of the caller.
@@ -35,7 +49,7 @@ pub struct PlainOptions<'a> {
     /// Where words end.
     pub word_separator: PlainSeparator,
     /// Where words are split.
-    pub word_splitter: BuiltInSplitter,
+    pub word_splitter: PlainSplitter<'a>,
     /// How words are divided into lines.
     pub wrap_algorithm: BuiltInAlgorithm,
     /// Whether blanks at line ends are kept.
@@ -58,7 +72,7 @@ impl PlainOptions<'static> {
             subsequent_indent: "",
             break_words: true,
             word_separator: PlainSeparator::AtBreaks(Numbers::ByPairs),
-            word_splitter: BuiltInSplitter::HyphenSplitter,
+            word_splitter: PlainSplitter::BuiltIn(BuiltInSplitter::HyphenSplitter),
             wrap_algorithm: BuiltInAlgorithm::OptimalFit(Penalties::new()),
             preserve_trailing_space: false,
             even_paragraphs: false,
@@ -67,16 +81,14 @@ impl PlainOptions<'static> {
 }
 
 impl<'a> PlainOptions<'a> {
-    ghost use Rattle.textwrap_plain.specs.declared.options.PlainSeparator.TheVariants.{AtBlanks};
-
-    /// Whether words stand between blanks, and each line takes as many of them as fit. Then a text is
-    /// filled without a list.
+    /// Whether words stand between blanks, no dictionary splits them, and each line takes as many of
+    /// their pieces as fit. Then a text is filled without a list.
     pub(crate) fn are_direct(&self) -> bool
-        ensures { IsTrue result ↔ (self.now.word_separator ≡ AtBlanks)
-            × (plain_algorithm self.now ≡ ByFirstFit) }
+        ensures { IsTrue result ↔ AreDirect self.now }
     {
-        match (self.word_separator, self.wrap_algorithm) {
-            (PlainSeparator::AtBlanks, BuiltInAlgorithm::FirstFit) => true,
+        match (self.word_separator, self.word_splitter, self.wrap_algorithm) {
+            (PlainSeparator::AtBlanks, PlainSplitter::BuiltIn(_), BuiltInAlgorithm::FirstFit) =>
+                true,
             _ => false,
         }
     }

@@ -1,15 +1,13 @@
 //! Lines and pieces by where they stand, which the calls from C report.
 ghost use Rattle.std.specs.Prelude.{◌≡◌, IfErr, IfOk, IsOk, List, map};
-ghost use Rattle.textwrap.specs.Paragraph.{Line, pieces_by};
+ghost use Rattle.textwrap.specs.Paragraph.{Line};
 ghost use Rattle.textwrap.specs.Words.{word_view, Tiles};
-ghost use Rattle.textwrap.specs.WrapAlgorithms.{ByFirstFit};
 ghost use Rattle.textwrap_layout.specs.LentPlaces.{WritesPlaces};
+ghost use Rattle.textwrap_layout.specs.Paragraph.{broken_pieces_of};
 ghost use Rattle.textwrap_layout.specs.Places.{ArePlacedLines, built_text};
 ghost use Rattle.textwrap_layout.specs.declared.places.Place.{Place};
-ghost use Rattle.textwrap_plain.specs.Options.{plain_algorithm, DividesPlainly, plain_settings};
-ghost use Rattle.textwrap_plain.specs.Options.{plain_splitter};
-ghost use Rattle.textwrap_plain.specs.Options.{words_by};
-ghost use Rattle.textwrap_plain.specs.declared.options.PlainSeparator.TheVariants.{AtBlanks};
+ghost use Rattle.textwrap_plain.specs.Options.{AreDirect, DividesPlainly, plain_settings, points_by};
+ghost use Rattle.textwrap_plain.specs.Options.{split_by_points, words_by};
 ghost use Rattle.textwrap_base.specs.Errors.{OnlyMemoryRunsOut};
 
 use crate::options::PlainOptions;
@@ -41,7 +39,8 @@ pub fn place_lines(
 
 /// Writes where the lines of [`wrap`](crate::wrap) stand to the front of `lines`, and those that are no
 /// slices of the text to the front of the room, as much of both as has room, and returns how long they
-/// are. What follows stays as it was. At blanks and by first fit nothing is allocated.
+/// are. What follows stays as it was. At blanks, by first fit and without a dictionary nothing is
+/// allocated.
 ///
 /// # Errors
 /// [`WrapError::Memory`] where memory runs out. Then the lines and the room are as they were.
@@ -56,8 +55,7 @@ pub fn place_into(
         × ArePlacedLines (plain_settings options.now)
         (DividesPlainly options.now (plain_settings options.now)) text.now placed places
         × WritesPlaces places (built_text placed) counts lines.old lines.new room.old room.new) }
-    ensures done { options.now.word_separator ≡ AtBlanks → plain_algorithm options.now ≡ ByFirstFit
-        → IsOk result }
+    ensures done { AreDirect options.now → IsOk result }
     ensures kept_lines { IfErr result (λ _. lines.new ≡ lines.old) }
     ensures kept_room { IfErr result (λ _. room.new ≡ room.old) }
     ensures only_memory { OnlyMemoryRunsOut result }
@@ -92,8 +90,8 @@ pub fn paragraph_pieces<'t>(
     options: &PlainOptions<'_>,
 ) -> Result<Vec<Word<'t>>, AllocError>
     ensures pieces { IfOk result (λ pieces. map word_view pieces.items
-        ≡ pieces_by (plain_settings options.now) (words_by options.now.word_separator)
-        (plain_splitter options.now) paragraph.now) }
+        ≡ broken_pieces_of (plain_settings options.now) (split_by_points (points_by options.now.word_splitter)
+        (words_by options.now.word_separator paragraph.now))) }
     ensures tiles { IfOk result (λ pieces. Tiles (map word_view pieces.items) paragraph.now) }
 {
     let frame = Frame::of(options.layout());

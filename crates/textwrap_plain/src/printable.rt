@@ -4,10 +4,10 @@ ghost use Rattle.std.specs.Prelude.{◌≡◌};
 ghost use Rattle.textwrap_plain.specs.Options.{plain_layout};
 
 use crate::options::{PlainOptions, PlainSeparator};
+use crate::parts::PlainParts;
 use std::alloc::{AllocError, Global};
-use textwrap_layout::built_in::BuiltIn;
 use textwrap_layout::layout::Layout;
-use textwrap_layout::parts::{BuiltInAlgorithm, BuiltInParts};
+use textwrap_layout::parts::BuiltInAlgorithm;
 use textwrap_layout::printable_cuts::{BlankCuts, PrintableCuts};
 use textwrap_unicode::inner::{is_cut_at_blanks, is_cut_between};
 use textwrap_unicode::{Numbers, unicode_cuts, unicode_cuts_by_expression};
@@ -99,34 +99,30 @@ impl<'a> PlainOptions<'a> {
     }
 
     /// Their separator, splitter and algorithm, as `textwrap_lines` takes them.
-    pub fn parts(&self, alloc: Global) -> BuiltIn<PlainWords>
+    pub fn parts(&self, alloc: Global) -> PlainParts<'a, PlainWords>
         ensures words { result.words.separator ≡ self.now.word_separator }
-        ensures splitter { result.parts.splitter ≡ self.now.word_splitter }
-        ensures algorithm { result.parts.algorithm ≡ self.now.wrap_algorithm }
+        ensures splitter { result.splitter ≡ self.now.word_splitter }
+        ensures algorithm { result.algorithm ≡ self.now.wrap_algorithm }
     {
-        BuiltIn {
-            parts: BuiltInParts {
-                splitter: self.word_splitter,
-                algorithm: self.wrap_algorithm,
-            },
+        PlainParts {
             words: PlainWords {
                 separator: self.word_separator,
                 alloc,
             },
+            splitter: self.word_splitter,
+            algorithm: self.wrap_algorithm,
         }
     }
 
     /// First fit, of words between blanks. Loops over these ask of no byte which separator it is.
-    pub(crate) fn direct_parts(&self) -> BuiltIn<BlankCuts>
-        ensures splitter { result.parts.splitter ≡ self.now.word_splitter }
-        ensures first_fit { result.parts.algorithm ≡ BuiltInAlgorithm.FirstFit }
+    pub(crate) fn direct_parts(&self) -> PlainParts<'a, BlankCuts>
+        ensures splitter { result.splitter ≡ self.now.word_splitter }
+        ensures first_fit { result.algorithm ≡ BuiltInAlgorithm.FirstFit }
     {
-        BuiltIn {
-            parts: BuiltInParts {
-                splitter: self.word_splitter,
-                algorithm: BuiltInAlgorithm::FirstFit,
-            },
+        PlainParts {
             words: BlankCuts {},
+            splitter: self.word_splitter,
+            algorithm: BuiltInAlgorithm::FirstFit,
         }
     }
 }

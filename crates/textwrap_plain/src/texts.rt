@@ -1,5 +1,5 @@
 //! Texts, wrapped and filled by options without functions.
-ghost use Rattle.std.specs.Prelude.{◌≡◌, ◌≤◌, ◌∷◌, [], ℕ, List, length, Some, IfErr, IfOk, IfSome, IsOk};
+ghost use Rattle.std.specs.Prelude.{◌≡◌, ◌≢◌, ◌≤◌, ◌∷◌, [], ℕ, List, length, None, Some, IfErr, IfOk, IfSome, IsOk};
 ghost use Rattle.std.specs.Prelude.{false, if◌then◌else◌, map, string_bytes, true};
 ghost use Rattle.textwrap.specs.Columns.{IsInColumns};
 ghost use Rattle.textwrap.specs.Filling.{IsFilled};
@@ -8,8 +8,8 @@ ghost use Rattle.textwrap.specs.Refilling.{IsRefilled};
 ghost use Rattle.textwrap.specs.Text.{ArePrintedWithin, CanKeepToWidth, IsWrapped, LinesKeepToWidth};
 ghost use Rattle.textwrap.specs.WrapAlgorithms.{ByFirstFit};
 ghost use Rattle.textwrap_plain.specs.Options.{plain_algorithm, DividesPlainly, plain_settings};
-ghost use Rattle.textwrap_plain.specs.Options.{plain_splitter};
-ghost use Rattle.textwrap_plain.specs.declared.options.PlainSeparator.TheVariants.{AtBlanks};
+ghost use Rattle.textwrap_plain.specs.Options.{AreDirect, plain_splitter};
+ghost use Rattle.textwrap_plain.specs.Hyphenated.{AddOnlyHyphens, LinesKeepButHyphens};
 ghost use Rattle.textwrap_text.specs.LineEnding.{paragraphs_of};
 ghost use Rattle.textwrap_text.specs.Blanks.{without_final_blanks};
 ghost use Rattle.textwrap_text.specs.LentText.{as_len, written_over};
@@ -40,18 +40,28 @@ pub fn wrap<'t>(
     options: &PlainOptions<'_>,
 ) -> Result<Vec<CowStr<'t>>, WrapError>
     ensures lines { IfOk result (λ lines. IsWrapped (plain_settings options.now)
-        (Some (plain_splitter options.now)) (Some (plain_algorithm options.now))
+        (plain_splitter options.now) (Some (plain_algorithm options.now))
         (DividesPlainly options.now (plain_settings options.now)) text.now
         (map line_view lines.items)) }
     // Where paragraphs are even, lines keep to the width with their indents, if they can.
-    ensures even { options.now.even_paragraphs ≡ true → plain_algorithm options.now ≡ ByFirstFit
-        → options.now.break_words ≡ true → IfOk result (λ lines. LinesKeepToWidth
+    ensures even { plain_splitter options.now ≢ None → options.now.even_paragraphs ≡ true
+        → plain_algorithm options.now ≡ ByFirstFit → options.now.break_words ≡ true → IfOk result (λ lines. LinesKeepToWidth
         (plain_settings options.now) (DividesPlainly options.now (plain_settings options.now)) text.now
         (map line_view lines.items)) }
     // And so they do in the columns that they are printed in, if no blanks are preserved and neither
     // an indent nor a piece cuts an escape sequence; a text of one paragraph need not be even.
-    ensures printed { plain_algorithm options.now ≡ ByFirstFit
+    ensures printed { plain_splitter options.now ≢ None → plain_algorithm options.now ≡ ByFirstFit
         → CanKeepToWidth (plain_settings options.now) text.now → IfOk result (λ lines. ArePrintedWithin
+        (plain_settings options.now) (DividesPlainly options.now (plain_settings options.now)) text.now
+        (map line_view lines.items)) }
+    // By a dictionary nothing is printed behind a line, or a hyphen.
+    ensures hyphens { plain_splitter options.now ≡ None → IfOk result (λ lines. AddOnlyHyphens
+        (plain_settings options.now) (DividesPlainly options.now (plain_settings options.now)) text.now
+        (map line_view lines.items)) }
+    // And by first fit, where words are broken, a line passes its width only where it is one piece, by
+    // its hyphen or as one character that takes columns.
+    ensures keeps { plain_splitter options.now ≡ None → plain_algorithm options.now ≡ ByFirstFit
+        → options.now.break_words ≡ true → IfOk result (λ lines. LinesKeepButHyphens
         (plain_settings options.now) (DividesPlainly options.now (plain_settings options.now)) text.now
         (map line_view lines.items)) }
     ensures only_memory { OnlyMemoryRunsOut result }
@@ -73,7 +83,8 @@ pub fn fill(alloc: Global, text: &str, options: &PlainOptions<'_>) -> Result<Str
 
 /// Writes the text of [`fill`] into lent room, as much of it as there is room for, and returns how many
 /// bytes it has, or the greatest number if they are more. The rest of the room stays as it was. At
-/// blanks and by first fit nothing is allocated, and of a text that is one line as a whole neither.
+/// blanks, by first fit and without a dictionary nothing is allocated, and of a text that is one line as
+/// a whole neither.
 ///
 /// # Errors
 /// [`WrapError::Memory`] where memory runs out. Then the room is as it was.
@@ -86,8 +97,7 @@ pub fn fill_into(
     ensures filled { IfOk result (λ len. (filled : List ℕ) × IsFilled (plain_settings options.now)
         (DividesPlainly options.now (plain_settings options.now)) text.now filled
         × (len ≡ as_len (length filled)) × (room.new ≡ written_over room.old filled)) }
-    ensures done { options.now.word_separator ≡ AtBlanks → plain_algorithm options.now ≡ ByFirstFit
-        → IsOk result }
+    ensures done { AreDirect options.now → IsOk result }
     ensures kept { IfErr result (λ _. room.new ≡ room.old) }
     ensures only_memory { OnlyMemoryRunsOut result }
 {

@@ -12,7 +12,7 @@
 //! ```
 use super::{Alignment, Column, Gaps, Shortening};
 use crate::room::{lines_by, list_by, mapped, number_by, text_by, texts_of};
-use crate::{custom, guess, sys, Options, WrapAlgorithm};
+use crate::{custom, guess, sys, Options, WordSplitter, WrapAlgorithm};
 use alloc::borrow::Cow;
 use alloc::string::String;
 use alloc::vec::Vec;
@@ -167,7 +167,7 @@ where
 /// [`OutOfMemory`] if memory runs out.
 ///
 /// # Panics
-/// If a function of the caller, a dictionary or patterns find words or split them.
+/// If a function of the caller, or a dictionary, finds words or splits them.
 pub fn wrap_balanced<'a, Opt>(
     text: &str,
     width_or_options: Opt,
@@ -175,7 +175,7 @@ pub fn wrap_balanced<'a, Opt>(
 where
     Opt: Into<Options<'a>>,
 {
-    let with = by_first_fit(width_or_options.into());
+    let (with, _lender) = by_first_fit(width_or_options.into());
     let (lines, bytes) = guess::wrapped(text, &with);
     lines_by!(lines, bytes, textwrap_wrap_balanced(text; &with))?.cows(text)
 }
@@ -186,24 +186,24 @@ where
 /// [`OutOfMemory`] if memory runs out.
 ///
 /// # Panics
-/// If a function of the caller, a dictionary or patterns find words or split them.
+/// If a function of the caller, or a dictionary, finds words or splits them.
 pub fn balanced_width<'a, Opt>(text: &str, width_or_options: Opt) -> Result<usize, OutOfMemory>
 where
     Opt: Into<Options<'a>>,
 {
-    let with = by_first_fit(width_or_options.into());
+    let (with, _lender) = by_first_fit(width_or_options.into());
     number_by!(textwrap_balanced_width(text; &with))
 }
 
-/// The options as C has them. The algorithm is not used.
+/// The options as C has them, with the splitter, whose patterns they borrow. The algorithm is not used.
 ///
 /// # Panics
-/// If a function of the caller, a dictionary or patterns find words or split them.
-fn by_first_fit(options: Options<'_>) -> sys::Options {
-    let Ok(with) = options.wrap_algorithm(WrapAlgorithm::FirstFit).built_in() else {
-        panic!("a text is balanced by the library's own words and points");
-    };
-    with
+/// If a function of the caller, or a dictionary, finds words or splits them.
+fn by_first_fit(options: Options<'_>) -> (sys::Options, WordSplitter) {
+    options
+        .wrap_algorithm(WrapAlgorithm::FirstFit)
+        .built_in()
+        .unwrap_or_else(|_| panic!("a text is balanced by the library's own words and points"))
 }
 
 /// [`crate::display::fitting_widths`].

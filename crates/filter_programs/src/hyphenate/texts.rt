@@ -9,8 +9,10 @@ use std::alloc::{AllocError, Global};
 use text_filters::filter::{Filter, Made};
 use textwrap_hyphens::points::points;
 use textwrap_hyphens::table::PatternTable;
+use textwrap_layout::layout::Layout;
 use textwrap_layout::options::Options;
-use textwrap_plain::hyphenated::texts::fill_hyphenated;
+use textwrap_lines::inner::fill_by;
+use textwrap_plain::Hyphenated;
 use textwrap_words::wrap_algorithms::WrapAlgorithm;
 
 /// What a text is hyphenated by.
@@ -66,7 +68,11 @@ fn filled(
         (string_bytes filled)) }
 {
     let options = Options::new(width).wrap_algorithm(WrapAlgorithm::FirstFit);
-    match fill_hyphenated(alloc, text, options, patterns) {
+    let parts = Hyphenated {
+        parts: &options,
+        patterns,
+    };
+    match fill_by(alloc, text, Layout::of(&options), &parts) {
         Ok(filled) => Ok(filled),
         Err(_) => Err(AllocError),
     }

@@ -8,7 +8,18 @@ use Rattle.textwrap_calls.proofs.Common.{TextwrapOptions, Bool}
 use Rattle.textwrap_calls.proofs.Common.{flat_map-append}
 use Rattle.textwrap_calls.proofs.Common.{length-append, options_algorithm, ending_bytes}
 use Rattle.textwrap_calls.proofs.Common.{separator_of, IsInColumns, arith}
-use Rattle.textwrap_calls.proofs.Common.{options_settings, options_splitter, built_text, All-head}
+use Rattle.textwrap_calls.proofs.Common.{options_settings, built_text, All-head, eqb-true}
+use Rattle.textwrap_calls.proofs.Common.{paragraphs_of}
+use Rattle.textwrap_calls.proofs.PlaceLemmas.{divided-tile}
+use Rattle.textwrap_calls.proofs.ReadOptions.{options-cuts, options-inside, splitter-named}
+use Rattle.textwrap_calls.specs.Bounds.{hyphens_of}
+use Rattle.textwrap_calls.specs.Options.{options_points}
+use Rattle.textwrap_layout.proofs.Text.Paragraphs.{paragraphs_of-utf8}
+use Rattle.textwrap_lines.proofs.Text.Groups.{groups-tile}
+use Rattle.textwrap_plain.specs.Hyphenated.{AddsHyphenAtMost}
+use Rattle.textwrap_plain.specs.declared.options.PlainSplitter.{PlainSplitter}
+use Rattle.textwrap_plain.specs.declared.options.PlainSplitter.TheVariants.{BuiltIn, Dictionary}
+use Rattle.textwrap_text.proofs.Common.{All-weaker, None}
 use Rattle.textwrap_calls.proofs.Common.{length-map, line_bytes, table_rows, LineParts}
 use Rattle.textwrap_calls.proofs.Common.{join_with, line_from, nat_tests, All}
 use Rattle.textwrap_calls.proofs.Common.{All-tail, IsFilled, Settings, cases_lt, flat_map}
@@ -26,13 +37,13 @@ use Rattle.std.specs.Int.{div_ceil}
 use Rattle.textwrap_layout.specs.Paragraph.{Built}
 use Rattle.textwrap.proofs.Text.Tables.{columns_kept}
 use Rattle.textwrap.specs.Columns.{at_column_width, column_width, inner_width, row_layout, row_count}
-use Rattle.textwrap_plain.proofs.Words.{IsWrapped-at}
-use Rattle.textwrap_calls.proofs.Lengths.Lines.{indent-length, later-length, line-length}
+use Rattle.textwrap_plain.proofs.Words.{IsWrapped-at, hyphens-at}
+use Rattle.textwrap_calls.proofs.Lengths.Lines.{AddsAtMost, indent-length, later-length, line-length}
 use Rattle.textwrap_plain.proofs.Balance.Counts.{slices, text-size}
 use Rattle.textwrap_plain.specs.CutSides.{words_by-cut}
-use Rattle.textwrap_plain.specs.Options.{words_by}
+use Rattle.textwrap_plain.specs.Options.{DividesFrom, points_by, port_splitter, words_by}
 use Rattle.textwrap_calls.proofs.Lengths.Sums.{texts-joined, by-columns, flat-each}
-use Rattle.textwrap_calls.specs.Bounds.{columns_room_bound, wrap_room_bound, fill_bound, rows_bound}
+use Rattle.textwrap_calls.specs.Bounds.{columns_room_bound, fill_bound, rows_bound}
 use Rattle.textwrap_calls.specs.declared.columns.TextwrapGaps.{TextwrapGaps}
 
 -- ---- lines of their own
@@ -42,101 +53,170 @@ built-le [] = omega arith
 built-le (Slice bytes ∷ lines) = omega (arith, built-le lines, length-append {A = ℕ})
 built-le (Built bytes ∷ lines) = omega (arith, built-le lines, length-append {A = ℕ})
 
-slice-line : (p : LineParts) → length p.indent ≡ 0 → HasNoHyphen p
+slice-line : (p : LineParts) → length p.indent ≡ 0 → AddsAtMost 0 p
     → length (built_bytes (line_from p)) ≡ 0
-slice-line p short none = grind (arith, length-append, ap length none)
+slice-line p short none = grind (arith, length-append)
 
--- without indents there are none
+-- without indents and hyphens there are none
 built-none : (settings : Settings) (is_later : Bool) (parts : List LineParts)
     → length (indent_of settings is_later) ≡ 0 → length settings.subsequent_indent ≡ 0
-    → AreIndented settings is_later parts → All HasNoHyphen parts
+    → AreIndented settings is_later parts → All (AddsAtMost 0) parts
     → length (built_text (map line_from parts)) ≡ 0
 built-none settings is_later [] here later are none = refl
 built-none settings is_later (p ∷ parts) here later are none =
     omega (
       arith,
       slice-line p (omega (arith, here, ap length are.0, indent-length settings is_later p.pieces))
-          (All-head HasNoHyphen p parts none),
-      built-none settings true parts later later are.1 (All-tail HasNoHyphen p parts none),
+          (All-head (AddsAtMost 0) p parts none),
+      built-none settings true parts later later are.1 (All-tail (AddsAtMost 0) p parts none),
       length-append {A = ℕ},
     )
 
 -- ---- all lines
 
--- how many they are, how long they are, and how long those are that have an indent
-pub record AreBounded (settings : Settings) (len : ℕ) (lines : List Line) : Type 0 where
-  pub count : length lines ≤ len + 1
-  pub bytes : length (flat (map line_bytes lines))
-      ≤ length settings.initial_indent + len * (1 + length settings.subsequent_indent)
-  pub built : length (built_text lines) ≤ wrap_room_bound settings len
+-- the initial indent, and each byte on a line of its own after the later indent, each line with so much
+-- behind it
+abbrev bytes_bound : Settings → ℕ → ℕ → ℕ
+bytes_bound settings most len =
+    length settings.initial_indent + most + len * (1 + length settings.subsequent_indent + most)
 
-module _ (settings : Settings) (len : ℕ) where
+-- how many they are, how long they are, and how long those are that are no slices
+pub record AreBounded (settings : Settings) (most len : ℕ) (lines : List Line) : Type 0 where
+  pub count : length lines ≤ len + 1
+  pub bytes : length (flat (map line_bytes lines)) ≤ bytes_bound settings most len
+  pub built : length (built_text lines) ≤ cond ((length settings.initial_indent == 0)
+      && ((length settings.subsequent_indent == 0) && (most == 0))) 0 (bytes_bound settings most len)
+
+module _ (settings : Settings) (most len : ℕ) where
   bytes-bounded : (parts : List LineParts) → AreIndented settings false parts
-      → All HasNoHyphen parts → length parts ≤ len + 1 → length (slices parts) ≤ len
-      → length (flat (map line_bytes (map line_from parts)))
-      ≤ length settings.initial_indent + len * (1 + length settings.subsequent_indent)
-  bytes-bounded [] indented none count within = omega arith
-  bytes-bounded (p ∷ parts) indented none count within =
-      let k = length settings.subsequent_indent in
+      → All (AddsAtMost most) parts → length parts ≤ len + 1 → length (slices parts) ≤ len
+      → length (flat (map line_bytes (map line_from parts))) ≤ bytes_bound settings most len
+  bytes-bounded [] indented adds count within = omega arith
+  bytes-bounded (p ∷ parts) indented adds count within =
+      let each = length settings.subsequent_indent + most in
       omega (
         arith,
-        line-length settings false p (All-head HasNoHyphen p parts none) indented.0,
-        later-length settings parts indented.1 (All-tail HasNoHyphen p parts none),
-        mul-le (length parts) k len k (omega (arith, count)) (omega arith),
+        line-length settings false most p (All-head (AddsAtMost most) p parts adds) indented.0,
+        later-length settings most each (omega arith) parts indented.1
+            (All-tail (AddsAtMost most) p parts adds),
+        mul-le (length parts) each len each (omega (arith, count)) (omega arith),
         within,
         length-append {A = ℕ},
       )
 
   parts-bounded : (parts : List LineParts) → AreIndented settings false parts
-      → All HasNoHyphen parts → length parts ≤ len + 1 → length (slices parts) ≤ len
-      → AreBounded settings len (map line_from parts)
-  parts-bounded parts indented none count within =
-      let bytes = bytes-bounded parts indented none count within in
+      → All (AddsAtMost most) parts → length parts ≤ len + 1 → length (slices parts) ≤ len
+      → AreBounded settings most len (map line_from parts)
+  parts-bounded parts indented adds count within =
+      let bytes = bytes-bounded parts indented adds count within in
       let lines = map line_from parts in
       let i = length settings.initial_indent in
       let k = length settings.subsequent_indent in
       record {
         count = omega (arith, count, length-map parts line_from);
         bytes = bytes;
-        built = (elim ((i == 0) && (k == 0)) as (λ b. (i == 0) && (k == 0) ≡ b
-            → length (built_text lines) ≤ cond b 0 (i + len * (1 + k))) [
+        built = (elim ((i == 0) && ((k == 0) && (most == 0)))
+            as (λ b. (i == 0) && ((k == 0) && (most == 0)) ≡ b
+            → length (built_text lines) ≤ cond b 0 (bytes_bound settings most len)) [
               | true ↦ λ unindented.
-                  let both = and_parts (i == 0) (k == 0) unindented in
-                  grind (arith, built-none)
+                  let both = and_parts (i == 0) ((k == 0) && (most == 0)) unindented in
+                  let rest = and_parts (k == 0) (most == 0) both.1 in
+                  let none = subst (λ n. All (AddsAtMost n) parts) (eqb-true most 0 rest.1) adds in
+                  omega (
+                    arith,
+                    built-none settings false parts (eqb-true i 0 both.0) (eqb-true k 0 rest.0)
+                        indented none,
+                  )
               | false ↦ λ some. omega (arith, built-le lines, bytes)
             ]) refl;
       }
 
+-- ---- behind a line stands a hyphen at most, and only by a dictionary
+
+hyphen-short : (p : LineParts) → AddsHyphenAtMost p → AddsAtMost 1 p
+hyphen-short p (inl is) = omega (arith, ap length is)
+hyphen-short p (inr is) = omega (arith, ap length is)
+
+none-short : (most : ℕ) (p : LineParts) → HasNoHyphen p → AddsAtMost most p
+none-short most p is = omega (arith, ap length is)
+
+-- lines that are the text's, where words are split at such points, and what is added to them
+record AreAdded (o : TextwrapOptions) (settings : Settings) (text : List ℕ) (lines : List Line)
+    (points : List ℕ → List ℕ) : Type 0 where
+  are : AreTextLines settings
+      (DividesFrom (words_by (separator_of o)) points (options_algorithm o) settings) text lines
+  indents : AreIndented settings false (flat are.groups)
+  adds : All (AddsAtMost (hyphens_of o)) (flat are.groups)
+
+added : (o : TextwrapOptions) (settings : Settings) (text : List ℕ) (lines : List Line)
+    → IsUtf8 text → AreTextLines settings (Divides o settings) text lines
+    → AreAdded o settings text lines (options_points o)
+added o settings text lines utf8 are =
+    let (splitter, is) = splitter-named o in
+    subst (AreAdded o settings text lines) (sym is.points) (by splitter is.hyphens
+    (subst (λ points. AreTextLines settings
+    (DividesFrom (words_by (separator_of o)) points (options_algorithm o) settings) text lines)
+    is.points are))
+  where
+    by : (splitter : PlainSplitter) → (port_splitter splitter ≡ None → 1 ≤ hyphens_of o)
+        → AreTextLines settings (DividesFrom (words_by (separator_of o)) (points_by splitter)
+        (options_algorithm o) settings) text lines
+        → AreAdded o settings text lines (points_by splitter)
+    by (BuiltIn splitter) hyphens are =
+        let all = IsWrapped-at (separator_of o) utf8 (BuiltIn splitter) are in
+        record {
+          are = all.are;
+          indents = all.adds.indents;
+          adds = All-weaker HasNoHyphen (AddsAtMost (hyphens_of o)) (none-short (hyphens_of o))
+              (flat all.are.groups) (all.adds.no_hyphen (λ e. cc));
+        }
+    by (Dictionary table) hyphens are =
+        let all = IsWrapped-at (separator_of o) utf8 (Dictionary table) are in
+        record {
+          are = all.are;
+          indents = all.adds.indents;
+          adds = All-weaker AddsHyphenAtMost (AddsAtMost (hyphens_of o))
+              (λ p is_one. omega (arith, hyphen-short p is_one, hyphens refl)) (flat all.are.groups)
+              (hyphens-at (separator_of o) table (options_algorithm o) utf8 all.are);
+        }
+
 pub lines-bounded : (o : TextwrapOptions) (settings : Settings) (len : ℕ) (text : List ℕ)
     (lines : List Line) → IsUtf8 text → length text ≡ len
-    → AreTextLines settings (Divides o settings) text lines → AreBounded settings len lines
+    → AreTextLines settings (Divides o settings) text lines
+    → AreBounded settings (hyphens_of o) len lines
 lines-bounded o settings len text lines utf8 len_is are =
-    let all = IsWrapped-at (separator_of o) {algorithm = options_algorithm o} {splitter = options_splitter o}
-    utf8 are in
+    let all = added o settings text lines utf8 are in
     let groups = all.are.groups in
-    let size = text-size (words_by (separator_of o)) (words_by-cut (separator_of o)) (options_splitter o)
-    (options_algorithm o) settings text groups utf8 all.are.defined (all.tile (λ e. cc)) in
-    subst (AreBounded settings len) (sym all.are.given)
-    (parts-bounded settings len (flat groups) all.adds.indents (all.adds.no_hyphen (λ e. cc))
+    let tile = groups-tile settings (Divides o settings) (divided-tile o settings) false
+    (paragraphs_of settings.line_ending text) groups
+    (paragraphs_of-utf8 settings.line_ending text utf8) all.are.defined in
+    let size = text-size (words_by (separator_of o)) (words_by-cut (separator_of o)) (options_points o)
+    (options-cuts o) (options-inside o) (options_algorithm o) settings text groups utf8 all.are.defined
+    tile in
+    subst (AreBounded settings (hyphens_of o) len) (sym all.are.given)
+    (parts-bounded settings (hyphens_of o) len (flat groups) all.indents all.adds
     (omega (arith, size.0, len_is)) (omega (arith, size.1, len_is)))
 
 -- ---- how long a filled text is at most
 
-pub filled-bounded : (o : TextwrapOptions) (settings : Settings) (len : ℕ)
-    (text filled : List ℕ) → IsUtf8 text → length text ≡ len
-    → IsFilled settings (Divides o settings) text filled → length filled ≤ fill_bound settings len
-filled-bounded o settings len text filled utf8 len_is (lines, are, is) =
+pub filled-bounded : (o : TextwrapOptions) (len : ℕ) (text filled : List ℕ) → IsUtf8 text
+    → length text ≡ len → IsFilled (options_settings o) (Divides o (options_settings o)) text filled
+    → length filled ≤ fill_bound o len
+filled-bounded o len text filled utf8 len_is (lines, are, is) =
     let bounded = lines-bounded o settings len text lines utf8 len_is are in
     let count : length (map line_bytes lines) ≤ len + 1 =
     omega (arith, bounded.count, length-map lines line_bytes) in
     rw is (by (map line_bytes lines) count bounded.bytes)
   where
+    settings : Settings
+    settings = options_settings o
+
     ending : List ℕ
     ending = ending_bytes settings.line_ending
 
     by : (texts : List (List ℕ)) → length texts ≤ len + 1 → length (flat texts)
-        ≤ length settings.initial_indent + len * (1 + length settings.subsequent_indent)
-        → length (join_with ending texts) ≤ fill_bound settings len
+        ≤ bytes_bound settings (hyphens_of o) len
+        → length (join_with ending texts) ≤ fill_bound o len
     by [] count bytes = omega arith
     by (x ∷ xs) count bytes = omega (
       arith,

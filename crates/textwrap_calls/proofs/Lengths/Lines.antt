@@ -1,6 +1,5 @@
 -- How long the lines of a paragraph are at most.
 use Rattle.textwrap_layout.proofs.Common.{AreIndented, indent_of}
-use Rattle.textwrap_lines.proofs.Paragraph.KeepsTo.{HasNoHyphen}
 use Rattle.textwrap_calls.proofs.Common.{length-append}
 use Rattle.textwrap_calls.proofs.Common.{Bool}
 use Rattle.textwrap_calls.proofs.Common.{line_bytes}
@@ -10,9 +9,8 @@ use Rattle.textwrap_calls.proofs.Common.{WordText}
 use Rattle.textwrap_calls.proofs.Common.{length}
 use Rattle.textwrap_calls.proofs.Common.{arith, List, flat}
 use Rattle.textwrap_calls.proofs.Common.{true, All}
-use Rattle.textwrap_calls.proofs.Common.{◌*◌, ◌+◌, ◌∙◌, ◌∷◌, ◌≡◌, ◌≤◌, [], ap}
-use Rattle.textwrap_layout.proofs.Paragraph.LeftOff.{bytes-assembled}
-use Rattle.textwrap_layout.specs.Paragraph.{indent_before}
+use Rattle.textwrap_calls.proofs.Common.{◌*◌, ◌+◌, ◌∷◌, ◌≡◌, ◌≤◌, [], ap}
+use Rattle.textwrap_layout.specs.Paragraph.{assembled_line, indent_before}
 use Rattle.textwrap.proofs.Text.PlainFilled.{bytes_of}
 use Rattle.textwrap_plain.proofs.Balance.Counts.{slices}
 
@@ -23,23 +21,40 @@ pub indent-length : (settings : Settings) (is_later : Bool) (pieces : List WordT
 indent-length settings is_later [] = omega arith
 indent-length settings is_later (w ∷ words) = omega arith
 
-pub line-length : (settings : Settings) (is_later : Bool) (p : LineParts) → HasNoHyphen p
-    → p.indent ≡ indent_before settings is_later p.pieces
-    → length (line_bytes (line_from p)) ≤ length (indent_of settings is_later) + length p.slice
-line-length settings is_later p none is =
-    let whole = ap (λ penalty. length (line_bytes (line_from (record p { penalty = penalty })))) none
-    ∙ ap length (bytes-assembled p.indent p.slice) ∙ length-append p.indent p.slice in
-    omega (arith, whole, ap length is, indent-length settings is_later p.pieces)
+-- behind what a line covers, at most so many bytes are printed
+abbrev pub AddsAtMost : ℕ → LineParts → Type 0
+AddsAtMost most p = length p.penalty ≤ most
 
--- those after another one
-pub later-length : (settings : Settings) (parts : List LineParts) → AreIndented settings true parts
-    → All HasNoHyphen parts → length (flat (bytes_of parts))
-    ≤ length (slices parts) + length parts * length settings.subsequent_indent
-later-length settings [] are none = omega arith
-later-length settings (p ∷ parts) are none =
+assembled-length : (indent slice penalty : List ℕ)
+    → length (line_bytes (assembled_line indent slice penalty))
+    ≡ length indent + length slice + length penalty
+assembled-length [] slice [] = omega arith
+assembled-length [] slice (c ∷ penalty) = grind (arith, length-append)
+assembled-length (c ∷ indent) slice penalty = grind (arith, length-append)
+
+pub line-length : (settings : Settings) (is_later : Bool) (most : ℕ) (p : LineParts)
+    → AddsAtMost most p → p.indent ≡ indent_before settings is_later p.pieces
+    → length (line_bytes (line_from p)) ≤ length (indent_of settings is_later) + length p.slice + most
+line-length settings is_later most p adds is =
     omega (
       arith,
-      line-length settings true p (All-head HasNoHyphen p parts none) are.0,
-      later-length settings parts are.1 (All-tail HasNoHyphen p parts none),
+      adds,
+      assembled-length p.indent p.slice p.penalty,
+      ap length is,
+      indent-length settings is_later p.pieces,
+    )
+
+-- those after another one
+pub later-length : (settings : Settings) (most each : ℕ)
+    → length settings.subsequent_indent + most ≤ each → (parts : List LineParts)
+    → AreIndented settings true parts → All (AddsAtMost most) parts
+    → length (flat (bytes_of parts)) ≤ length (slices parts) + length parts * each
+later-length settings most each enough [] are adds = omega arith
+later-length settings most each enough (p ∷ parts) are adds =
+    omega (
+      arith,
+      enough,
+      line-length settings true most p (All-head (AddsAtMost most) p parts adds) are.0,
+      later-length settings most each enough parts are.1 (All-tail (AddsAtMost most) p parts adds),
       length-append {A = ℕ},
     )

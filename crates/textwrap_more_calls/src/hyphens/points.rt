@@ -2,15 +2,14 @@
 ghost use Rattle.std.specs.Prelude.{◌≡◌, ◌≤◌, ◌↔◌, ◌⊎◌, IsUtf8};
 ghost use Rattle.textwrap_calls.specs.Room.{WritesText};
 ghost use Rattle.textwrap_calls.specs.Status.{not_utf8, unknown_options};
-ghost use Rattle.textwrap_more_calls.specs.Dictionaries.{IsDamaged, IsKnownDictionary};
-ghost use Rattle.textwrap_more_calls.specs.Dictionaries.{hyphenation_of};
+ghost use Rattle.textwrap_calls.specs.Dictionary.{IsDamaged, IsKnownDictionary, hyphenation_of};
 ghost use Rattle.textwrap_more_calls.specs.Status.{damaged_table};
 ghost use Rattle.textwrap_hyphens.specs.Points.{hyphenation_points};
 
-use crate::hyphens::dictionary::{TextwrapDictionary, is_known, read_dictionary};
 use crate::hyphens::status::DAMAGED_TABLE;
 use simdutf8::basic::from_utf8;
 use std::alloc::Global;
+use textwrap_calls::dictionary::{TextwrapDictionary, is_known, read_dictionary};
 use textwrap_calls::room::put;
 use textwrap_calls::status::{NOT_UTF8, OUT_OF_MEMORY, UNKNOWN_OPTIONS};
 use textwrap_hyphens::points;

@@ -1,9 +1,12 @@
 -- How many lines a text takes: as many as stand somewhere, and these are as many as a number says.
 use Rattle.textwrap_plain.specs.Balance.{TakesLines, at_width}
-use Rattle.textwrap_layout.proofs.Common.{AreGroups, DividesAt, LineParts}
+use Rattle.textwrap_layout.proofs.Common.{AreGroups, LineParts}
 use Rattle.textwrap_layout.proofs.Common.{Line, Settings, cut_lines, line_from}
 use Rattle.textwrap_layout.proofs.Common.{AreWordsCut, text_cuts}
-use Rattle.textwrap_plain.proofs.Balance.Counts.{text-lines}
+use Rattle.textwrap_plain.proofs.Balance.Counts.{IsInside, text-lines}
+use Rattle.textwrap_plain.proofs.Split.{AreAt}
+use Rattle.textwrap_plain.specs.Options.{DividesFrom}
+use Rattle.textwrap_words.specs.Cuts.{AreCuts, AreNext}
 use Rattle.textwrap_text.proofs.Common.{paragraphs_of}
 use Rattle.textwrap_layout.proofs.Text.Sinks.{length-places_of}
 use Rattle.textwrap_layout.specs.LentPlaces.{reported_line}
@@ -14,7 +17,7 @@ use Rattle.textwrap_text.proofs.Common.{length, length-append, length-map, map, 
 use Rattle.textwrap_text.proofs.Common.{sym, ◌+◌, ◌++◌, ◌<◌, ◌^◌, ◌∷◌, ◌≡◌, ◌||◌, ℕ, false}
 use Rattle.textwrap_text.proofs.Lists.Parts.{flat}
 use Rattle.textwrap_text.specs.LentText.{as_len}
-use Rattle.textwrap_words.proofs.Common.{ByFirstFit, Splitter, WordText}
+use Rattle.textwrap_words.proofs.Common.{ByFirstFit, WordText}
 
 -- ---- lines are as many as the places where they stand
 
@@ -58,14 +61,16 @@ placed-many settings Divides text lines places placed =
 -- ---- the number of places says how many they are
 
 pub counted : (words : List ℕ → List WordText)
-    (cut : (line : List ℕ) → IsUtf8 line → AreWordsCut line (words line)) (splitter : Splitter)
+    (cut : (line : List ℕ) → IsUtf8 line → AreWordsCut line (words line)) (points : List ℕ → List ℕ)
+    (cuts : (word ps : List ℕ) → IsUtf8 word → AreAt points word ps → AreCuts word ps)
+    (inside : (word : List ℕ) → AreNext (IsInside word) (points word) 0)
     (settings : Settings) (text : List ℕ) (width count : ℕ) (lines : List Line)
     (places : List Place) → IsUtf8 text → length text < 2 ^ 63
     → ArePlacedLines (at_width settings width)
-    (DividesAt words splitter ByFirstFit (at_width settings width)) text lines places
+    (DividesFrom words points ByFirstFit (at_width settings width)) text lines places
     → count ≡ as_len (length (map reported_line places))
-    → TakesLines settings words splitter text width count
-counted words cut splitter settings text width count lines places utf8 short placed is = (
+    → TakesLines settings words points text width count
+counted words cut points cuts inside settings text width count lines places utf8 short placed is = (
   lines,
   placed.are,
   omega (
@@ -74,6 +79,7 @@ counted words cut splitter settings text width count lines places utf8 short pla
     short,
     length-map places reported_line,
     placed-many (at_width settings width) _ text lines places placed,
-    text-lines words cut splitter ByFirstFit (at_width settings width) text lines utf8 placed.are,
+    text-lines words cut points cuts inside ByFirstFit (at_width settings width) text lines utf8
+        placed.are,
   ),
 )

@@ -3,13 +3,14 @@ use Rattle.std.proofs.lemmas.Grind.{flat_map-append}
 use Rattle.std.specs.Str.{chars}
 use Rattle.textwrap_layout.proofs.Common.{Line}
 use Rattle.textwrap_base.proofs.Common.{IsDivision}
-use Rattle.textwrap_layout.proofs.Common.{AreGroups, AreParagraphParts, AreTextLines, DividesAt}
+use Rattle.textwrap_layout.proofs.Common.{AreGroups, AreParagraphParts, AreTextLines}
+use Rattle.textwrap_layout.proofs.Common.{broken_pieces_of}
 use Rattle.textwrap_layout.proofs.Common.{LineParts, Settings}
 use Rattle.textwrap_layout.proofs.Common.{covered_by, is_whole, line_from, parts_from, widths_of}
 use Rattle.textwrap_layout.proofs.Text.Paragraphs.{ending_bytes-some, join-paragraphs_of}
 use Rattle.textwrap_layout.proofs.Text.Paragraphs.{paragraphs_of-utf8}
 use Rattle.textwrap_lines.proofs.Paragraph.KeepsTo.{parts_from-pieces}
-use Rattle.textwrap_lines.proofs.Text.Groups.{groups-map}
+use Rattle.textwrap_lines.proofs.Text.Groups.{groups-map, groups-tile}
 use Rattle.textwrap_text.proofs.Common.{All, All-cons, All-head, All-map, All-nil, All-tail}
 use Rattle.textwrap_text.proofs.Common.{All-weaker, Bool, IsUtf8, List, [], ap, arith, cases_Bool}
 use Rattle.textwrap_text.proofs.Common.{cond, drop, encodes-chars, ending_bytes, false, filter}
@@ -17,32 +18,38 @@ use Rattle.textwrap_text.proofs.Common.{flat_map, inl, inr, join_with, length, l
 use Rattle.textwrap_text.proofs.Common.{length-drop, length-map, lines, map, nat_lt, paragraphs_of}
 use Rattle.textwrap_text.proofs.Common.{range_with_len, refl, slice_range, subst, suc, sym, true}
 use Rattle.textwrap_text.proofs.Common.{units, zero, ℕ, ◌++◌, ◌+◌, ◌-◌, ◌<◌, ◌||◌, ◌∷◌, ◌≡◌, ◌≢◌}
-use Rattle.textwrap_text.proofs.Common.{◌≤◌}
+use Rattle.textwrap_text.proofs.Common.{◌∙◌, ◌≤◌}
 use Rattle.textwrap_text.proofs.Lists.Parts.{flat, length-slice, some_from_nonempty}
 use Rattle.textwrap_text.specs.Units.{taken_at, units_past}
 use Rattle.textwrap_words.proofs.Common.{WordText, broken_texts, broken_word, sizes_of, tiled}
 use Rattle.textwrap_words.proofs.Common.{word_of}
-use Rattle.textwrap_words.specs.Cuts.{AreNext}
-use Rattle.textwrap_words.proofs.Common.{broken_words, IsDividedBy, pieces_with, split_words, Whole}
-use Rattle.textwrap_words.proofs.Common.{Algorithm, AtHyphens, ByOptimalFit, Splitter, tile_of, ByFirstFit}
-use Rattle.textwrap_layout.proofs.Common.{front_pieces, later_width, empty_word, pieces_by}
+use Rattle.textwrap_words.specs.Cuts.{AreCuts, AreNext}
+use Rattle.textwrap_words.proofs.Common.{broken_words, IsDividedBy, pieces_with, split_pieces}
+use Rattle.textwrap_words.proofs.Common.{Algorithm, ByOptimalFit, tile_of, ByFirstFit}
+use Rattle.textwrap_layout.proofs.Common.{front_pieces, later_width, empty_word}
+use Rattle.textwrap_base.proofs.Division.Map.{IsDividedBy-whole}
+use Rattle.textwrap_hyphens.specs.Splitting.{is_split_point}
+use Rattle.textwrap_hyphens.specs.Table.{held}
+use Rattle.textwrap_plain.proofs.Split.{AreAt, pieces-from, split-computed}
+use Rattle.textwrap_plain.specs.Options.{DividesFrom, points_by, split_by_points}
+use Rattle.textwrap_plain.specs.declared.options.PlainSplitter.{PlainSplitter}
+use Rattle.textwrap_plain.specs.declared.options.PlainSplitter.TheVariants.{BuiltIn, Dictionary}
+use Rattle.textwrap_words.specs.declared.pieces.BuiltInSplitter.TheVariants.{HyphenSplitter, NoHyphenation}
 use Rattle.std.proofs.lemmas.Str.{length-le-encodes}
 use Rattle.std.specs.List.{slice_range}
 use Rattle.std.specs.Prelude.{chars}
 use Rattle.textwrap_words.proofs.Word.Breaking.{AreBroken-exists}
 use Rattle.textwrap_words.proofs.Word.Words.{tile_of-word_of, IsMeasured, All-each}
-use Rattle.textwrap_words.specs.WordSplitters.{is_hyphen_point, cut_penalty, split_from, split_word}
+use Rattle.textwrap_words.specs.WordSplitters.{is_hyphen_point, cut_penalty, split_from}
 use Rattle.textwrap_words.specs.Words.{piece}
 use Rattle.textwrap_layout.proofs.Paragraph.LeftOff.{laid_out-cases}
-use Rattle.textwrap_layout.proofs.Paragraph.Pieces.{split_words-measured, split_words-tile}
-use Rattle.textwrap_layout.proofs.Paragraph.Pieces.{ArePieces-by}
+use Rattle.textwrap_layout.proofs.Paragraph.Pieces.{pieces-tile}
 use Rattle.std.specs.Prelude.{None, Some}
 use Rattle.textwrap_layout.proofs.Common.{AreWordsCut}
 use Rattle.textwrap_layout.proofs.Paragraph.Pieces.{AreWordsCut-texts}
-use Rattle.textwrap_lines.proofs.Text.Promises.{IsWrapped-parts}
 use Rattle.textwrap_text.proofs.Common.{chunks, ne_eqb}
 use Rattle.textwrap_text.proofs.Units.Chunks.{AreChunks-chunks}
-use Rattle.textwrap_words.proofs.Word.Pieces.{AreTexts}
+use Rattle.textwrap_words.proofs.Word.Pieces.{AreSplitWords, AreTexts, split-measured, split-tile}
 use Rattle.textwrap_words.specs.Cuts.{AreInnerCuts, AreLaterCuts, parts_between, parts_onward}
 
 -- ---- how many pieces words are broken into at most: no more than they have bytes
@@ -117,7 +124,7 @@ count-word limit w false (measured, some) = omega (arith, some)
 -- ---- words that cover some bytes are split into pieces that each cover some
 
 -- at offsets that increase, inside the word
-abbrev IsInside : List ℕ → ℕ → ℕ → Type 0
+abbrev pub IsInside : List ℕ → ℕ → ℕ → Type 0
 IsInside word last point = (last < point) × (point < length word)
 
 split-cover : (w : WordText) (start : ℕ) (points : List ℕ) → start < length (tile_of w)
@@ -150,12 +157,17 @@ points-inside test word (suc count) at last after inside =
       | inr not ↦ rw not (rest last (omega (arith, after)))
     ]
 
-word-cover : (splitter : Splitter) (w : WordText) → CoversSome w
-    → All CoversSome (split_word splitter w)
-word-cover Whole w some = split-cover w 0 [] some tt
-word-cover AtHyphens w some = split-cover w 0 _ some
-    (points-inside (is_hyphen_point w.word) w.word (length w.word - 1) 1 0 (omega arith)
-    (λ more. omega (arith, more)))
+-- ---- the points of a word are inside it
+
+pub points_by-inside : (splitter : PlainSplitter) (word : List ℕ)
+    → AreNext (IsInside word) (points_by splitter word) 0
+points_by-inside (BuiltIn NoHyphenation) word = tt
+points_by-inside (BuiltIn HyphenSplitter) word =
+    points-inside (is_hyphen_point word) word (length word - 1) 1 0 (omega arith)
+    (λ more. omega (arith, more))
+points_by-inside (Dictionary table) word =
+    points-inside (is_split_point (held table) word) word (length word - 1) 1 0 (omega arith)
+    (λ more. omega (arith, more))
 
 -- ---- how many lines a paragraph has at most: one more than it has bytes
 
@@ -246,27 +258,37 @@ groups-size is_later (parts ∷ groups) are =
       ),
     )
 
--- ---- the pieces of a paragraph whose words are cut somewhere, or at its blanks
+-- ---- the pieces of a paragraph whose words are cut somewhere, or at its blanks, and split at points
+-- inside them
 
 module _ (words : List ℕ → List WordText)
-    (cut : (line : List ℕ) → IsUtf8 line → AreWordsCut line (words line)) where
+    (cut : (line : List ℕ) → IsUtf8 line → AreWordsCut line (words line))
+    (points : List ℕ → List ℕ)
+    (cuts : (word ps : List ℕ) → IsUtf8 word → AreAt points word ps → AreCuts word ps)
+    (inside : (word : List ℕ) → AreNext (IsInside word) (points word) 0) where
+  texts : (line : List ℕ) (ws : List WordText) → IsUtf8 line → ws ≡ words line → AreTexts line ws
+  texts line ws utf8 is =
+      subst (AreTexts line) (sym is) (AreWordsCut-texts line (words line) utf8 (cut line utf8))
+
   -- no more than its bytes, and the empty one in front
-  count-pieces : (splitter : Splitter) (settings : Settings)
-      (paragraph : List ℕ) → IsUtf8 paragraph
-      → length (pieces_by settings words splitter paragraph)
+  count-pieces : (settings : Settings) (paragraph : List ℕ) → IsUtf8 paragraph
+      → length (broken_pieces_of settings (split_by_points points (words paragraph)))
       ≤ length paragraph + 1
-  count-pieces splitter settings paragraph utf8 =
-      let split = split_words splitter (words paragraph) in
+  count-pieces settings paragraph utf8 =
+      let split = split_by_points points (words paragraph) in
       let (parts, some, are) = cut-parts paragraph (words paragraph) (cut paragraph utf8) in
-      let texts = AreWordsCut-texts paragraph (words paragraph) utf8 (cut paragraph utf8) in
       let covers = All-map CoversSome word_of parts
       (All-weaker (λ part. part ≢ []) (λ part. CoversSome (word_of part))
       (λ part some. omega (arith, some_from_nonempty part some, ap length (tile_of-word_of part)))
       parts some) in
-      let cover = All-each CoversSome CoversSome (split_word splitter)
-      (word-cover splitter) (words paragraph) (subst (All CoversSome) (sym are) covers) in
-      let measured = split_words-measured settings splitter paragraph (words paragraph) utf8 texts in
-      let total = ap length (split_words-tile settings splitter paragraph (words paragraph) utf8 texts) in
+      let cover = All-each CoversSome CoversSome (λ w. split_pieces (points w.word) w)
+      (λ w some. split-cover w 0 (points w.word) some (inside w.word)) (words paragraph)
+      (subst (All CoversSome) (sym are) covers) in
+      let Words : List ℕ → List WordText → Type 0 = λ line ws. ws ≡ words line in
+      let made : AreSplitWords Words (AreAt points) texts cuts paragraph split =
+      (words paragraph, refl, split-computed points (words paragraph)) in
+      let measured = split-measured Words (AreAt points) texts cuts paragraph split utf8 made in
+      let total = ap length (split-tile Words (AreAt points) texts cuts paragraph split utf8 made) in
       let limit = later_width settings in
       let broken : length (broken_words limit split) ≤ length (tiled split) =
       count-each (λ w. IsMeasured w × CoversSome w) tile_of (broken_word limit)
@@ -278,22 +300,21 @@ module _ (words : List ℕ → List WordText)
         | false ↦ omega (arith, count-some CoversSome tile_of (λ w some. some) split cover, total)
       ]
 
-  pub count-lines : (splitter : Splitter) (algorithm : Algorithm)
-      (settings : Settings) (is_later : Bool) (paragraph : List ℕ) (parts : List LineParts)
+  pub count-lines : (algorithm : Algorithm) (settings : Settings) (is_later : Bool) (paragraph : List ℕ) (parts : List LineParts)
       → IsUtf8 paragraph
-      → AreParagraphParts settings (DividesAt words splitter algorithm settings)
+      → AreParagraphParts settings (DividesFrom words points algorithm settings)
       is_later paragraph parts
       → length parts ≤ length paragraph + 1
-  count-lines splitter algorithm settings is_later paragraph parts utf8
+  count-lines algorithm settings is_later paragraph parts utf8
       (division, laid_out, is) =
       let most = length paragraph + 1 in
       let lines : length division ≤ most =
       laid_out-cases (λ d. length d ≤ most) paragraph _ division (omega arith)
       (λ (pieces, are, divided). count-divided algorithm (widths_of settings is_later) pieces
       division most (omega arith)
-      (subst (λ ps. length ps ≤ most) (sym (ArePieces-by (λ line ws. ws ≡ words line) words
-      (λ line ws is. is) settings splitter paragraph pieces are))
-      (count-pieces splitter settings paragraph utf8)) divided)
+      (subst (λ ps. length ps ≤ most) (sym (pieces-from points (λ line ws. ws ≡ words line) words
+      (λ line ws is. is) settings paragraph pieces are))
+      (count-pieces settings paragraph utf8)) divided)
       (is_whole settings is_later paragraph) laid_out in
       let built = parts_from settings is_later division in
       let same = ap length (parts_from-pieces settings is_later division) in
@@ -301,20 +322,19 @@ module _ (words : List ℕ → List WordText)
 
   -- ---- the lines of a text: at most one more than it has bytes, which are as many as they show
 
-  pub text-size : (splitter : Splitter) (algorithm : Algorithm)
-      (settings : Settings) (text : List ℕ) (groups : List (List LineParts)) → IsUtf8 text
+  pub text-size : (algorithm : Algorithm) (settings : Settings) (text : List ℕ) (groups : List (List LineParts)) → IsUtf8 text
       → AreGroups (AreParagraphParts settings
-      (DividesAt words splitter algorithm settings)) false
+      (DividesFrom words points algorithm settings)) false
       (paragraphs_of settings.line_ending text) groups
       → map covered_by groups ≡ paragraphs_of settings.line_ending text
       → (length (flat groups) ≤ length text + 1) × (length (slices (flat groups)) ≤ length text)
-  text-size splitter algorithm settings text groups utf8 defined tile =
+  text-size algorithm settings text groups utf8 defined tile =
       let ending = settings.line_ending in
       let Counted : Bool → List ℕ → List LineParts → Type 0 =
       λ is_later paragraph parts. length parts ≤ length paragraph + 1 in
       let counted = groups-map IsUtf8 (AreParagraphParts settings
-      (DividesAt words splitter algorithm settings)) Counted
-      (count-lines splitter algorithm settings) false (paragraphs_of ending text) groups
+      (DividesFrom words points algorithm settings)) Counted
+      (count-lines algorithm settings) false (paragraphs_of ending text) groups
       (paragraphs_of-utf8 ending text utf8) defined in
       let size = groups-size false groups
       (subst (λ ps. AreGroups Counted false ps groups) (sym tile) counted) in
@@ -327,14 +347,15 @@ module _ (words : List ℕ → List WordText)
         omega (arith, size.1, joined, whole, same, many, length-map groups covered_by),
       )
 
-  pub text-lines : (splitter : Splitter) (algorithm : Algorithm)
-      (settings : Settings) (text : List ℕ) (lines : List Line) → IsUtf8 text
-      → AreTextLines settings (DividesAt words splitter algorithm settings) text lines
+  pub text-lines : (algorithm : Algorithm) (settings : Settings) (text : List ℕ) (lines : List Line) → IsUtf8 text
+      → AreTextLines settings (DividesFrom words points algorithm settings) text lines
       → length lines ≤ length text + 1
-  text-lines splitter algorithm settings text lines utf8 are =
-      let all = IsWrapped-parts (λ line ws. ws ≡ words line) (λ line ws utf8 is.
-      subst (AreTexts line) (sym is) (AreWordsCut-texts line (words line) utf8 (cut line utf8)))
-      settings algorithm splitter text lines utf8 are in
-      let size = text-size splitter algorithm settings text all.are.groups utf8
-      all.are.defined (all.tile (λ e. cc)) in
-      omega (arith, size.0, ap length all.are.given, length-map (flat all.are.groups) line_from)
+  text-lines algorithm settings text lines utf8 are =
+      let tile = groups-tile settings (DividesFrom words points algorithm settings)
+      (λ is_later paragraph division utf8 (pieces, pieces_are, divided).
+      ap tiled (IsDividedBy-whole sizes_of algorithm _ pieces division divided)
+      ∙ pieces-tile settings (λ line ws. ws ≡ words line) (AreAt points) texts cuts paragraph pieces
+      utf8 pieces_are) false (paragraphs_of settings.line_ending text) are.groups
+      (paragraphs_of-utf8 settings.line_ending text utf8) are.defined in
+      let size = text-size algorithm settings text are.groups utf8 are.defined tile in
+      omega (arith, size.0, ap length are.given, length-map (flat are.groups) line_from)

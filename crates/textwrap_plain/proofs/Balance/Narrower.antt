@@ -4,21 +4,23 @@ use Rattle.textwrap_plain.specs.Balance.{AreFirstFitAt, HasRoom, at_width, whole
 use Rattle.textwrap_plain.specs.Balance.{wider_indent}
 use Rattle.textwrap_base.proofs.Common.{AllFit, IsGreedy, Sizes, closed_width, line_width}
 use Rattle.textwrap_base.proofs.Division.Greedy.{greedy_fewest, line_width-later}
-use Rattle.textwrap_layout.proofs.Common.{DividesAt, IsDivision, front_pieces, pieces_by}
-use Rattle.textwrap_layout.proofs.Paragraph.Pieces.{ArePieces-by}
+use Rattle.textwrap_layout.proofs.Common.{IsDivision, broken_pieces_of, front_pieces}
+use Rattle.textwrap_plain.proofs.Split.{pieces-from}
+use Rattle.textwrap_plain.proofs.Unique.{division_one-from}
+use Rattle.textwrap_plain.specs.Options.{DividesFrom, split_by_points}
 use Rattle.textwrap_layout.specs.Paragraph.{IsLaidOut}
 use Rattle.textwrap_lines.proofs.Common.{All, All-cons, All-head, All-nil, All-tail, All-weaker}
 use Rattle.textwrap_lines.proofs.Common.{AreGroups, AreParagraphParts, Bool, ByFirstFit, Line}
-use Rattle.textwrap_lines.proofs.Common.{LineParts, List, Settings, Splitter, WordText, []}
+use Rattle.textwrap_lines.proofs.Common.{LineParts, List, Settings, WordText, []}
 use Rattle.textwrap_lines.proofs.Common.{all-left, all-right, and_parts, ap, arith, broken_words}
 use Rattle.textwrap_lines.proofs.Common.{cases_Bool, cond, false, first_width, flat, flat_map}
 use Rattle.textwrap_lines.proofs.Common.{indent_of, inl, inr, is_whole, laid_out-cases, later_width}
 use Rattle.textwrap_lines.proofs.Common.{le-ltb, length, length-append, length-map, line_from}
 use Rattle.textwrap_lines.proofs.Common.{lt-ltb, ltb-true, nat_lt, paragraphs_of, parts_from}
-use Rattle.textwrap_lines.proofs.Common.{refl, sizes_of, split_words, subst, suc, true, widths_of}
+use Rattle.textwrap_lines.proofs.Common.{refl, sizes_of, subst, suc, true, widths_of}
 use Rattle.textwrap_lines.proofs.Common.{word_of, zero, ℕ, ◌&&◌, ◌++◌, ◌+◌, ◌-◌, ◌<◌, ◌==◌, ◌||◌}
 use Rattle.textwrap_lines.proofs.Common.{◌∙◌, ◌∷◌, ◌≡◌, ◌≤◌}
-use Rattle.textwrap_lines.proofs.Text.Groups.{division_one-at, text_one}
+use Rattle.textwrap_lines.proofs.Text.Groups.{text_one}
 use Rattle.textwrap_text.proofs.Common.{add-one, and_from, text_width}
 use Rattle.textwrap_lines.proofs.Paragraph.KeepsTo.{parts_from-pieces}
 use Rattle.textwrap_text.proofs.Numbers.{some_later}
@@ -63,9 +65,9 @@ division-some (x ∷ xs) (line ∷ lines) is = omega arith
 
 -- ---- the lines of a paragraph at two widths
 
-module _ (settings : Settings) (words : List ℕ → List WordText) (splitter : Splitter) where
+module _ (settings : Settings) (words : List ℕ → List WordText) (points : List ℕ → List ℕ) where
   abbrev Divides : ℕ → Bool → List ℕ → List (List WordText) → Type 0
-  Divides width = DividesAt words splitter ByFirstFit (at_width settings width)
+  Divides width = DividesFrom words points ByFirstFit (at_width settings width)
 
   abbrev AreParts : ℕ → Bool → List ℕ → List LineParts → Type 0
   AreParts width = AreParagraphParts (at_width settings width) (Divides width)
@@ -74,18 +76,19 @@ module _ (settings : Settings) (words : List ℕ → List WordText) (splitter : 
   abbrev AreNarrow : ℕ → List ℕ → Type 0
   AreNarrow width paragraph =
       All (λ w. w.width ≤ later_width (at_width settings width))
-      (split_words splitter (words paragraph))
+      (split_by_points points (words paragraph))
 
   -- its pieces, where none is broken
   abbrev whole : List ℕ → List WordText
   whole paragraph =
-      let split = split_words splitter (words paragraph) in
+      let split = split_by_points points (words paragraph) in
       cond settings.break_words (front_pieces settings ++ split) split
 
   whole-pieces : (width : ℕ) (paragraph : List ℕ) → AreNarrow width paragraph
-      → pieces_by (at_width settings width) words splitter paragraph ≡ whole paragraph
+      → broken_pieces_of (at_width settings width) (split_by_points points (words paragraph))
+      ≡ whole paragraph
   whole-pieces width paragraph narrow =
-      let split = split_words splitter (words paragraph) in
+      let split = split_by_points points (words paragraph) in
       ap (λ ws. cond settings.break_words (front_pieces settings ++ ws) split)
       (whole-words (later_width (at_width settings width)) split narrow)
 
@@ -96,8 +99,8 @@ module _ (settings : Settings) (words : List ℕ → List WordText) (splitter : 
       → IsGreedy sizes_of (widths_of (at_width settings width) is_later) (whole paragraph) division
   divided-greedy width is_later paragraph division narrow (pieces, are, divided) =
       subst (λ ps. IsGreedy sizes_of (widths_of (at_width settings width) is_later) ps division)
-      (ArePieces-by (λ line ws. ws ≡ words line) words (λ line ws is. is)
-      (at_width settings width) splitter paragraph pieces are
+      (pieces-from points (λ line ws. ws ≡ words line) words (λ line ws is. is)
+      (at_width settings width) paragraph pieces are
       ∙ whole-pieces width paragraph narrow) divided
 
   module _ (v w : ℕ) (order : v ≤ w) where
@@ -120,7 +123,7 @@ module _ (settings : Settings) (words : List ℕ → List WordText) (splitter : 
         let wider : AreNarrow w paragraph = All-weaker
         (λ p. p.width ≤ later_width (at_width settings v))
         (λ p. p.width ≤ later_width (at_width settings w)) (λ p keeps. omega (arith, keeps, order))
-        (split_words splitter (words paragraph)) narrow in
+        (split_by_points points (words paragraph)) narrow in
         greedy_fewest sizes_of (widths_of (at_width settings w) is_later) (whole paragraph) others
         division (divided-greedy w is_later paragraph others wider other) (record {
           division = greedy.admissible.division;
@@ -236,23 +239,23 @@ all-each P f (x ∷ xs) all =
     All-cons (λ x. All P (f x)) x xs (all-left P (f x) (flat_map f xs) all)
     (all-each P f xs (all-right P (f x) (flat_map f xs) all))
 
-module _ (settings : Settings) (words : List ℕ → List WordText) (splitter : Splitter)
+module _ (settings : Settings) (words : List ℕ → List WordText) (points : List ℕ → List ℕ)
     (text : List ℕ) where
-  pub room-wider : (v w : ℕ) → v ≤ w → HasRoom settings words splitter text v
-      → HasRoom settings words splitter text w
+  pub room-wider : (v w : ℕ) → v ≤ w → HasRoom settings words points text v
+      → HasRoom settings words points text w
   room-wider v w order room = record {
     indent = omega (arith, order, room.indent);
     pieces = All-weaker (λ p. wider_indent settings + closed_width sizes_of (p ∷ []) ≤ v)
         (λ p. wider_indent settings + closed_width sizes_of (p ∷ []) ≤ w)
-        (λ p keeps. omega (arith, keeps, order)) (whole_pieces settings words splitter text)
+        (λ p keeps. omega (arith, keeps, order)) (whole_pieces settings words points text)
         room.pieces;
   }
 
-  room-narrow : (v : ℕ) → HasRoom settings words splitter text v
-      → All (AreNarrow settings words splitter v) (paragraphs_of settings.line_ending text)
+  room-narrow : (v : ℕ) → HasRoom settings words points text v
+      → All (AreNarrow settings words points v) (paragraphs_of settings.line_ending text)
   room-narrow v room =
       all-each (λ p. p.width ≤ later_width (at_width settings v))
-      (λ paragraph. split_words splitter (words paragraph))
+      (λ paragraph. split_by_points points (words paragraph))
       (paragraphs_of settings.line_ending text)
       (All-weaker (λ p. wider_indent settings + closed_width sizes_of (p ∷ []) ≤ v)
       (λ p. p.width ≤ later_width (at_width settings v))
@@ -260,16 +263,16 @@ module _ (settings : Settings) (words : List ℕ → List WordText) (splitter : 
         arith,
         keeps,
         le-max_right (text_width settings.initial_indent) (text_width settings.subsequent_indent),
-      )) (whole_pieces settings words splitter text) room.pieces)
+      )) (whole_pieces settings words points text) room.pieces)
 
   pub lines-fewer : (v w : ℕ) (lines others : List Line) → v ≤ w
-      → HasRoom settings words splitter text v
-      → AreFirstFitAt settings words splitter text v lines
-      → AreFirstFitAt settings words splitter text w others → length others ≤ length lines
+      → HasRoom settings words points text v
+      → AreFirstFitAt settings words points text v lines
+      → AreFirstFitAt settings words points text w others → length others ≤ length lines
   lines-fewer v w lines others order room are other =
       omega (
         arith,
-        groups-fewer settings words splitter v w order false
+        groups-fewer settings words points v w order false
             (paragraphs_of settings.line_ending text) are.groups other.groups (room-narrow v room)
             are.defined other.defined,
         ap length are.given,
@@ -280,9 +283,9 @@ module _ (settings : Settings) (words : List ℕ → List WordText) (splitter : 
 
   -- a text has one list of them
   pub lines-same : (width : ℕ) (lines others : List Line)
-      → AreFirstFitAt settings words splitter text width lines
-      → AreFirstFitAt settings words splitter text width others → lines ≡ others
+      → AreFirstFitAt settings words points text width lines
+      → AreFirstFitAt settings words points text width others → lines ≡ others
   lines-same width =
       let here = at_width settings width in
-      text_one here (DividesAt words splitter ByFirstFit here)
-      (division_one-at words here ByFirstFit splitter) text
+      text_one here (DividesFrom words points ByFirstFit here)
+      (division_one-from words points here ByFirstFit) text

@@ -5,7 +5,7 @@ use Rattle.textwrap_text.proofs.Common.{All, All-cons, All-head, All-nil, All-ta
 use Rattle.textwrap_text.proofs.Common.{length, max, refl, [], ◌++◌, ◌+◌, ◌∷◌, ◌≡◌, ◌≤◌, ℕ}
 use Rattle.textwrap_base.proofs.Common.{closed_width}
 use Rattle.textwrap_layout.proofs.Common.{Settings}
-use Rattle.textwrap_words.proofs.Common.{Splitter, WordText, sizes_of}
+use Rattle.textwrap_words.proofs.Common.{WordText, sizes_of}
 use Rattle.textwrap_words.proofs.Word.Words.{HasNoPenalty}
 use Rattle.textwrap_words.specs.Pieces.{stand_from}
 
@@ -48,18 +48,18 @@ widest-within indent width (w ∷ ws) alone all =
           (All-tail (λ w. indent + closed_width sizes_of (w ∷ []) ≤ width) w ws all),
     )
 
-module _ (settings : Settings) (words : List ℕ → List WordText) (splitter : Splitter)
+module _ (settings : Settings) (words : List ℕ → List WordText) (points : List ℕ → List ℕ)
     (text : List ℕ) where
   -- the least width at which all pieces have room
   abbrev pub least_room : ℕ
-  least_room = wider_indent settings + widest_of_words (whole_pieces settings words splitter text)
+  least_room = wider_indent settings + widest_of_words (whole_pieces settings words points text)
 
-  pub room-from : (width : ℕ) → least_room ≤ width → HasRoom settings words splitter text width
+  pub room-from : (width : ℕ) → least_room ≤ width → HasRoom settings words points text width
   room-from width within = record {
     indent = omega (arith, within);
-    pieces = all-within (wider_indent settings) width (whole_pieces settings words splitter text) within;
+    pieces = all-within (wider_indent settings) width (whole_pieces settings words points text) within;
   }
 
-  pub room-least : (width : ℕ) → HasRoom settings words splitter text width → least_room ≤ width
+  pub room-least : (width : ℕ) → HasRoom settings words points text width → least_room ≤ width
   room-least width room = widest-within (wider_indent settings) width
-      (whole_pieces settings words splitter text) room.indent room.pieces
+      (whole_pieces settings words points text) room.indent room.pieces

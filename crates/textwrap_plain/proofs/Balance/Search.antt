@@ -3,7 +3,7 @@ use Rattle.textwrap_plain.proofs.Balance.Narrower.{lines-fewer, lines-same, room
 use Rattle.textwrap_plain.specs.Balance.{AreFirstFitAt, HasRoom, IsBalanced, IsWideEnough}
 use Rattle.textwrap_plain.specs.Balance.{TakesLines}
 use Rattle.textwrap_base.proofs.Cost.Chosen.{whole}
-use Rattle.textwrap_lines.proofs.Common.{Line, List, Settings, Splitter, WordText, ap, arith}
+use Rattle.textwrap_lines.proofs.Common.{Line, List, Settings, WordText, ap, arith}
 use Rattle.textwrap_lines.proofs.Common.{cases_lt, inl, inr, length, refl, subst, suc, zero, ℕ, ◌+◌}
 use Rattle.textwrap_lines.proofs.Common.{◌-◌, ◌<◌, ◌^◌, ◌≡◌, ◌≤◌}
 use Rattle.textwrap_text.proofs.Common.{lines, ◌/◌}
@@ -23,18 +23,18 @@ halved some others fillings more half within below = by (65 - fillings) refl bel
 
 -- ---- the widths between which it is
 
-module _ (settings : Settings) (words : List ℕ → List WordText) (splitter : Splitter)
+module _ (settings : Settings) (words : List ℕ → List WordText) (points : List ℕ → List ℕ)
     (text : List ℕ) where
   -- the upper one is wide enough, and all that are wide enough are at or above the lower one, at
   -- which all pieces have room
   pub record IsBetween (low high : ℕ) : Type 0 where
     pub order : low ≤ high
-    pub room : HasRoom settings words splitter text low
-    pub enough : IsWideEnough settings words splitter text high
-    pub least : (other : ℕ) → IsWideEnough settings words splitter text other → low ≤ other
+    pub room : HasRoom settings words points text low
+    pub enough : IsWideEnough settings words points text high
+    pub least : (other : ℕ) → IsWideEnough settings words points text other → low ≤ other
 
   pub between-end : (low high : ℕ) → IsBetween low high → high ≤ low
-      → IsBalanced settings words splitter text high
+      → IsBalanced settings words points text high
   between-end low high between end = record {
     is = inl between.enough;
     least = λ other enough. omega (arith, between.least other enough, end);
@@ -42,16 +42,16 @@ module _ (settings : Settings) (words : List ℕ → List WordText) (splitter : 
 
 -- ---- a filling at one of them, where the number of lines at the width of the settings is known
 
-module _ (settings : Settings) (words : List ℕ → List WordText) (splitter : Splitter)
-    (text : List ℕ) (most : ℕ) (taken : TakesLines settings words splitter text settings.width most)
+module _ (settings : Settings) (words : List ℕ → List WordText) (points : List ℕ → List ℕ)
+    (text : List ℕ) (most : ℕ) (taken : TakesLines settings words points text settings.width most)
   where
     abbrev IsSo : ℕ → ℕ → Type 0
-    IsSo = IsBetween settings words splitter text
+    IsSo = IsBetween settings words points text
 
     enough-at : (width count : ℕ) → width ≤ settings.width
-        → HasRoom settings words splitter text width
-        → TakesLines settings words splitter text width count → count ≤ most
-        → IsWideEnough settings words splitter text width
+        → HasRoom settings words points text width
+        → TakesLines settings words points text width count → count ≤ most
+        → IsWideEnough settings words points text width
     enough-at width count within room (lines, are, is) fewer =
         let (others, other_are, other_is) = taken in record {
           within = within;
@@ -59,41 +59,41 @@ module _ (settings : Settings) (words : List ℕ → List WordText) (splitter : 
           lines = (lines, others, are, other_are, omega (arith, is, other_is, fewer));
         }
 
-    pub between-start : (low : ℕ) → low ≤ settings.width → HasRoom settings words splitter text low
-        → ((other : ℕ) → HasRoom settings words splitter text other → low ≤ other)
+    pub between-start : (low : ℕ) → low ≤ settings.width → HasRoom settings words points text low
+        → ((other : ℕ) → HasRoom settings words points text other → low ≤ other)
         → IsSo low settings.width
     between-start low within room least = record {
       order = within;
       room = room;
       enough = enough-at settings.width most (omega arith)
-          (room-wider settings words splitter text low settings.width within room) taken (omega arith);
+          (room-wider settings words points text low settings.width within room) taken (omega arith);
       least = λ other enough. least other enough.room;
     }
 
     pub between-narrower : (low high middle count : ℕ) → IsSo low high → low ≤ middle
-        → middle ≤ high → TakesLines settings words splitter text middle count → count ≤ most
+        → middle ≤ high → TakesLines settings words points text middle count → count ≤ most
         → IsSo low middle
     between-narrower low high middle count between from to takes fewer = record {
       order = from;
       room = between.room;
       enough = enough-at middle count (omega (arith, to, between.enough.within))
-          (room-wider settings words splitter text low middle from between.room) takes fewer;
+          (room-wider settings words points text low middle from between.room) takes fewer;
       least = between.least;
     }
 
     -- what is wide enough passes a width that is not, since no narrower one takes fewer lines
-    past : (middle count other : ℕ) → TakesLines settings words splitter text middle count
-        → most < count → IsWideEnough settings words splitter text other → middle < other
+    past : (middle count other : ℕ) → TakesLines settings words points text middle count
+        → most < count → IsWideEnough settings words points text other → middle < other
     past middle count other (lines, are, is) more enough =
         let (narrow, whole, narrow_are, whole_are, fewer) = enough.lines in
         let (others, other_are, other_is) = taken in
-        let same = ap length (lines-same settings words splitter text settings.width whole others
+        let same = ap length (lines-same settings words points text settings.width whole others
         whole_are other_are) in
         elim (cases_lt middle other) [
           | inl later ↦ later
           | inr within ↦ absurd (omega (
             arith,
-            lines-fewer settings words splitter text other middle narrow lines within enough.room
+            lines-fewer settings words points text other middle narrow lines within enough.room
                 narrow_are are,
             same,
             is,
@@ -104,33 +104,33 @@ module _ (settings : Settings) (words : List ℕ → List WordText) (splitter : 
         ]
 
     pub between-wider : (low high middle count : ℕ) → IsSo low high → low ≤ middle
-        → middle < high → TakesLines settings words splitter text middle count → most < count
+        → middle < high → TakesLines settings words points text middle count → most < count
         → IsSo (middle + 1) high
     between-wider low high middle count between from to takes more = record {
       order = omega (arith, to);
-      room = room-wider settings words splitter text low (middle + 1) (omega (arith, from)) between.room;
+      room = room-wider settings words points text low (middle + 1) (omega (arith, from)) between.room;
       enough = between.enough;
       least = λ other enough. omega (arith, past middle count other takes more enough);
     }
 
 -- ---- what balanced lines are
 
-module _ (settings : Settings) (words : List ℕ → List WordText) (splitter : Splitter)
+module _ (settings : Settings) (words : List ℕ → List WordText) (points : List ℕ → List ℕ)
     (text : List ℕ) where
   -- where some piece has no room at the width of the settings, none narrower is wide enough
-  pub balanced-none : (HasRoom settings words splitter text settings.width → ⊥)
-      → IsBalanced settings words splitter text settings.width
+  pub balanced-none : (HasRoom settings words points text settings.width → ⊥)
+      → IsBalanced settings words points text settings.width
   balanced-none none = record {
     is = inr (refl, none);
     least = λ other enough. absurd (none
-        (room-wider settings words splitter text other settings.width enough.within enough.room));
+        (room-wider settings words points text other settings.width enough.within enough.room));
   }
 
   -- they are as many as at the width of the settings
   pub balanced-many : (width : ℕ) (lines others : List Line)
-      → IsBalanced settings words splitter text width
-      → AreFirstFitAt settings words splitter text width lines
-      → AreFirstFitAt settings words splitter text settings.width others
+      → IsBalanced settings words points text width
+      → AreFirstFitAt settings words points text width lines
+      → AreFirstFitAt settings words points text settings.width others
       → length lines ≡ length others
   balanced-many width lines others balanced are other_are = elim balanced.is [
     | inl enough ↦
@@ -138,13 +138,13 @@ module _ (settings : Settings) (words : List ℕ → List WordText) (splitter : 
         omega (
           arith,
           fewer,
-          ap length (lines-same settings words splitter text width lines found are found_are),
+          ap length (lines-same settings words points text width lines found are found_are),
           ap length
-              (lines-same settings words splitter text settings.width others whole other_are whole_are),
-          lines-fewer settings words splitter text width settings.width lines others enough.within
+              (lines-same settings words points text settings.width others whole other_are whole_are),
+          lines-fewer settings words points text width settings.width lines others enough.within
               enough.room are other_are,
         )
     | inr (is, none) ↦
-        ap length (lines-same settings words splitter text settings.width lines others
-        (subst (λ w. AreFirstFitAt settings words splitter text w lines) is are) other_are)
+        ap length (lines-same settings words points text settings.width lines others
+        (subst (λ w. AreFirstFitAt settings words points text w lines) is are) other_are)
   ]

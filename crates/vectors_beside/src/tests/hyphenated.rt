@@ -4,14 +4,19 @@ use super::plain::{assert_found, assert_gives, assert_gives_texts, assert_holds,
 use std::alloc::{AllocError, Allocator, Global};
 use std::borrow::CowStr;
 use std::process::Abort;
+use textwrap::inner::{refill_by, wrap_columns_by};
+use textwrap::wrap_algorithms::Penalties;
 use textwrap::{Options, WordSplitter, WrapAlgorithm, WrapError, fill};
 use textwrap_display::inner::fill_justified_by;
 use textwrap_hyphens::dictionary::Patterns;
 use textwrap_hyphens::laws::more_patterns_raise_levels;
 use textwrap_layout::layout::Layout;
-use textwrap_plain::hyphenated::laws::hyphenated_lines_are_unique;
-use textwrap_plain::hyphenated::{
-    Hyphenated, fill_hyphenated, refill_hyphenated, wrap_columns_hyphenated, wrap_hyphenated,
+use textwrap_lines::inner::{fill_by, wrap_by};
+use textwrap_plain::laws::{
+    hyphenated_lines, hyphenated_lines_are_unique, plain_lines_are_unique, plain_words_at_blanks,
+};
+use textwrap_plain::{
+    BuiltInAlgorithm, BuiltInSplitter, Hyphenated, PlainOptions, PlainSeparator, PlainSplitter,
 };
 use textwrap_vectors::heap::Heap;
 
@@ -109,7 +114,7 @@ const PLAIN_LINKS: &[Row] = &[
         "\u{1b}]8;;https://a-b.de/\u{1b}\\Zeile\nn\u{1b}]8;;\u{1b}\\"),
 ];
 
-/// With these patterns, by `refill_hyphenated`, whatever the indents of the options are.
+/// With these patterns, filled again, whatever the indents of the options are.
 #[rattlefmt::skip]
 const REFILLED: &[Row] = &[
     ("a comment", "// Zeilenumbruch\n// und Silbentrennung\n// in schmalen\n// Spalten\n", 13, ("* ", "  "),
@@ -127,10 +132,10 @@ const REFILLED: &[Row] = &[
 ];
 
 /// How many allocations the narrow column takes up to the last that it cannot do without.
-const ALLOCATIONS: usize = 39;
+const ALLOCATIONS: usize = 35;
 
 /// And the comment.
-const REFILL_ALLOCATIONS: usize = 40;
+const REFILL_ALLOCATIONS: usize = 36;
 
 /// A dictionary of the patterns.
 fn german(alloc: Global) -> Result<Patterns, AllocError> {
@@ -155,26 +160,63 @@ fn hyphenated<A: Allocator + Copy>(
     options: Options<'_>,
     patterns: &Patterns,
 ) -> Result<String<A>, WrapError> {
+    let table = patterns.table();
+    let layout = Layout::of(&options);
+    let parts = Hyphenated {
+        parts: &options,
+        patterns: &table,
+    };
     match call {
         Call::Plain => fill(alloc, text, options),
-        Call::Fill => fill_hyphenated(alloc, text, options, &patterns.table()),
-        Call::Refill => refill_hyphenated(alloc, text, options, &patterns.table()),
+        Call::Fill => fill_by(alloc, text, layout, &parts),
+        Call::Refill => refill_by(alloc, text, layout, &parts),
     }
 }
 
-/// Asserts what a row says.
-fn assert_hyphenated(
-    rt: &(impl Abort + AllocGlobal),
+/// What one of them gives by options without functions.
+fn plainly_hyphenated(
+    alloc: Global,
     call: Call,
-    (rule, text, width, (initial, later), first_fit, least_cost): Row,
+    (_, text, width, (initial_indent, subsequent_indent), _, _): Row,
+    wrap_algorithm: BuiltInAlgorithm,
     patterns: &Patterns,
-) {
-    for (algorithm, wanted) in [
-        (WrapAlgorithm::FirstFit, first_fit),
-        (WrapAlgorithm::new(), least_cost),
+) -> Result<String, WrapError> {
+    let options = PlainOptions {
+        initial_indent,
+        subsequent_indent,
+        word_separator: PlainSeparator::AtBlanks,
+        word_splitter: match call {
+            Call::Plain => PlainSplitter::BuiltIn(BuiltInSplitter::HyphenSplitter),
+            _ => PlainSplitter::Dictionary(patterns.table()),
+        },
+        wrap_algorithm,
+        ..PlainOptions::new(width)
+    };
+    match call {
+        Call::Refill => textwrap_plain::refill(alloc, text, &options),
+        _ => textwrap_plain::fill(alloc, text, &options),
+    }
+}
+
+/// Asserts what a row says, by options with and without functions.
+fn assert_hyphenated(rt: &(impl Abort + AllocGlobal), call: Call, row: Row, patterns: &Patterns) {
+    let (rule, text, width, (initial, later), first_fit, least_cost) = row;
+    for (algorithm, built_in, wanted) in [
+        (
+            WrapAlgorithm::FirstFit,
+            BuiltInAlgorithm::FirstFit,
+            first_fit,
+        ),
+        (
+            WrapAlgorithm::new(),
+            BuiltInAlgorithm::OptimalFit(Penalties::new()),
+            least_cost,
+        ),
     ] {
         let options = plain_options(width, initial, later, algorithm);
         let given = hyphenated(rt.alloc(), call, text, options, patterns);
+        assert_gives(rt, rule, given, wanted);
+        let given = plainly_hyphenated(rt.alloc(), call, row, built_in, patterns);
         assert_gives(rt, rule, given, wanted);
     }
 }
@@ -258,10 +300,15 @@ fn the_splitter_of_the_options_is_ignored(rt: HostRuntime) -> Result<(), AllocEr
     Ok(())
 }
 
-/// Whether `wrap_hyphenated` gives a line of its own where a hyphen was added, and else borrows it.
-fn borrows_where_it_can<'t>(alloc: Global, patterns: &Patterns) -> Result<bool, WrapError> {
+/// Whether a line is a text of its own where a hyphen was added, and else borrowed.
+fn borrows_where_it_can(alloc: Global, patterns: &Patterns) -> Result<bool, WrapError> {
     let options = plain_options(10, "", "", WrapAlgorithm::FirstFit);
-    let lines = wrap_hyphenated(alloc, "Silbentrennung", options, &patterns.table())?;
+    let table = patterns.table();
+    let parts = Hyphenated {
+        parts: &options,
+        patterns: &table,
+    };
+    let lines = wrap_by(alloc, "Silbentrennung", Layout::of(&options), &parts)?;
     Ok(matches!(lines.as_slice(), [CowStr::Owned(_), CowStr::Borrowed(_)]))
 }
 
@@ -286,7 +333,12 @@ fn columns_are_hyphenated(rt: HostRuntime) -> Result<(), AllocError> {
     let patterns = german(rt.alloc())?;
     let options = plain_options(21, "", "", WrapAlgorithm::FirstFit);
     let table = patterns.table();
-    let given = wrap_columns_hyphenated(rt.alloc(), COLUMN, 2, options, &table, "", "|", "");
+    let parts = Hyphenated {
+        parts: &options,
+        patterns: &table,
+    };
+    let layout = Layout::of(&options);
+    let given = wrap_columns_by(rt.alloc(), COLUMN, 2, layout, &parts, "", "|", "");
     assert_gives_texts(&rt, "two columns", given, ROWS);
     Ok(())
 }
@@ -366,7 +418,12 @@ fn each_allocation_may_be_refused(rt: HostRuntime) -> Result<(), AllocError> {
 
 /// A law does nothing when it is called.
 #[test]
-fn laws_can_be_called() {
+fn laws_can_be_called(rt: HostRuntime) -> Result<(), AllocError> {
+    let patterns = german(rt.alloc())?;
+    hyphenated_lines(&Options::new(10), &patterns.table());
     more_patterns_raise_levels();
     hyphenated_lines_are_unique();
+    plain_lines_are_unique();
+    plain_words_at_blanks();
+    Ok(())
 }

@@ -1,4 +1,5 @@
 //! The bounds of answers: each is enough, and some answers are as long.
+use super::hyphens::{AT_11, AT_15, BAR};
 use super::plain::{
     BARS, BEFORE, BLANK, DEFAULTS, HAMLET, LinesCall, NARROW, NO_GAPS, NOWHERE, TextCall,
     assert_number, assert_told, write_lines, write_text,
@@ -44,6 +45,7 @@ const FILLED: &[(TextwrapOptions<'_>, &[u8], usize, usize)] = &[
     (NARROW, b"ab", 8, 8),
     (NARROW_CRLF, b"ab", 10, 10),
     (NARROW, b"ab\nc", 13, 14),
+    (AT_11, b"the hyphenation", 17, 46),
 ];
 
 #[test]
@@ -73,6 +75,8 @@ const LINES: &[(LinesCall<'_>, &[u8], (usize, usize), (usize, usize))] = &[
     (LinesCall::Wrap(DEFAULTS), b"foo\n\nbar", (3, 9), (0, 0)),
     (LinesCall::Wrap(DEFAULTS), b"\n\n", (3, 3), (0, 0)),
     (LinesCall::Wrap(NARROW), b"ab", (3, 3), (6, 6)),
+    (LinesCall::Wrap(AT_11), b"the hyphenation", (2, 16), (11, 31)),
+    (LinesCall::Columns(2, AT_15, BAR), b"the hyphenation", (2, 8), (30, 159)),
     (LinesCall::Columns(2, TextwrapOptions { width: 2, ..DEFAULTS }, NO_GAPS), b"\n\n\n", (2, 2), (4, 7)),
 ];
 

@@ -1,4 +1,5 @@
 //! Balanced lines and their width, styles over line ends, and widths that fit the cells of a table.
+use super::hyphens::AT_11;
 use super::places::{
     LinesRow, NO_OFFSET, NONE, OffsetsRow, RefusedLines, assert_lines, assert_no_lines,
     assert_offsets,
@@ -40,7 +41,7 @@ const AT_BREAKS: TextwrapOptions<'_> = TextwrapOptions {
 
 /// Options of another version.
 const UNKNOWN: TextwrapOptions<'_> = TextwrapOptions {
-    version: 2,
+    version: 1,
     ..AT_40
 };
 
@@ -138,6 +139,8 @@ const BALANCED_WIDTHS: &[BalancedRow<'_>] = &[
     (TITLE, QUOTED, (DONE, 25)),
     (b"either/or not", AT_BREAKS, (DONE, 7)),
     (b"a wonderful word", AT_6, (DONE, 6)),
+    // By a dictionary: `the hy-` and `phenation`.
+    (b"the hyphenation", AT_11, (DONE, 9)),
     (b"", AT_40, (DONE, 0)),
     (b"\xff", UNKNOWN, (UNKNOWN_OPTIONS, BEFORE)),
     (b"\xff", AT_40, (NOT_UTF8, BEFORE)),

@@ -1,7 +1,7 @@
 //! A text of 1 MiB through each call, and other texts that make its answer large: first with no room, so
 //! that its length is reported, and then with just so much.
 use super::alone::told_width;
-use super::hyphens::{AT_11, WHOLE};
+use super::hyphens::AT_11;
 use super::known::told_known_width;
 use super::places::{NO_PLACE, PiecePlace, is_piece};
 use super::plain::{
@@ -112,7 +112,7 @@ const TEXTS: &[TextRow] = &[
     (TextCall::Justify(45_011), "a ", 10, 45_011),
     (TextCall::ExpandTabs(8), "abc\td\n", LINES, 10 * LINES),
     // Each line becomes two.
-    (TextCall::FillHyphenated(AT_11, WHOLE), "the hyphenation\n", 20_000, 18 * 20_000),
+    (TextCall::Fill(AT_11), "the hyphenation\n", 20_000, 18 * 20_000),
 ];
 
 /// A call, what its text is made of and how often, how many lines there are at most, and how much room
@@ -130,7 +130,7 @@ const LINES_AND_ROWS: &[LinesRow] = &[
     (LinesCall::WrapBalanced(TextwrapOptions { initial_indent: b" ", subsequent_indent: b" ", ..AT_80 }), LINE, LINES,
         LINES + 1, LEN + 1),
     // The first of each two lines has a hyphen and is built.
-    (LinesCall::WrapHyphenated(AT_11, WHOLE), "the hyphenation\n", 20_000, 2 * 20_000 + 1, 11 * 20_000),
+    (LinesCall::Wrap(AT_11), "the hyphenation\n", 20_000, 2 * 20_000 + 1, 11 * 20_000),
     // Two rows of 200 columns of 4, with a bar beside each.
     (LinesCall::Columns(200, TextwrapOptions { width: 1_001, ..DEFAULTS }, BARS), "ab ", 400, 2, 2 * 1_001),
 ];

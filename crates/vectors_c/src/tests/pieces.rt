@@ -1,4 +1,5 @@
 //! Words and pieces, by where they stand, and the offsets where words may be split and lines cut.
+use super::hyphens::AT_11;
 use super::places::{
     NO_OFFSET, NO_PLACE, OffsetsRow, PiecesRow, RefusedPieces, assert_no_pieces, assert_offsets,
     assert_pieces,
@@ -26,6 +27,14 @@ const PIECES: &[PiecesRow] = &[
         (0, 0, 0, 0, 0),
         (0, 6, 0, 0, 4),
         (6, 1, 0, 0, 1),
+        NO_PLACE,
+    ]),
+    // By a dictionary a line that ends with the second or the third shows a hyphen.
+    ((PiecesCall::Pieces(AT_11), b"the hyphenation"), (DONE, 4), &[
+        (0, 3, 1, 0, 3),
+        (4, 2, 0, 1, 2),
+        (6, 4, 0, 1, 4),
+        (10, 5, 0, 0, 5),
         NO_PLACE,
     ]),
     ((PiecesCall::Pieces(AT_4), b""), (DONE, 0), &[NO_PLACE, NO_PLACE, NO_PLACE, NO_PLACE]),

@@ -1,12 +1,10 @@
 //! What the tests share: options, the calls that write alike, and the assertions. A call is made here
 //! alone, in a function without clauses, so that no test has to prove what the call promises.
-use super::hyphens::{
-    Hyphens, write_columns, write_filled, write_points, write_refilled, write_wrapped,
-};
 use super::known::{write_known_lines, write_known_text};
 use std::alloc::Global;
 use std::process::Abort;
 use textwrap_calls::columns::{TextwrapGaps, textwrap_rows_of_lines, textwrap_wrap_columns};
+use textwrap_calls::dictionary::TextwrapDictionary;
 use textwrap_calls::display::{
     textwrap_align, textwrap_expand_tabs, textwrap_fill_justified, textwrap_justify,
     textwrap_shorten, textwrap_shorten_by,
@@ -32,6 +30,7 @@ use textwrap_more_calls::fitting::textwrap_fitting_widths;
 use textwrap_more_calls::fragments::{
     TextwrapFragment, TextwrapPenalties, textwrap_wrap_first_fit, textwrap_wrap_optimal_fit,
 };
+use textwrap_more_calls::hyphens::points::textwrap_hyphen_points;
 use textwrap_more_calls::justified_steps::textwrap_fill_justified_at;
 use textwrap_more_calls::pieces::{
     TextwrapPiece, textwrap_break_apart, textwrap_find_words_at, textwrap_pieces,
@@ -60,7 +59,19 @@ pub(super) const DEFAULTS: TextwrapOptions<'_> = TextwrapOptions {
     short_last_line_fraction: 4,
     short_last_line_penalty: 25,
     hyphen_penalty: 25,
+    dictionary: NO_DICTIONARY,
     reserved_sizes: [0; 4],
+};
+
+/// A dictionary without numbers.
+pub(super) const NO_DICTIONARY: TextwrapDictionary<'_> = TextwrapDictionary {
+    numbers: &[],
+    in_parts: 0,
+    is_checked: 0,
+    soft_hyphens: 0,
+    reserved: 0,
+    left: 0,
+    right: 0,
 };
 
 /// First fit at 16 columns with nothing declared, for texts with marks.
@@ -192,8 +203,6 @@ pub(super) enum TextCall<'a> {
     /// The same, and whether words are broken.
     ShortenBy(usize, &'a [u8], u32),
     Strip,
-    FillHyphenated(TextwrapOptions<'a>, Hyphens),
-    RefillHyphenated(TextwrapOptions<'a>, Hyphens),
     FillAt(&'a [TextwrapSteps<'a>], TextwrapOptions<'a>),
     JustifyAt(&'a [TextwrapSteps<'a>], TextwrapOptions<'a>),
 }
@@ -241,12 +250,6 @@ pub(super) fn write_text(
             len,
         ),
         TextCall::Strip => textwrap_strip_ansi_escape_sequences(alloc, text, room, len),
-        TextCall::FillHyphenated(options, hyphens) => {
-            write_filled(alloc, hyphens, text, &options, room, len)
-        }
-        TextCall::RefillHyphenated(options, hyphens) => {
-            write_refilled(alloc, hyphens, text, &options, room, len)
-        }
         TextCall::FillAt(steps, options) => {
             textwrap_fill_at(alloc, text, steps, &options, room, len)
         }
@@ -268,11 +271,8 @@ fn write_unfilled(text: &[u8], room: &mut [u8], len: &mut usize) -> u32 {
 pub(super) enum LinesCall<'a> {
     Wrap(TextwrapOptions<'a>),
     WrapBalanced(TextwrapOptions<'a>),
-    WrapHyphenated(TextwrapOptions<'a>, Hyphens),
     /// How many columns, and what stands around them.
     Columns(usize, TextwrapOptions<'a>, TextwrapGaps<'a>),
-    /// The same with a dictionary.
-    ColumnsHyphenated(usize, TextwrapOptions<'a>, TextwrapGaps<'a>, Hyphens),
     /// How many lines at most, their width, and what a cut one ends in.
     ShortenLines(&'a [TextwrapText<'a>], usize, usize, &'a [u8]),
     /// The same, and whether words are broken.
@@ -311,14 +311,8 @@ pub(super) fn write_lines(
         LinesCall::WrapBalanced(options) => {
             textwrap_wrap_balanced(alloc, text, &options, lines, count, room, len)
         }
-        LinesCall::WrapHyphenated(options, hyphens) => {
-            write_wrapped(alloc, hyphens, text, &options, lines, count, room, len)
-        }
         LinesCall::Columns(columns, options, gaps) => textwrap_wrap_columns(
             alloc, text, columns, &options, &gaps, lines, count, room, len,
-        ),
-        LinesCall::ColumnsHyphenated(columns, options, gaps, hyphens) => write_columns(
-            alloc, hyphens, text, columns, &options, &gaps, lines, count, room, len,
         ),
         LinesCall::ShortenLines(given, most, width, placeholder) => textwrap_shorten_lines(
             alloc,
@@ -403,7 +397,7 @@ pub(super) fn write_pieces(
 pub(super) enum OffsetsCall<'a> {
     SplitPoints(&'a [u8]),
     UnicodeCuts(&'a [u8]),
-    HyphenPoints(&'a [u8], Hyphens),
+    HyphenPoints(&'a [u8], TextwrapDictionary<'a>),
     /// How many columns, and their width together.
     FittingWidths(&'a [TextwrapText<'a>], usize, usize),
     /// The fragments, and the widths of lines.
@@ -423,8 +417,8 @@ pub(super) fn write_offsets(
     match call {
         OffsetsCall::SplitPoints(word) => textwrap_split_points(alloc, word, offsets, count),
         OffsetsCall::UnicodeCuts(line) => textwrap_unicode_cuts(alloc, line, offsets, count),
-        OffsetsCall::HyphenPoints(word, hyphens) => {
-            write_points(alloc, hyphens, word, offsets, count)
+        OffsetsCall::HyphenPoints(word, dictionary) => {
+            textwrap_hyphen_points(alloc, &dictionary, word, offsets, count)
         }
         OffsetsCall::FittingWidths(cells, columns, total) => textwrap_fitting_widths(
             alloc, cells, columns, total, offsets, count,

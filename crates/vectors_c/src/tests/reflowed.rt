@@ -42,7 +42,7 @@ fn each_option_of_texts_with_marks_reaches_the_library(rt: HostRuntime) {
 /// Options whose numbers mean nothing are found out before a text that is none.
 #[rattlefmt::skip]
 const UNKNOWN: &[TextwrapReflowOptions<'_>] = &[
-    TextwrapReflowOptions { version: 2, ..REFLOWED },
+    TextwrapReflowOptions { version: 1, ..REFLOWED },
     TextwrapReflowOptions { optimal_fit: 2, ..REFLOWED },
     TextwrapReflowOptions { ending: 3, ..REFLOWED },
     TextwrapReflowOptions { markdown: 2, ..REFLOWED },

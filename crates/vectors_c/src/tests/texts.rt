@@ -83,7 +83,7 @@ const ROOM: &[TextRow] = &[
 /// Options whose numbers mean nothing.
 #[rattlefmt::skip]
 const UNKNOWN: &[TextwrapOptions<'_>] = &[
-    TextwrapOptions { version: 2, ..DEFAULTS },
+    TextwrapOptions { version: 1, ..DEFAULTS },
     TextwrapOptions { optimal_fit: 2, ..DEFAULTS },
     TextwrapOptions { even_paragraphs: 2, ..DEFAULTS },
     TextwrapOptions { unicode_breaks: 3, ..DEFAULTS },

@@ -2,8 +2,8 @@ use Rattle.textwrap_calls.proofs.Lengths.Sums.{within-limit}
 use Rattle.textwrap_calls.proofs.{Common.{arith, rules, options_settings}, Lengths.Bounds.lines-bounded}
 use Rattle.textwrap_calls.proofs.bounds.textwrap_wrap_room_bound.Goals as goal
 
-pub returns-then-is_empty-2-clause-enough : goal.returns-then-is_empty-2-clause-enough
-returns-then-is_empty-2-clause-enough c =
+pub returns-then-hyphens-eq0-clause-enough : goal.returns-then-hyphens-eq0-clause-enough
+returns-then-hyphens-eq0-clause-enough c =
     let o = c.args.options.now in
     λ text utf8 len_is lines places are.
     within-limit (lines-bounded o (options_settings o) c.args.text_len text lines

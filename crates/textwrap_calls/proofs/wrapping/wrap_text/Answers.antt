@@ -1,6 +1,6 @@
 use Rattle.textwrap_calls.proofs.wrapping.wrap_text.Goals as goal
-use Rattle.textwrap_calls.proofs.Common.{[], arith, length, refl, rules, options_splitter, ◌<◌, ◌^◌}
-use Rattle.textwrap_calls.proofs.Common.{options_algorithm, ArePlacedLines, separator_of}
+use Rattle.textwrap_calls.proofs.Common.{[], arith, length, refl, rules, ◌<◌, ◌^◌}
+use Rattle.textwrap_calls.proofs.Common.{ArePlacedLines}
 use Rattle.textwrap_calls.proofs.Common.{options_settings}
 use Rattle.textwrap_calls.proofs.RoomLemmas.{WritesLines-reported, WritesReported-counts}
 use Rattle.textwrap_calls.proofs.{Lengths.Bounds.lines-bounded, ReadOptions.as-read}
@@ -13,8 +13,7 @@ returns-in-Ok-place_into-clause-wrapped c =
     let (lines, places, are, writes) = c.in-Ok-place_into.ensures.lines in
     let here = as-read given c.in-Ok.options c.in-Ok.ensures.read
     (λ s Divides. ArePlacedLines s (Divides s) text lines places) are in
-    let shown = placed-shown (options_settings given) (separator_of given) (options_splitter given)
-    (options_algorithm given) text lines places c.utf8.text here in
+    let shown = placed-shown given text lines places c.utf8.text here in
     let few = (lines-bounded given (options_settings given) (length text) text lines c.utf8.text refl
     here.are).count in
     let same = ShowLines-length _ _ lines places (shown []) in

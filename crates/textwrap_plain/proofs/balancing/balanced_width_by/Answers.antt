@@ -7,7 +7,7 @@ use Rattle.textwrap_plain.specs.Balance.{wider_indent}
 use Rattle.textwrap_layout.proofs.Common.{layout_view}
 use Rattle.textwrap_layout.specs.declared.layout.Layout.{Layout}
 use Rattle.textwrap_text.proofs.Common.{ap, arith, max, text_width, ◌≡◌, ◌∙◌, ℕ}
-use Rattle.textwrap_words.proofs.Common.{as_splitter}
+use Rattle.textwrap_plain.specs.Options.{points_by}
 
 -- the wider of the indents' columns
 indent-is : (layout : Layout) (initial later wider : ℕ)
@@ -24,7 +24,7 @@ returns-then-indent-width-clause-balanced g c =
     c.wider-indent.ensures in
     let settings = layout_view c.args.layout in
     let words = g.W.PrintableCuts.words c.args.parts.now.words in
-    let splitter = as_splitter c.args.parts.now.parts.splitter in
+    let splitter = points_by c.args.parts.now.splitter in
     balanced-none settings words splitter c.args.text.now (λ room.
     let least = room-least settings words splitter c.args.text.now settings.width room in
     elim c.then-indent-width.branch [
@@ -50,7 +50,7 @@ search-requires-clause-room g c =
     c.wider-indent.result c.display_width.ensures.width c.display_width-2.ensures.width
     c.wider-indent.ensures in
     room-from (layout_view c.args.layout) (g.W.PrintableCuts.words c.args.parts.now.words)
-    (as_splitter c.args.parts.now.parts.splitter) c.args.text.now _
+    (points_by c.args.parts.now.splitter) c.args.text.now _
     (omega (arith, indent, c.in_ok-widest.ensures.widest))
 
 pub search-requires-clause-least : goal.search-requires-clause-least
@@ -61,7 +61,7 @@ search-requires-clause-least g c = λ other room.
     omega (
       arith,
       room-least (layout_view c.args.layout) (g.W.PrintableCuts.words c.args.parts.now.words)
-          (as_splitter c.args.parts.now.parts.splitter) c.args.text.now other room,
+          (points_by c.args.parts.now.splitter) c.args.text.now other room,
       indent,
       c.in_ok-widest.ensures.widest,
     )

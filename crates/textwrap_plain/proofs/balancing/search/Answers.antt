@@ -1,6 +1,6 @@
 use Rattle.textwrap_plain.proofs.balancing.search.Goals as goal
 use Rattle.textwrap_layout.proofs.Common.{layout_view}
-use Rattle.textwrap_words.proofs.Common.{as_splitter}
+use Rattle.textwrap_plain.specs.Options.{points_by}
 use Rattle.textwrap_plain.proofs.Balance.Search.{between-end, between-narrower, between-start, between-wider}
 use Rattle.textwrap_plain.proofs.Balance.Search.{halved}
 use Rattle.textwrap_plain.proofs.balancing.search.Goals.{else-count-most, then-count-most}
@@ -11,7 +11,7 @@ loop-low-init g c =
     record {
       between = between-start (layout_view c.args.layout)
           (g.W.PrintableCuts.words c.args.parts.now.words)
-          (as_splitter c.args.parts.now.parts.splitter) c.args.text.now _
+          (points_by c.args.parts.now.splitter) c.args.text.now _
           c.in_ok-most.ensures.counted c.args.least c.requires.within c.requires.room
           c.requires.least;
       within = omega arith;
@@ -22,7 +22,7 @@ pub loop-low-preserved : goal.loop-low-preserved
 loop-low-preserved g c =
     let settings = layout_view c.args.layout in
     let words = g.W.PrintableCuts.words c.args.parts.now.words in
-    let splitter = as_splitter c.args.parts.now.parts.splitter in
+    let splitter = points_by c.args.parts.now.splitter in
     let text = c.args.text.now in
     let taken = c.in_ok-most.ensures.counted in
     let low = c.loop-low.low in
@@ -55,5 +55,5 @@ loop-low-preserved g c =
 pub returns-clause-balanced : goal.returns-clause-balanced
 returns-clause-balanced g c =
     between-end (layout_view c.args.layout) (g.W.PrintableCuts.words c.args.parts.now.words)
-    (as_splitter c.args.parts.now.parts.splitter) c.args.text.now c.loop-low.low c.loop-low.high
+    (points_by c.args.parts.now.splitter) c.args.text.now c.loop-low.low c.loop-low.high
     c.loop-low.invariant.between (omega arith)

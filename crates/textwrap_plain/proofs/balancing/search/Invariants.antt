@@ -1,6 +1,6 @@
 use Rattle.textwrap_plain.proofs.balancing.search.Given as goal
 use Rattle.textwrap_layout.proofs.Common.{layout_view}
-use Rattle.textwrap_words.proofs.Common.{as_splitter}
+use Rattle.textwrap_plain.specs.Options.{points_by}
 use Rattle.textwrap_plain.proofs.Balance.Search.{IsBetween}
 use Rattle.textwrap_text.proofs.Common.{◌-◌, ◌<◌, ◌≤◌, ◌^◌}
 
@@ -8,7 +8,7 @@ use Rattle.textwrap_text.proofs.Common.{◌-◌, ◌<◌, ◌≤◌, ◌^◌}
 abbrev pub invariant-loop-low : goal.invariant-loop-low
 invariant-loop-low g l = record {
   between : IsBetween (layout_view l.layout) (g.W.PrintableCuts.words l.parts.words)
-      (as_splitter l.parts.parts.splitter) l.text l.low l.high;
+      (points_by l.parts.splitter) l.text l.low l.high;
   within : l.fillings ≤ 65;
   left : l.high - l.low < 2 ^ (65 - l.fillings);
 }

@@ -3,7 +3,7 @@ use Rattle.std.proofs.lemmas.Result.{IfOk-weaker}
 use Rattle.textwrap_plain.proofs.Balance.Search.{balanced-many}
 use Rattle.textwrap_layout.proofs.Common.{layout_view}
 use Rattle.textwrap_text.proofs.Common.{length-map, ◌∙◌, sym}
-use Rattle.textwrap_words.proofs.Common.{as_splitter}
+use Rattle.textwrap_plain.specs.Options.{points_by}
 
 pub returns-clause-lines : goal.returns-clause-lines
 returns-clause-lines g c = IfOk-weaker c.wrap_by.result _ _
@@ -15,5 +15,5 @@ returns-clause-as_many g c =
     IfOk-weaker c.wrap_by.result _ _ (λ lines are others other_are.
     sym (length-map lines.items _)
     ∙ balanced-many (layout_view c.args.layout) (g.W.PrintableCuts.words c.args.parts.now.words)
-    (as_splitter c.args.parts.now.parts.splitter) c.args.text.now c.in_ok-balance.balance.width _
+    (points_by c.args.parts.now.splitter) c.args.text.now c.in_ok-balance.balance.width _
     others c.in_ok-balance.ensures.balanced are other_are) c.wrap_by.ensures.lines

@@ -1,8 +1,8 @@
 use Rattle.textwrap_plain.proofs.placed.paragraph_pieces.Goals as goal
 use Rattle.std.proofs.lemmas.Result.{IfOk-weaker}
 use Rattle.textwrap_layout.proofs.Common.{word_view}
-use Rattle.textwrap_layout.proofs.Paragraph.Pieces.{ArePieces-by}
-use Rattle.textwrap_plain.specs.Options.{plain_settings, plain_splitter, words_by}
+use Rattle.textwrap_plain.proofs.Split.{pieces-from}
+use Rattle.textwrap_plain.specs.Options.{plain_settings, points_by, words_by}
 use Rattle.textwrap_text.proofs.Common.{map, ◌≡◌}
 
 pub returns-clause-pieces : goal.returns-clause-pieces
@@ -10,7 +10,7 @@ returns-clause-pieces c =
     let o = c.args.options.now in
     let words = words_by o.word_separator in
     IfOk-weaker c.find_pieces.result _ _ (λ pieces.
-    ArePieces-by (λ line ws. ws ≡ words line) words (λ line ws is. is) (plain_settings o)
-    (plain_splitter o) c.args.paragraph.now (map word_view pieces.items))
+    pieces-from (points_by o.word_splitter) (λ line ws. ws ≡ words line) words (λ line ws is. is)
+    (plain_settings o) c.args.paragraph.now (map word_view pieces.items))
     (rw (c.of-frame.ensures.layout, c.layout.ensures, c.parts.ensures.words, c.parts.ensures.splitter)
     at c.find_pieces.ensures.pieces)

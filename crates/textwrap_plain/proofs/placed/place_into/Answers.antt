@@ -2,13 +2,15 @@ use Rattle.textwrap_plain.proofs.placed.place_into.Goals as goal
 
 pub returns-then-are_direct-clause-lines : goal.returns-then-are_direct-clause-lines
 returns-then-are_direct-clause-lines c =
-    let (blanks, first) = c.are_direct.ensures.0 c.if-are_direct.true in
+    let direct = c.are_direct.ensures.0 c.if-are_direct.true in
     let parts = c.direct_parts-parts.ensures in
-    rw (blanks, first) (rw (c.layout.ensures, parts.splitter, parts.first_fit) at c.place_into.ensures.lines)
+    rw (direct.separator, direct.algorithm)
+    (rw (c.layout.ensures, parts.splitter, parts.first_fit) at c.place_into.ensures.lines)
 
 pub returns-then-are_direct-clause-done : goal.returns-then-are_direct-clause-done
-returns-then-are_direct-clause-done c = λ blanks first.
-    c.place_into.ensures.done (c.direct_parts-parts.ensures.first_fit, tt)
+returns-then-are_direct-clause-done c = λ direct.
+    let parts = c.direct_parts-parts.ensures in
+    c.place_into.ensures.done (parts.first_fit, tt, rw parts.splitter direct.splitter)
 
 pub returns-clause-lines : goal.returns-clause-lines
 returns-clause-lines c =

@@ -12,10 +12,12 @@ returns-in-Some-clause-filled c =
 
 pub returns-then-are_direct-clause-filled : goal.returns-then-are_direct-clause-filled
 returns-then-are_direct-clause-filled c =
-    let (blanks, first) = c.are_direct.ensures.0 c.if-are_direct.true in
+    let direct = c.are_direct.ensures.0 c.if-are_direct.true in
     let parts = c.direct_parts-parts.ensures in
-    rw (blanks, first) (rw (c.layout.ensures, parts.splitter, parts.first_fit) at c.fill_into.ensures.filled)
+    rw (direct.separator, direct.algorithm)
+    (rw (c.layout.ensures, parts.splitter, parts.first_fit) at c.fill_into.ensures.filled)
 
 pub returns-then-are_direct-clause-done : goal.returns-then-are_direct-clause-done
-returns-then-are_direct-clause-done c = λ blanks first.
-    c.fill_into.ensures.done (c.direct_parts-parts.ensures.first_fit, tt)
+returns-then-are_direct-clause-done c = λ direct.
+    let parts = c.direct_parts-parts.ensures in
+    c.fill_into.ensures.done (parts.first_fit, tt, rw parts.splitter direct.splitter)

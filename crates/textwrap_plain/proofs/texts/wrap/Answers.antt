@@ -1,8 +1,9 @@
 use Rattle.std.{proofs.lemmas.Result.IfOk-weaker, specs.Prelude.IfOk}
 use Rattle.textwrap_layout.proofs.Common.{AreTextLines, line_view}
-use Rattle.textwrap_plain.proofs.Words.{ArePrintedWithin-at, IsWrapped-at, LinesKeepToWidth-at}
+use Rattle.textwrap_plain.proofs.Words.{AddOnlyHyphens-at, ArePrintedWithin-at, IsWrapped-at}
+use Rattle.textwrap_plain.proofs.Words.{LinesKeepButHyphens-at, LinesKeepToWidth-at}
 use Rattle.textwrap_plain.proofs.texts.wrap.Goals.{After-wrap_by}
-use Rattle.textwrap_plain.specs.Options.{DividesPlainly, plain_settings, plain_splitter}
+use Rattle.textwrap_plain.specs.Options.{DividesPlainly, plain_algorithm, plain_settings}
 use Rattle.textwrap_text.proofs.Common.{map}
 use Rattle.textwrap_plain.proofs.texts.wrap.Goals as goal
 
@@ -16,17 +17,32 @@ lines c =
 
 pub returns-clause-lines : goal.returns-clause-lines
 returns-clause-lines c =
+    let o = c.args.options.now in
     IfOk-weaker c.wrap_by.result _ _ (λ found.
-    IsWrapped-at c.args.options.now.word_separator c.utf8.text) (lines c)
+    IsWrapped-at o.word_separator c.utf8.text o.word_splitter) (lines c)
 
 pub returns-clause-even : goal.returns-clause-even
-returns-clause-even c = λ even first breaks.
+returns-clause-even c = λ built_in even first breaks.
     let o = c.args.options.now in
     IfOk-weaker c.wrap_by.result _ _ (λ found.
-    LinesKeepToWidth-at o.word_separator (plain_splitter o) c.utf8.text first even breaks) (lines c)
+    LinesKeepToWidth-at o.word_separator c.utf8.text first o.word_splitter built_in even breaks)
+    (lines c)
 
 pub returns-clause-printed : goal.returns-clause-printed
-returns-clause-printed c = λ first can.
+returns-clause-printed c = λ built_in first can.
     let o = c.args.options.now in
     IfOk-weaker c.wrap_by.result _ _ (λ found.
-    ArePrintedWithin-at o.word_separator (plain_splitter o) c.utf8.text first can) (lines c)
+    ArePrintedWithin-at o.word_separator c.utf8.text first o.word_splitter built_in can) (lines c)
+
+pub returns-clause-hyphens : goal.returns-clause-hyphens
+returns-clause-hyphens c = λ dictionary.
+    let o = c.args.options.now in
+    IfOk-weaker c.wrap_by.result _ _ (λ found.
+    AddOnlyHyphens-at o.word_separator o.word_splitter (plain_algorithm o) c.utf8.text dictionary) (lines c)
+
+pub returns-clause-keeps : goal.returns-clause-keeps
+returns-clause-keeps c = λ dictionary first breaks.
+    let o = c.args.options.now in
+    IfOk-weaker c.wrap_by.result _ _ (λ found.
+    LinesKeepButHyphens-at o.word_separator c.utf8.text first o.word_splitter dictionary breaks)
+    (lines c)

@@ -1,6 +1,6 @@
 use Rattle.std.proofs.Common.{◌∙◌, ap}
 use Rattle.textwrap_hyphens.specs.Points.{hyphenation_points}
-use Rattle.textwrap_more_calls.specs.Dictionaries.{hyphenation_of}
+use Rattle.textwrap_calls.specs.Dictionary.{hyphenation_of}
 use Rattle.textwrap_more_calls.proofs.hyphens.points.textwrap_hyphen_points.Goals as goal
 
 pub returns-in-Ok-points-clause-points : goal.returns-in-Ok-points-clause-points

@@ -1,0 +1,18 @@
+use Rattle.textwrap_plain.proofs.laws.hyphenated_lines.Goals as goal
+use Rattle.textwrap_plain.proofs.Wrapping.{AddOnlyHyphens-hyphenated, IsWrapped-hyphenated}
+use Rattle.textwrap_plain.proofs.Wrapping.{LinesKeepButHyphens-hyphenated, at-points}
+use Rattle.textwrap_hyphens.specs.Table.{held}
+
+pub returns-clause-wrapped : goal.returns-clause-wrapped
+returns-clause-wrapped g c = IsWrapped-hyphenated c.args.options.now c.args.patterns.now
+
+pub returns-clause-hyphens : goal.returns-clause-hyphens
+returns-clause-hyphens g c = AddOnlyHyphens-hyphenated c.args.options.now c.args.patterns.now
+
+pub returns-clause-keep : goal.returns-clause-keep
+returns-clause-keep g c = λ first breaks text lines utf8 are.
+    LinesKeepButHyphens-hyphenated c.args.options.now c.args.patterns.now text lines utf8 are first
+    breaks
+
+pub returns-clause-built_in : goal.returns-clause-built_in
+returns-clause-built_in g c = at-points c.args.options.now (held c.args.patterns.now)

@@ -1,4 +1,4 @@
-//! Texts in which functions of the caller take part.
+//! Texts in which functions of the caller take part; and those by patterns, which borrow.
 //!
 //! The functions give the words of a paragraph, their points or its lines. What they give is checked
 //! here, and the library makes the lines of it, and the rows of these.
@@ -19,7 +19,11 @@ type Result<T> = core::result::Result<T, OutOfMemory>;
 /// The filled text.
 #[cold]
 pub(crate) fn filled(text: &str, options: Options<'_>) -> Result<String> {
-    let (found, with) = (steps_of(text, &options)?, options.to_sys());
+    let with = options.to_sys();
+    if !options.has_function() {
+        return text_by!(guess::filled(text, 8, &with), textwrap_fill_utf8(text; &with));
+    }
+    let found = steps_of(text, &options)?;
     let steps = mapped(&found, Steps::to_sys)?;
     text_by!(guess::filled(text, 8, &with), textwrap_fill_at(text, steps; &with))
 }
@@ -42,6 +46,10 @@ pub(crate) fn wrapped<'t>(text: &'t str, options: &Options<'_>) -> Result<Vec<Co
 /// The filled text, filled again with the indents that it has.
 #[cold]
 pub(crate) fn refilled(filled_text: &str, options: Options<'_>) -> Result<String> {
+    if !options.has_function() {
+        let with = options.to_sys();
+        return text_by!(guess::refilled(filled_text), textwrap_refill_utf8(filled_text; &with));
+    }
     let (text, found) = unfill(filled_text)?;
     let joined = text.strip_suffix(found.line_ending.as_str());
     let ending = joined.map_or("", |_| options.line_ending.as_str());

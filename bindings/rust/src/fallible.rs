@@ -37,8 +37,8 @@ where
 {
     // A short line takes so little time that it matters how the options get here. This is compiled where
     // it is called, and lends them to nothing; so they are written to memory once, as C has them.
-    match width_or_options.into().built_in() {
-        Ok((with, _lender)) => text_by!(guess::filled(text, 8, &with), textwrap_fill_utf8(text; &with)),
+    match width_or_options.into().plain() {
+        Ok(with) => text_by!(guess::filled(text, 8, &with), textwrap_fill_utf8(text; &with)),
         Err(options) => custom::filled(text, options),
     }
 }
@@ -56,11 +56,9 @@ pub fn refill<'a, Opt>(filled_text: &str, new_width_or_options: Opt) -> Result<S
 where
     Opt: Into<Options<'a>>,
 {
-    // The indents of the text may be shown more often than in it.
-    let guess = filled_text.len() + filled_text.len() / 4;
     // As in `fill`.
-    match new_width_or_options.into().built_in() {
-        Ok((with, _lender)) => text_by!(guess, textwrap_refill_utf8(filled_text; &with)),
+    match new_width_or_options.into().plain() {
+        Ok(with) => text_by!(guess::refilled(filled_text), textwrap_refill_utf8(filled_text; &with)),
         Err(options) => custom::refilled(filled_text, options),
     }
 }

@@ -57,6 +57,12 @@ pub(crate) fn filled(text: &str, one_in: usize, options: &sys::Options) -> usize
     }
 }
 
+/// The bytes of a text that is filled again: its indents may be shown more often than in it.
+#[inline]
+pub(crate) fn refilled(filled_text: &str) -> usize {
+    filled_text.len() + filled_text.len() / 4
+}
+
 /// The lines of a text, and the bytes of those that are texts of their own, for an indent or a hyphen.
 pub(crate) fn wrapped(text: &str, options: &sys::Options) -> (usize, usize) {
     let lines = lines(text, options.width);

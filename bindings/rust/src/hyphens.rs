@@ -305,6 +305,20 @@ impl Patterns {
     }
 }
 
+impl sys::Dictionary {
+    /// No dictionary.
+    pub(crate) const NONE: sys::Dictionary = sys::Dictionary {
+        numbers: [].as_ptr(),
+        numbers_len: 0,
+        in_parts: 0,
+        is_checked: 0,
+        soft_hyphens: 0,
+        reserved: 0,
+        left: 0,
+        right: 0,
+    };
+}
+
 /// The numbers in room of their length, if they leave much of theirs and there is memory for that.
 fn fitted(numbers: Vec<usize>) -> Vec<usize> {
     if numbers.len() > numbers.capacity() / 8 * 7 {

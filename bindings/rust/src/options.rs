@@ -217,25 +217,37 @@ impl<'a> Options<'a> {
     /// Whether a function of the caller takes part: then a text is wrapped paragraph by paragraph.
     #[inline]
     pub(crate) fn has_function(&self) -> bool {
-        matches!(self.wrap_algorithm, WrapAlgorithm::Custom(_))
-            || matches!(self.word_separator, WordSeparator::Custom(_))
-            || !self.word_splitter.is_built_in()
+        self.has_function_beside() || !self.word_splitter.is_built_in()
     }
 
-    /// The same as C has them, with the splitter, whose patterns they borrow; or as they are if a function
-    /// of the caller takes part.
+    /// Whether one finds words, or divides them into lines.
     #[inline]
-    pub(crate) fn built_in(self) -> Result<(sys::Options, WordSplitter), Self> {
-        if self.has_function() {
-            Err(self)
+    fn has_function_beside(&self) -> bool {
+        matches!(self.wrap_algorithm, WrapAlgorithm::Custom(_))
+            || matches!(self.word_separator, WordSeparator::Custom(_))
+    }
+
+    /// The same as C has them, or as they are if a function of the caller takes part, or patterns, which
+    /// have to outlive the call.
+    #[inline]
+    pub(crate) fn plain(self) -> Result<sys::Options, Self> {
+        let is_plain =
+            matches!(self.word_splitter, WordSplitter::NoHyphenation | WordSplitter::HyphenSplitter);
+        if is_plain && !self.has_function_beside() {
+            Ok(self.to_sys_by(sys::Dictionary::NONE))
         } else {
-            Ok((self.to_sys(), self.word_splitter))
+            Err(self)
         }
     }
 
     /// The same as C has them, without the functions of the caller. They lend the indents and the patterns.
     #[inline]
     pub(crate) fn to_sys(&self) -> sys::Options {
+        self.to_sys_by(self.word_splitter.to_sys())
+    }
+
+    #[inline]
+    fn to_sys_by(&self, dictionary: sys::Dictionary) -> sys::Options {
         let (optimal_fit, penalties) = match self.wrap_algorithm {
             WrapAlgorithm::OptimalFit(penalties) => (1, penalties),
             WrapAlgorithm::FirstFit | WrapAlgorithm::Custom(_) => (0, Penalties::new()),
@@ -257,7 +269,7 @@ impl<'a> Options<'a> {
             short_last_line_fraction: penalties.short_last_line_fraction,
             short_last_line_penalty: penalties.short_last_line_penalty,
             hyphen_penalty: penalties.hyphen_penalty,
-            dictionary: self.word_splitter.to_sys(),
+            dictionary,
             reserved_sizes: [0; 4],
         }
     }

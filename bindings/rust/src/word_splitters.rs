@@ -158,16 +158,7 @@ impl WordSplitter {
     pub(crate) fn to_sys(&self) -> sys::Dictionary {
         match self {
             WordSplitter::Patterns(patterns) => patterns.to_sys(),
-            _ => sys::Dictionary {
-                numbers: [].as_ptr(),
-                numbers_len: 0,
-                in_parts: 0,
-                is_checked: 0,
-                soft_hyphens: 0,
-                reserved: 0,
-                left: 0,
-                right: 0,
-            },
+            _ => sys::Dictionary::NONE,
         }
     }
 

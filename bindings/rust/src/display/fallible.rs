@@ -12,7 +12,7 @@
 //! ```
 use super::{Alignment, Column, Gaps, Shortening};
 use crate::room::{lines_by, list_by, mapped, number_by, text_by, texts_of};
-use crate::{custom, guess, sys, Options, WordSplitter, WrapAlgorithm};
+use crate::{custom, guess, Options, WrapAlgorithm};
 use alloc::borrow::Cow;
 use alloc::string::String;
 use alloc::vec::Vec;
@@ -175,7 +175,8 @@ pub fn wrap_balanced<'a, Opt>(
 where
     Opt: Into<Options<'a>>,
 {
-    let (with, _lender) = by_first_fit(width_or_options.into());
+    let options = by_first_fit(width_or_options.into());
+    let with = options.to_sys();
     let (lines, bytes) = guess::wrapped(text, &with);
     lines_by!(lines, bytes, textwrap_wrap_balanced(text; &with))?.cows(text)
 }
@@ -191,19 +192,19 @@ pub fn balanced_width<'a, Opt>(text: &str, width_or_options: Opt) -> Result<usiz
 where
     Opt: Into<Options<'a>>,
 {
-    let (with, _lender) = by_first_fit(width_or_options.into());
+    let options = by_first_fit(width_or_options.into());
+    let with = options.to_sys();
     number_by!(textwrap_balanced_width(text; &with))
 }
 
-/// The options as C has them, with the splitter, whose patterns they borrow. The algorithm is not used.
+/// The options by first fit, as their algorithm is not used.
 ///
 /// # Panics
 /// If a function of the caller, or a dictionary, finds words or splits them.
-fn by_first_fit(options: Options<'_>) -> (sys::Options, WordSplitter) {
+fn by_first_fit(options: Options<'_>) -> Options<'_> {
+    let options = options.wrap_algorithm(WrapAlgorithm::FirstFit);
+    assert!(!options.has_function(), "a text is balanced by the library's own words and points");
     options
-        .wrap_algorithm(WrapAlgorithm::FirstFit)
-        .built_in()
-        .unwrap_or_else(|_| panic!("a text is balanced by the library's own words and points"))
 }
 
 /// [`crate::display::fitting_widths`].

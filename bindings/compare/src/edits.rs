@@ -74,10 +74,10 @@ pub const EDITS: &[Edit] = &[
         new: "&[widths.first, widths.first]",
     },
     Edit {
-        name: "an empty line has a word",
+        name: "the first two words at blanks are one",
         file: "src/word_separators.rs",
-        old: "Box::new(words.filter(|_| !line.is_empty()))",
-        new: "Box::new(words)",
+        old: "cuts.extend(places.iter().skip(1)",
+        new: "cuts.extend(places.iter().skip(2)",
     },
     Edit {
         name: "words with one hyphen are not split",

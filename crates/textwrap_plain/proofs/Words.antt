@@ -6,7 +6,8 @@ use Rattle.textwrap_layout.proofs.Paragraph.Pieces.{AreWordsCut-texts}
 use Rattle.textwrap_lines.proofs.Text.Printed.{ArePrintedWithin-by}
 use Rattle.textwrap_plain.proofs.Wrapping.{AddOnlyHyphens-by, LinesKeepButHyphens-by, hyphens-alone}
 use Rattle.textwrap_plain.specs.CutSides.{points_by-cuts, words_by-cut}
-use Rattle.textwrap_plain.specs.Hyphenated.{AddOnlyHyphens, AddsHyphenAtMost, LinesKeepButHyphens}
+use Rattle.textwrap_plain.specs.Hyphenated.{AddOnlyHyphens, AddsHyphenAtMost, AreTheText}
+use Rattle.textwrap_plain.specs.Hyphenated.{LinesKeepButHyphens}
 use Rattle.textwrap_hyphens.specs.declared.table.PatternTable.{PatternTable}
 use Rattle.textwrap_lines.proofs.Text.Promises.{IsWrapped-by, LinesKeepToWidth-by}
 use Rattle.textwrap_plain.specs.{Options.words_by, declared.options.PlainSeparator.PlainSeparator}
@@ -121,3 +122,19 @@ module _ (separator : PlainSeparator) {settings : Settings} {algorithm : Algorit
           (λ word points. points ≡ points_by splitter word) (IsDividedBy algorithm sizes_of)
           (texts-at separator) (points_by-cuts splitter) (points_by-hyphens splitter is_built_in)
           (lines-greedy first) text lines utf8
+
+-- a dictionary's lines are the text
+pub AreTheText-at : (separator : PlainSeparator) (splitter : PlainSplitter) (algorithm : Algorithm)
+    {settings : Settings} {text : List ℕ} {lines : List Line} → IsUtf8 text
+    → port_splitter splitter ≡ None
+    → AreTextLines settings (By separator splitter algorithm settings) text lines
+    → AreTheText settings text lines
+AreTheText-at separator (BuiltIn splitter) algorithm utf8 none are = cc
+AreTheText-at separator (Dictionary table) algorithm utf8 none are =
+    let wrapped = IsWrapped-at separator utf8 (Dictionary table) are in record {
+      groups = wrapped.are.groups;
+      given = wrapped.are.given;
+      covered = wrapped.tile (λ none. cc);
+      hyphens = hyphens-at separator table algorithm utf8 wrapped.are;
+      blanks = wrapped.loses.blanks;
+    }

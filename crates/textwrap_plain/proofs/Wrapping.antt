@@ -15,9 +15,10 @@ use Rattle.textwrap_lines.proofs.Text.Groups.{groups-all, groups-map}
 use Rattle.textwrap_plain.proofs.Passing.{greedy_passes, parts_from-hyphens}
 use Rattle.textwrap_plain.proofs.Pieces.{hyphenated-hyphens, hyphenated-tight}
 use Rattle.textwrap_hyphens.proofs.SplitPieces.{HasHyphenAtMost}
-use Rattle.textwrap_plain.specs.Hyphenated.{AddOnlyHyphens, AddsHyphenAtMost, KeepButHyphens}
+use Rattle.textwrap_plain.specs.Hyphenated.{AddOnlyHyphens, AddsHyphenAtMost, AreTheText}
+use Rattle.textwrap_plain.specs.Hyphenated.{KeepButHyphens}
 use Rattle.textwrap_plain.specs.Hyphenated.{LinesKeepButHyphens, OnlyHyphensPass}
-use Rattle.textwrap_text.proofs.Common.{IsUtf8, List, None, ap, refl, ℕ, ◌∙◌, ◌≡◌, ◌↔◌}
+use Rattle.textwrap_text.proofs.Common.{IsUtf8, List, None, ap, refl, ℕ, ◌∙◌, ◌≡◌, ◌≢◌, ◌↔◌}
 use Rattle.textwrap_words.proofs.Common.{Algorithm, ByFirstFit, IsDividedBy, MayDivide, MaySeparate}
 use Rattle.textwrap_words.proofs.Common.{algorithm_view, words_of}
 use Rattle.textwrap_words.proofs.Word.Pieces.{AreTexts}
@@ -157,6 +158,19 @@ module _ {E C : Type 0} {e : _} {c : _} (options : Options E C e c) (patterns : 
         AddOnlyHyphens-by (settings_view options) (MaySeparate options.word_separator)
         (MaySeparate-texts options.word_separator) patterns (MayDivide options.wrap_algorithm (λ w. w))
         (MayDivide-begins options.wrap_algorithm (λ w. w)) text lines utf8 are
+
+    pub AreTheText-hyphenated : algorithm_view options.wrap_algorithm ≢ None
+        → AreTheText (settings_view options) text lines
+    AreTheText-hyphenated built_in =
+        let wrapped = IsWrapped-hyphenated in record {
+          groups = wrapped.are.groups;
+          given = wrapped.are.given;
+          covered = wrapped.tile built_in;
+          hyphens = hyphens-alone (settings_view options) (MaySeparate options.word_separator)
+              (MaySeparate-texts options.word_separator) patterns (MayDivide options.wrap_algorithm (λ w. w))
+              (MayDivide-begins options.wrap_algorithm (λ w. w)) text lines utf8 wrapped.are;
+          blanks = wrapped.loses.blanks;
+        }
 
     pub LinesKeepButHyphens-hyphenated : options.wrap_algorithm ≡ FirstFit
         → options.break_words ≡ true → LinesKeepButHyphens (settings_view options)

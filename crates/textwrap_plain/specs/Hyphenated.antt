@@ -12,8 +12,9 @@ use Rattle.textwrap_words.specs.WrapAlgorithms.{Algorithm, IsDividedBy, MayDivid
 use Rattle.textwrap_words.specs.Words.{AreWordsOf, WordText, sizes_of}
 use Rattle.textwrap_words.specs.declared.word_separators.WordSeparator.TheVariants.{AsciiSpace}
 use Rattle.textwrap_layout.specs.Options.{Settings, settings_view}
-use Rattle.textwrap_layout.specs.Paragraph.{IsDividedInto, Line, LineParts, is_whole, widths_of}
-use Rattle.textwrap_layout.specs.Text.{AreGroups, AreTextLines}
+use Rattle.textwrap_layout.specs.Paragraph.{IsDividedInto, Line, LineParts, is_whole, line_from}
+use Rattle.textwrap_layout.specs.Paragraph.{widths_of}
+use Rattle.textwrap_layout.specs.Text.{AreGroups, AreTextLines, LeavesOffBlanks, covered_by}
 use Rattle.textwrap_layout.specs.declared.options.Options.{Options}
 use Rattle.textwrap_hyphens.specs.Hyphenation.{Hyphenation}
 pub use Rattle.textwrap_hyphens.specs.Splitting.{ArePointsBy, is_split_point, split_points}
@@ -54,6 +55,15 @@ pub record AddOnlyHyphens (settings : Settings)
     : Type 0 where
   pub are : AreTextLines settings Divides text lines
   pub hyphens : All AddsHyphenAtMost (flat_map (λ parts. parts) are.groups)
+
+-- the lines are the text: take off their indents and the hyphens behind them, put back the blanks that
+-- were left off, and they are its paragraphs
+pub record AreTheText (settings : Settings) (text : List ℕ) (lines : List Line) : Type 0 where
+  pub groups : List (List LineParts)
+  pub given : lines ≡ map line_from (flat_map (λ parts. parts) groups)
+  pub covered : map covered_by groups ≡ paragraphs_of settings.line_ending text
+  pub hyphens : All AddsHyphenAtMost (flat_map (λ parts. parts) groups)
+  pub blanks : All LeavesOffBlanks (flat_map (λ parts. parts) groups)
 
 -- one piece, which keeps to the width but for its hyphen, or has one character that takes columns
 abbrev pub KeepsButHyphen : ℕ → List WordText → Type 0

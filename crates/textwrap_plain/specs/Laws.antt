@@ -1,5 +1,5 @@
 -- What the laws say.
-use Rattle.std.specs.Prelude.{◌≡◌, ◌↔◌, ℕ, Bool, IsUtf8, List, None, true}
+use Rattle.std.specs.Prelude.{◌≡◌, ◌≢◌, ◌↔◌, ℕ, Bool, IsUtf8, List, None, true}
 use Rattle.textwrap.specs.Filling.{IsFilled}
 use Rattle.textwrap.specs.Laws.{IsUnique}
 use Rattle.textwrap.specs.Options.{Settings, settings_view}
@@ -12,7 +12,7 @@ use Rattle.textwrap_hyphens.specs.Table.{held}
 use Rattle.textwrap_hyphens.specs.declared.table.PatternTable.{PatternTable}
 use Rattle.textwrap_layout.specs.declared.options.Options.{Options}
 use Rattle.textwrap_plain.specs.Hyphenated.{AddOnlyHyphens, DividesAtPoints, DividesHyphenated}
-use Rattle.textwrap_plain.specs.Hyphenated.{DividesHyphenatedUnder, HasPartsBeside}
+use Rattle.textwrap_plain.specs.Hyphenated.{AreTheText, DividesHyphenatedUnder, HasPartsBeside}
 use Rattle.textwrap_plain.specs.Hyphenated.{LinesKeepButHyphens}
 use Rattle.textwrap_plain.specs.Options.{DividesPlainly, plain_algorithm, plain_settings}
 use Rattle.textwrap_plain.specs.declared.options.PlainOptions.{PlainOptions}
@@ -75,6 +75,13 @@ AddHyphensAlone o table =
     (text : List ℕ) (lines : List Line) → IsUtf8 text
     → AreTextLines (settings_view o) (DividesHyphenated o (held table)) text lines
     → AddOnlyHyphens (settings_view o) (DividesHyphenated o (held table)) text lines
+
+-- by a built-in algorithm they are the text, but for hyphens, indents and blanks
+abbrev pub AreTheTextBeside : {E C : Type 0} {e : _} {c : _} → Options E C e c → PatternTable → Type 0
+AreTheTextBeside o table =
+    algorithm_view o.wrap_algorithm ≢ None → (text : List ℕ) (lines : List Line) → IsUtf8 text
+    → AreTextLines (settings_view o) (DividesHyphenated o (held table)) text lines
+    → AreTheText (settings_view o) text lines
 
 -- by first fit, where words are broken, the lines keep to their widths but for hyphens
 abbrev pub KeepToWidthButHyphens : {E C : Type 0} {e : _} {c : _} → Options E C e c → PatternTable

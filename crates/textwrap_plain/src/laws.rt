@@ -1,8 +1,9 @@
 //! Facts about the definitions.
-ghost use Rattle.textwrap_plain.specs.Laws.{AddHyphensAlone, AreAtPoints, AreWrapped};
-ghost use Rattle.textwrap_plain.specs.Laws.{HyphenatedLinesAreUnique, HyphenatedTextIsUnique};
-ghost use Rattle.textwrap_plain.specs.Laws.{KeepToWidthButHyphens, PlainIsAtPoints};
-ghost use Rattle.textwrap_plain.specs.Laws.{PlainLinesAreUnique, PlainTextIsUnique};
+ghost use Rattle.textwrap_plain.specs.Laws.{AddHyphensAlone, AreAtPoints, AreTheTextBeside};
+ghost use Rattle.textwrap_plain.specs.Laws.{AreWrapped, HyphenatedLinesAreUnique};
+ghost use Rattle.textwrap_plain.specs.Laws.{HyphenatedTextIsUnique, KeepToWidthButHyphens};
+ghost use Rattle.textwrap_plain.specs.Laws.{PlainIsAtPoints, PlainLinesAreUnique};
+ghost use Rattle.textwrap_plain.specs.Laws.{PlainTextIsUnique};
 
 use textwrap::Options;
 use textwrap_hyphens::table::PatternTable;
@@ -26,14 +27,16 @@ pub fn plain_words_at_blanks()
     ensures { PlainIsAtPoints }
 {}
 
-/// By [`Hyphenated`](crate::parts::Hyphenated) of any options, also of those with functions of a caller, a
-/// text loses only blanks; behind a line nothing is printed, or a hyphen; and by first fit, where words are
-/// broken, a line passes its width only where it is one piece, by its hyphen or as one character that takes
-/// columns. Where words stand between blanks, and the algorithm is built in, a paragraph is divided as its
-/// words, the dictionary and the algorithm alone say.
+/// By [`Hyphenated`](crate::parts::Hyphenated) of any options, also of those with functions of a caller,
+/// behind a line nothing is printed, or a hyphen, and between lines only blanks are lost; by a built-in
+/// algorithm, indents, hyphens and these blanks apart, the lines are the text. By first fit, where words
+/// are broken, a line passes its width only where it is one piece, by its hyphen or as one character that
+/// takes columns. Where words stand between blanks, and the algorithm is built in, a paragraph is divided
+/// as its words, the dictionary and the algorithm alone say.
 pub fn hyphenated_lines(options: &Options<'_>, patterns: &PatternTable<'_>)
     ensures wrapped { AreWrapped options.now patterns.now }
     ensures hyphens { AddHyphensAlone options.now patterns.now }
+    ensures spelled { AreTheTextBeside options.now patterns.now }
     ensures keep { KeepToWidthButHyphens options.now patterns.now }
     ensures built_in { AreAtPoints options.now patterns.now }
 {}

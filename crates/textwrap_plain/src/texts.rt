@@ -9,7 +9,7 @@ ghost use Rattle.textwrap.specs.Text.{ArePrintedWithin, CanKeepToWidth, IsWrappe
 ghost use Rattle.textwrap.specs.WrapAlgorithms.{ByFirstFit};
 ghost use Rattle.textwrap_plain.specs.Options.{plain_algorithm, DividesPlainly, plain_settings};
 ghost use Rattle.textwrap_plain.specs.Options.{AreDirect, plain_splitter};
-ghost use Rattle.textwrap_plain.specs.Hyphenated.{AddOnlyHyphens, LinesKeepButHyphens};
+ghost use Rattle.textwrap_plain.specs.Hyphenated.{AddOnlyHyphens, AreTheText, LinesKeepButHyphens};
 ghost use Rattle.textwrap_text.specs.LineEnding.{paragraphs_of};
 ghost use Rattle.textwrap_text.specs.Blanks.{without_final_blanks};
 ghost use Rattle.textwrap_text.specs.LentText.{as_len, written_over};
@@ -58,6 +58,9 @@ pub fn wrap<'t>(
     ensures hyphens { plain_splitter options.now ≡ None → IfOk result (λ lines. AddOnlyHyphens
         (plain_settings options.now) (DividesPlainly options.now (plain_settings options.now)) text.now
         (map line_view lines.items)) }
+    // Indents, hyphens and blanks at line ends apart, the lines are the text.
+    ensures spelled { plain_splitter options.now ≡ None → IfOk result (λ lines. AreTheText
+        (plain_settings options.now) text.now (map line_view lines.items)) }
     // And by first fit, where words are broken, a line passes its width only where it is one piece, by
     // its hyphen or as one character that takes columns.
     ensures keeps { plain_splitter options.now ≡ None → plain_algorithm options.now ≡ ByFirstFit

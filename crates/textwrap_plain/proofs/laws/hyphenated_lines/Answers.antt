@@ -1,5 +1,6 @@
 use Rattle.textwrap_plain.proofs.laws.hyphenated_lines.Goals as goal
-use Rattle.textwrap_plain.proofs.Wrapping.{AddOnlyHyphens-hyphenated, IsWrapped-hyphenated}
+use Rattle.textwrap_plain.proofs.Wrapping.{AddOnlyHyphens-hyphenated, AreTheText-hyphenated}
+use Rattle.textwrap_plain.proofs.Wrapping.{IsWrapped-hyphenated}
 use Rattle.textwrap_plain.proofs.Wrapping.{LinesKeepButHyphens-hyphenated, at-points}
 use Rattle.textwrap_hyphens.specs.Table.{held}
 
@@ -8,6 +9,10 @@ returns-clause-wrapped g c = IsWrapped-hyphenated c.args.options.now c.args.patt
 
 pub returns-clause-hyphens : goal.returns-clause-hyphens
 returns-clause-hyphens g c = AddOnlyHyphens-hyphenated c.args.options.now c.args.patterns.now
+
+pub returns-clause-spelled : goal.returns-clause-spelled
+returns-clause-spelled g c = λ built_in text lines utf8 are.
+    AreTheText-hyphenated c.args.options.now c.args.patterns.now text lines utf8 are built_in
 
 pub returns-clause-keep : goal.returns-clause-keep
 returns-clause-keep g c = λ first breaks text lines utf8 are.

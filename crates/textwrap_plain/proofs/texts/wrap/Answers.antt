@@ -1,6 +1,7 @@
 use Rattle.std.{proofs.lemmas.Result.IfOk-weaker, specs.Prelude.IfOk}
 use Rattle.textwrap_layout.proofs.Common.{AreTextLines, line_view}
-use Rattle.textwrap_plain.proofs.Words.{AddOnlyHyphens-at, ArePrintedWithin-at, IsWrapped-at}
+use Rattle.textwrap_plain.proofs.Words.{AddOnlyHyphens-at, ArePrintedWithin-at, AreTheText-at}
+use Rattle.textwrap_plain.proofs.Words.{IsWrapped-at}
 use Rattle.textwrap_plain.proofs.Words.{LinesKeepButHyphens-at, LinesKeepToWidth-at}
 use Rattle.textwrap_plain.proofs.texts.wrap.Goals.{After-wrap_by}
 use Rattle.textwrap_plain.specs.Options.{DividesPlainly, plain_algorithm, plain_settings}
@@ -39,6 +40,12 @@ returns-clause-hyphens c = λ dictionary.
     let o = c.args.options.now in
     IfOk-weaker c.wrap_by.result _ _ (λ found.
     AddOnlyHyphens-at o.word_separator o.word_splitter (plain_algorithm o) c.utf8.text dictionary) (lines c)
+
+pub returns-clause-spelled : goal.returns-clause-spelled
+returns-clause-spelled c = λ dictionary.
+    let o = c.args.options.now in
+    IfOk-weaker c.wrap_by.result _ _ (λ found.
+    AreTheText-at o.word_separator o.word_splitter (plain_algorithm o) c.utf8.text dictionary) (lines c)
 
 pub returns-clause-keeps : goal.returns-clause-keeps
 returns-clause-keeps c = λ dictionary first breaks.

@@ -2,15 +2,15 @@
 use Rattle.textwrap_marked.proofs.LineNames.{◌≡◌, ◌≢◌, ℕ, ◌&&◌, ◌||◌, Bool, true, false, List, [], ◌∷◌}
 use Rattle.textwrap_marked.proofs.LineNames.{◌++◌, All, All-append, All-cons, All-head, All-nil}
 use Rattle.textwrap_marked.proofs.LineNames.{All-tail, inr, ap, append-nil, append_assoc, arith}
-use Rattle.textwrap_marked.proofs.LineNames.{flat_map, length, lt-ltb, map, nat_lt, None, refl, subst}
-use Rattle.textwrap_marked.proofs.LineNames.{sym, ◌∙◌, all-right, flat, ap₂, flat_map-append, as_title}
-use Rattle.textwrap_marked.proofs.LineNames.{entered, fence_at, is_return, line_as_read, LineText}
+use Rattle.textwrap_marked.proofs.LineNames.{length, lt-ltb, map, nat_lt, None, refl, subst}
+use Rattle.textwrap_marked.proofs.LineNames.{sym, ◌∙◌, all-right, flat, as_title}
+use Rattle.textwrap_marked.proofs.LineNames.{entered, fence_at, has_columns, is_return, line_as_read, LineText, ◌<◌}
 use Rattle.textwrap_marked.proofs.LineNames.{passed}
-use Rattle.textwrap_marked.proofs.LineNames.{StateText, without_returns, begins_text, first_word}
+use Rattle.textwrap_marked.proofs.LineNames.{StateText, without_returns, first_word}
 use Rattle.textwrap_marked.proofs.LineNames.{opens_paragraph, has_letter, spaced_text, SpacedText}
-use Rattle.textwrap_marked.proofs.Common.{is_beside, stays, from_letter, HasPlainMarkers, IsSameBy}
-use Rattle.textwrap_marked.proofs.Common.{line_sense, words_of_lines, break_white, ending_if, filled_end}
-use Rattle.textwrap_marked.proofs.Common.{printed}
+use Rattle.textwrap_marked.proofs.Common.{AreShown, break_white, ending_if, filled_end, HasNoBarMark}
+use Rattle.textwrap_marked.proofs.Common.{is_beside, is_row, IsSameBy, printed, rows_in, Shows, stays}
+use Rattle.textwrap_marked.proofs.Common.{words_of_lines}
 use Rattle.textwrap_marks.specs.declared.options.ReflowOptions.{ReflowOptions}
 use Rattle.std.proofs.Math.Bool.{and-true}
 use Rattle.textwrap_marked.proofs.AnewLines.{IsTold}
@@ -23,7 +23,6 @@ use Rattle.textwrap_marked.proofs.FenceMarks.{IsSafe, safe-none}
 use Rattle.textwrap_marked.proofs.FilledParts.{divided-is}
 use Rattle.textwrap_marked.proofs.KeptLines.{IsHeadAlike, title-heads}
 use Rattle.textwrap_marked.proofs.JustifiedTexts.{lines-shown}
-use Rattle.textwrap_marked.proofs.LineSenses.{line-sense, line-split}
 use Rattle.textwrap_marked.proofs.LineTests.{letter-no-rule}
 use Rattle.textwrap_marked.proofs.LineWords.{all_shown, AreCutInto, gap, MayPart, spread}
 use Rattle.textwrap_marked.proofs.NewBlock.{block_of, first-of-words, first_of, IsParagraph, renew}
@@ -36,7 +35,9 @@ use Rattle.textwrap_marked.proofs.PrintedText.{break-again, break-same, break-sp
 use Rattle.textwrap_marked.proofs.PrintedText.{filled-last, raws-feedless, text-joined}
 use Rattle.textwrap_marked.proofs.ReadBack.{ending, AreOfBlocksAny, IsReadBack, Walks}
 use Rattle.textwrap_marked.proofs.ReturnsOff.{return_if}
+use Rattle.textwrap_marked.proofs.ShownLines.{line-split, shown-append, shows-first}
 use Rattle.textwrap_marked.proofs.SpacedBack.{AreSpaced, IsWhite}
+use Rattle.textwrap_marked.proofs.TableRows.{first-row, rows-append, rows-skip}
 use Rattle.textwrap_marked.proofs.TextBlocks.{AreTextWords, as-title-none, last_line, read}
 use Rattle.textwrap_marked.proofs.TextBlocks.{read-more, title_of}
 use Rattle.textwrap_marked.specs.Laws.{IsSameParagraph}
@@ -115,36 +116,60 @@ module _ (options : ReflowOptions) (returns : Bool) (told : IsTold options.endin
       text-letter here.starred (first_word p.ws) (first-begins options (entered state (without_returns raw)) raw p.fed p.lead
       p.cs p.qs p.bs p.ws p.has p.apart)
 
-  -- the words of its marks from the first letter on
-  abbrev marks_sense : List (List ℕ)
-  marks_sense = from_letter (map (λ w. w.word) (p.cs ++ (p.qs ++ p.bs)))
+  -- a line of other words behind its prefix shows its marks and these
+  abbrev marks_shown : List (List ℕ)
+  marks_shown = map (λ w. w.word) (p.cs ++ (p.qs ++ p.bs))
 
-  first-sense : (text : List ℕ) (starred : Bool) (ws : List SpacedText) → AreSpaced ws
-      → begins_text starred (first_word ws) ≡ true → without_returns text ≡ here.prefix ++ spaced_text ws
-      → line_sense text ≡ marks_sense ++ map (λ w. w.word) ws
-  first-sense text starred ws =
-      line-sense text p.lead (p.cs ++ (p.qs ++ p.bs)) starred ws p.has.text.white
+  first-shows : (text : List ℕ) (ws : List SpacedText) → AreSpaced ws → 0 < length ws
+      → without_returns text ≡ here.prefix ++ spaced_text ws
+      → Shows options (without_returns text) (marks_shown ++ map (λ w. w.word) ws)
+  first-shows text ws spaced some is =
+      shows-first (without_returns text) p.lead (p.cs ++ (p.qs ++ p.bs)) ws p.has.text.white
       (first-parts options (entered state (without_returns raw)) raw p.fed p.lead p.cs p.qs p.bs p.ws p.has p.apart).0
+      spaced some is options
 
-  lines-sense : (left : List (List ℕ)) → left ≡ p.walked.done ++ p.walked.left → HasPlainMarkers options
-      → flat_map line_sense (raw ∷ left)
-      ≡ marks_sense ++ (words_of_lines (here ∷ lines) ++ flat_map line_sense p.walked.left)
-  lines-sense left whole plain =
-      let at = entered state (without_returns raw) in
+  -- and is no row of a table
+  no-row : HasNoBarMark options → (text : List ℕ) (ws : List SpacedText) → AreSpaced ws → 0 < length ws
+      → without_returns text ≡ here.prefix ++ spaced_text ws → has_columns options.justify ws ≡ false
+      → is_row (without_returns text) ≡ false
+  no-row plain text ws spaced some is level =
+      first-row options plain (entered state (without_returns raw)).in_block (without_returns text) p.lead p.cs p.qs
+      p.bs p.ws ws p.has.have p.has.text.white
+      (first-parts options (entered state (without_returns raw)) raw p.fed p.lead p.cs p.qs p.bs p.ws p.has p.apart).0
+      spaced some is level
+
+  -- the first line of the text is its prefix and its words
+  first-split : without_returns raw ≡ here.prefix ++ spaced_text p.ws
+  first-split =
       let marks = p.cs ++ (p.qs ++ p.bs) in
+      p.has.text.is ∙ ap (λ l. p.lead ++ spaced_text l) (regroup p.cs p.qs p.bs p.ws)
+      ∙ ap (λ l. p.lead ++ l) (text-parts marks p.ws)
+      ∙ sym (append_assoc p.lead (spaced_text marks) (spaced_text p.ws))
+
+  lines-level : (left : List (List ℕ)) → left ≡ p.walked.done ++ p.walked.left → HasNoBarMark options
+      → rows_in (raw ∷ left) ≡ rows_in p.walked.left
+  lines-level left whole plain =
+      let of = first-text options (entered state (without_returns raw)) raw p.fed p.lead p.cs p.qs p.bs p.ws p.has p.apart
+      in
+      rows-skip raw left (no-row plain raw p.ws of.spaced of.some first-split of.columns) ∙ ap rows_in whole
+      ∙ rows-append p.walked.done p.walked.left ∙ ap (λ l. l ++ rows_in p.walked.left) (p.walked.rows plain)
+
+  lines-show : (left : List (List ℕ)) → left ≡ p.walked.done ++ p.walked.left → (after : List (List ℕ))
+      → AreShown options p.walked.left after
+      → AreShown options (raw ∷ left) (marks_shown ++ (words_of_lines (here ∷ lines) ++ after))
+  lines-show left whole after are =
+      let at = entered state (without_returns raw) in
       let of = first-text options at raw p.fed p.lead p.cs p.qs p.bs p.ws p.has p.apart in
       let own = map (λ (w : SpacedText). w.word) p.ws in
-      let rest = flat_map line_sense p.walked.left in
-      let grouped : (marks_sense ++ own) ++ (words_of_lines lines ++ rest)
-      ≡ marks_sense ++ ((own ++ words_of_lines lines) ++ rest) = simp append_assoc in
-      ap₂ (λ a b. a ++ b)
-      (first-sense raw of.starred p.ws of.spaced of.begins
-      (p.has.text.is ∙ ap (λ l. p.lead ++ spaced_text l) (regroup p.cs p.qs p.bs p.ws)
-      ∙ ap (λ l. p.lead ++ l) (text-parts marks p.ws)
-      ∙ sym (append_assoc p.lead (spaced_text marks) (spaced_text p.ws))))
-      (ap (flat_map line_sense) whole ∙ flat_map-append line_sense p.walked.done p.walked.left
-      ∙ ap (λ l. l ++ rest) (p.walked.sense plain))
-      ∙ grouped
+      let later = words_of_lines lines in (
+        marks_shown ++ own,
+        later ++ after,
+        first-shows raw p.ws of.spaced of.some first-split,
+        subst (λ l. AreShown options l (later ++ after)) (sym whole)
+            (shown-append options p.walked.done p.walked.left later after p.walked.shown are),
+        ap (λ l. marks_shown ++ l) (append_assoc own later after)
+            ∙ sym (append_assoc marks_shown own (later ++ after)),
+      )
 
   -- where its first line is another one, no fence is open either
   enters-same : (gaps : ℕ → ℕ) (word : List ℕ) (words : List (List ℕ)) (end : List ℕ) (r : Bool) → All IsWhite end
@@ -306,15 +331,27 @@ module _ (options : ReflowOptions) (returns : Bool) (told : IsTold options.endin
             (inr (in-place (wide (length ls)) word words (text_end end ls) (returns_at returns more ls) raws_new
             (end-white end white ls) first_is
             mine (followed options.justify wide returns end here.hanging later.again ls)));
-        sense = λ plain.
+        shown = marks_shown ++ (words_of_lines (here ∷ lines) ++ later.shown);
+        raws_show = subst (λ l. AreShown options l
+            (marks_shown ++ (words_of_lines (here ∷ lines) ++ later.shown))) (sym whole)
+            (lines-show left walked later.shown later.raws_show);
+        again_show =
             let own = map (λ (w : SpacedText). w.word) new.words in
-            ap (λ l. l ++ flat_map line_sense raws_new)
-            (first-sense new_raw new_is.of.starred new.words new_is.of.spaced new_is.of.begins
-            (line-split options at new_raw fed_new ∙ ap (λ q. q ++ spaced_text new.words) new_is.prefixed))
-            ∙ append_assoc marks_sense own (flat_map line_sense raws_new)
-            ∙ ap (λ l. marks_sense ++ l) (n.sense plain)
-            ∙ ap₂ (λ a b. marks_sense ++ (a ++ b)) (sym parts) (later.sense plain)
-            ∙ sym (ap (flat_map line_sense) whole ∙ lines-sense left walked plain);
+            let (front, raws_are, spelled) = n.shown later.shown later.again_show in (
+              marks_shown ++ own,
+              front,
+              first-shows new_raw new.words new_is.of.spaced new_is.of.some
+                  (line-split options at new_raw fed_new ∙ ap (λ q. q ++ spaced_text new.words) new_is.prefixed),
+              raws_are,
+              ap (λ l. marks_shown ++ (l ++ later.shown)) parts
+                  ∙ ap (λ l. marks_shown ++ l) (sym spelled)
+                  ∙ sym (append_assoc marks_shown own front),
+            );
+        rows = λ plain.
+            rows-skip new_raw raws_new (no-row plain new_raw new.words new_is.of.spaced new_is.of.some
+            (line-split options at new_raw fed_new ∙ ap (λ q. q ++ spaced_text new.words) new_is.prefixed)
+            new_is.of.columns)
+            ∙ n.rows plain ∙ later.rows plain ∙ sym (ap rows_in whole ∙ lines-level left walked plain);
       }
 
   -- by the lines of a division of its pieces

@@ -1,14 +1,14 @@
 -- Lines that stay, read again before others that begin alike.
 use Rattle.textwrap_marked.proofs.LineNames.{◌≡◌, ℕ, ◌-◌, ◌<◌, ◌&&◌, Bool, true, false, List, [], ◌∷◌}
 use Rattle.textwrap_marked.proofs.LineNames.{◌++◌, All, All-cons, All-head, All-tail, ap, append-nil}
-use Rattle.textwrap_marked.proofs.LineNames.{append_assoc, arith, codes, drop, flat_map, inl, inr}
+use Rattle.textwrap_marked.proofs.LineNames.{append_assoc, arith, codes, cond, drop, flat_map, inl, inr}
 use Rattle.textwrap_marked.proofs.LineNames.{join_with_byte, length, lt-ltb, map, nat_lt, None, Option}
-use Rattle.textwrap_marked.proofs.LineNames.{refl, Some, suc, suffix_len, sym, take-append-drop, ⊤, ◌∙◌}
+use Rattle.textwrap_marked.proofs.LineNames.{refl, Some, subst, suc, suffix_len, sym, take-append-drop, ⊤, ◌∙◌}
 use Rattle.textwrap_marked.proofs.LineNames.{ap₂, bytes_eq, as_title, entered, is_return, line_as_read}
 use Rattle.textwrap_marked.proofs.LineNames.{LineText, passed, StateText, without_returns, first_word}
 use Rattle.textwrap_marked.proofs.LineNames.{opens_paragraph}
 use Rattle.textwrap_text.specs.declared.line_ending.LineEnding.{LineEnding}
-use Rattle.textwrap_marked.proofs.Common.{from_letter, line_sense, words_between_white, ending_if}
+use Rattle.textwrap_marked.proofs.Common.{AreShown, ending_if, is_row, rows_in, Shows}
 use Rattle.textwrap_marked.proofs.Common.{kept_line}
 use Rattle.textwrap_marks.specs.declared.options.ReflowOptions.{ReflowOptions}
 use Rattle.std.proofs.Math.Bool.{and-true}
@@ -20,6 +20,7 @@ use Rattle.textwrap_marked.proofs.Feedless.{IsFeedless}
 use Rattle.textwrap_marked.proofs.FenceLeft.{EndsWord, returned}
 use Rattle.textwrap_marked.proofs.FenceMarks.{IsSafe, safe-passed}
 use Rattle.textwrap_marked.proofs.ReturnsOff.{return_if}
+use Rattle.textwrap_marked.proofs.ShownLines.{own_shown, shows-own}
 use Rattle.textwrap_marked.proofs.TextBlocks.{line_at, peel, read, read-more, title_of}
 use Rattle.textwrap_marks.specs.Signs.{is_rule}
 
@@ -103,7 +104,10 @@ module _ (options : ReflowOptions) (returns : Bool) (told : IsTold options.endin
       pub whole : raws ≡ kept ++ left
       pub long : length news ≡ length lines
       pub feedless : All IsFeedless kept → All IsFeedless news
-      pub sense : flat_map line_sense news ≡ flat_map line_sense kept
+      pub shown : List (List ℕ)
+      pub kept_show : AreShown options kept shown
+      pub news_show : AreShown options news shown
+      pub rows : rows_in news ≡ rows_in kept
       pub reads : rest ≡ read options behind left
       pub safe : IsSafe options behind
       pub again : (others : List LineText) (more : List (List ℕ)) → others ≡ read options behind more
@@ -127,7 +131,10 @@ module _ (options : ReflowOptions) (returns : Bool) (told : IsTold options.endin
     whole = refl;
     long = refl;
     feedless = λ free. free;
-    sense = refl;
+    shown = [];
+    kept_show = refl;
+    news_show = refl;
+    rows = refl;
     reads = is;
     safe = safe;
     again = λ others more read heads same. read;
@@ -162,7 +169,17 @@ module _ (options : ReflowOptions) (returns : Bool) (told : IsTold options.endin
         feedless = λ free. All-cons IsFeedless new later.news
             (anew-feedless e returns fed raw (All-head IsFeedless raw later.kept free))
             (later.feedless (All-tail IsFeedless raw later.kept free));
-        sense = ap₂ (λ t l. from_letter (words_between_white t) ++ l) (anew-content e returns fed raw) later.sense;
+        shown = own_shown (without_returns raw) ++ later.shown;
+        kept_show = (_, later.shown, shows-own options (without_returns raw), later.kept_show, refl);
+        news_show = (
+          own_shown (without_returns raw),
+          later.shown,
+          subst (λ l. Shows options l (own_shown (without_returns raw))) (sym (anew-content e returns fed raw))
+              (shows-own options (without_returns raw)),
+          later.news_show,
+          refl,
+        );
+        rows = ap₂ (λ line lines. cond (is_row line) (line ∷ lines) lines) (anew-content e returns fed raw) later.rows;
         reads = later.reads;
         safe = later.safe;
         again = λ others more read_others heads same.

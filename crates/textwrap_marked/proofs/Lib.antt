@@ -25,7 +25,6 @@ pub mod KeptWords
 pub mod LaidLemmas
 pub mod LaterLines
 pub mod LineKinds
-pub mod LineSenses
 pub mod LineTests
 pub mod LineWords
 pub mod NewBlock
@@ -43,10 +42,13 @@ pub mod PrintedText
 pub mod PrintedWidths
 pub mod ReadBack
 pub mod ReadLemmas
+pub mod Refuted
 pub mod ReturnsOff
 pub mod SameParts
+pub mod ShownLines
 pub mod SpacedBack
 pub mod SpreadWords
+pub mod TableRows
 pub mod TextBack
 pub mod TextBlocks
 pub mod TextParts

@@ -2,30 +2,31 @@
 use Rattle.textwrap_marked.proofs.LineNames.{◌≡◌, ℕ, ◌<◌, ◌&&◌, ◌||◌, not, Bool, true, false, List, []}
 use Rattle.textwrap_marked.proofs.LineNames.{◌∷◌, ◌++◌, ◌==◌, All, All-nil, ap, append-nil}
 use Rattle.textwrap_marked.proofs.LineNames.{append_assoc, arith, cases_Bool, codes, ends_with}
-use Rattle.textwrap_marked.proofs.LineNames.{flat_map, length, map, nat_eq, nat_lt, refl, subst, sym}
+use Rattle.textwrap_marked.proofs.LineNames.{length, map, nat_eq, nat_lt, refl, subst, sym}
 use Rattle.textwrap_marked.proofs.LineNames.{◌∙◌, all-left, all-right, bytes_eq, as_title, entered}
 use Rattle.textwrap_marked.proofs.LineNames.{is_ended, LineText, passed, StateText, without_returns}
 use Rattle.textwrap_marked.proofs.LineNames.{begins_text, closes_block, first_word, is_key, last_white}
 use Rattle.textwrap_marked.proofs.LineNames.{last_word, opens_paragraph, contains, has_byte, has_letter}
 use Rattle.textwrap_marked.proofs.LineNames.{spaced_text, SpacedText}
-use Rattle.textwrap_marked.proofs.Common.{HasPlainMarkers, line_sense, words_of_lines}
+use Rattle.textwrap_marked.proofs.Common.{AreShown, HasNoBarMark, rows_in, words_of_lines}
 use Rattle.textwrap_marks.specs.declared.options.ReflowOptions.{ReflowOptions}
 use Rattle.textwrap_text.proofs.Common.{slice_index}
 use Rattle.textwrap_marked.proofs.FreeLines.{AreFree}
 use Rattle.textwrap_marked.proofs.HangingForms.{IsHanging}
 use Rattle.textwrap_marks.proofs.Letterless.{no-comment}
-use Rattle.textwrap_marked.proofs.LineSenses.{later-sense}
 use Rattle.textwrap_marked.proofs.LineTests.{behind-same, goes-true, letter-no-rule, open-behind}
 use Rattle.textwrap_marked.proofs.LineWords.{AreCutInto, MayPart, shown, spread}
 use Rattle.textwrap_marked.proofs.OpenBehind.{behind_text, text-letter}
 use Rattle.textwrap_marked.proofs.ParagraphLines.{IsNew, later-new}
 use Rattle.textwrap_marked.proofs.ReturnsOff.{ends-behind, EndsWell, return_if, shown-end}
 use Rattle.textwrap_marked.proofs.ReturnsOff.{returns-off, white-end}
+use Rattle.textwrap_marked.proofs.ShownLines.{shows-later}
 use Rattle.textwrap_marked.proofs.SpacedBack.{IsWhite}
 use Rattle.textwrap_marked.proofs.SpreadWords.{goes-on, last_text, last-word, MayGoOn, no-mark}
 use Rattle.textwrap_marked.proofs.SpreadWords.{spread-columns, spread-end, spread-first}
 use Rattle.textwrap_marked.proofs.SpreadWords.{spread-last, spread-len, spread-spaced, spread-white}
 use Rattle.textwrap_marked.proofs.SpreadWords.{spread-words}
+use Rattle.textwrap_marked.proofs.TableRows.{later-row, rows-skip}
 use Rattle.textwrap_marked.proofs.TextBlocks.{AreClosing, AreOneBlock, AreTextWords, as-title-none}
 use Rattle.textwrap_marked.proofs.TextBlocks.{last-behind, last_line, line_at, NoClose, NoColumn}
 use Rattle.textwrap_marked.proofs.TextBlocks.{read, read-more, title_of}
@@ -158,8 +159,10 @@ module _ (options : ReflowOptions) (in_block starred : Bool) (wide : ℕ → ℕ
       pub space : last_white (last_line line lines).words ≡ end
       pub fed : (last_line line lines).fed ≡ nat_lt 0 (length left)
       pub spells : words_of_lines (line ∷ lines) ≡ words
-      pub sense : HasPlainMarkers options
-          → map (λ w. w.word) line.words ++ flat_map line_sense raws ≡ words ++ flat_map line_sense left
+      pub shown : (after : List (List ℕ)) → AreShown options left after
+          → (front : List (List ℕ)) × AreShown options raws front
+          × (map (λ w. w.word) line.words ++ front ≡ words ++ after)
+      pub rows : HasNoBarMark options → rows_in raws ≡ rows_in left
 
     last-new : (word : List ℕ) (words : List (List ℕ)) (state : StateText) (line : LineText)
         (prefix : List ℕ) → AreTextWords in_block (word ∷ words)
@@ -202,7 +205,8 @@ module _ (options : ReflowOptions) (in_block starred : Bool) (wide : ℕ → ℕ
           space = ap last_white new.has ∙ spread-white options.justify gaps word words end;
           fed = fed;
           spells = append-nil (map (λ w. w.word) line.words) ∙ spelled;
-          sense = λ plain. ap (λ l. l ++ flat_map line_sense left) spelled;
+          shown = λ after are. (after, are, ap (λ l. l ++ after) spelled);
+          rows = λ plain. refl;
         }
 
     -- another line behind one
@@ -242,13 +246,19 @@ module _ (options : ReflowOptions) (in_block starred : Bool) (wide : ℕ → ℕ
           space = are.space;
           fed = are.fed;
           spells = ap (λ l. l ++ words_of_lines (next ∷ are.lines)) spelled ∙ ap (λ l. own ++ l) are.spells;
-          sense = λ plain.
-              let here = later-sense options plain in_block hanging lead ds rs hang
-              (entered behind (without_returns raw)) raw (nat_lt 0 (length raws)) next_new.of next_new.prefixed in
-              ap (λ l. l ++ (line_sense raw ++ flat_map line_sense raws)) spelled
-              ∙ ap (λ l. own ++ (l ++ flat_map line_sense raws)) here
-              ∙ ap (λ l. own ++ l) (are.sense plain)
-              ∙ sym (append_assoc own later (flat_map line_sense left));
+          shown = λ after left_are.
+              let (front, raws_are, is) = are.shown after left_are in
+              let next_words = map (λ (w : SpacedText). w.word) next.words in
+              let here = shows-later options in_block hanging lead ds rs hang
+              (entered behind (without_returns raw)) raw (nat_lt 0 (length raws)) next_new.of next_new.prefixed in (
+                next_words ++ front,
+                (next_words, front, here, raws_are, refl),
+                ap (λ l. l ++ (next_words ++ front)) spelled ∙ ap (λ l. own ++ l) is
+                    ∙ sym (append_assoc own later after),
+              );
+          rows = λ plain. rows-skip raw raws (later-row options plain in_block hanging lead ds rs hang
+              (entered behind (without_returns raw)) raw (nat_lt 0 (length raws)) next_new.of next_new.prefixed)
+              ∙ are.rows plain;
         }
 
     -- a line that others follow does not end its paragraph

@@ -1,14 +1,14 @@
 -- Texts that were reflowed, reflowed again.
 use Rattle.textwrap_marked.proofs.LineNames.{◌≡◌, ℕ, Bool, true, false, cond, List, [], ◌∷◌, ◌++◌, ◌==◌}
-use Rattle.textwrap_marked.proofs.LineNames.{All-head, ap, arith, drop, flat_map, join_with_byte}
+use Rattle.textwrap_marked.proofs.LineNames.{All-head, ap, arith, drop, join_with_byte}
 use Rattle.textwrap_marked.proofs.LineNames.{length, nat_eq, nat_lt, refl, slice_split, starts_with}
-use Rattle.textwrap_marked.proofs.LineNames.{subst, sym, ◌∙◌, lt-ltb, starts_with-rest, ap₂}
+use Rattle.textwrap_marked.proofs.LineNames.{subst, sym, ◌∙◌, lt-ltb, starts_with-rest}
 use Rattle.textwrap_marked.proofs.LineNames.{length-slice_split, ending_bytes, first_state}
 use Rattle.textwrap_marked.proofs.LineNames.{lines_of_text}
 use Rattle.textwrap_marked.proofs.LineNames.{read_lines, with_titles, inl, inr, ◌⊎◌}
 use Rattle.textwrap_text.specs.declared.line_ending.LineEnding.{LineEnding}
 use Rattle.textwrap_text.specs.declared.line_ending.LineEnding.TheVariants.{CRLF, LF}
-use Rattle.textwrap_marked.proofs.Common.{blocks, AreSameParts, HasPlainMarkers, line_sense}
+use Rattle.textwrap_marked.proofs.Common.{AreShown, blocks, AreSameParts, rows_in}
 use Rattle.textwrap_marked.proofs.Common.{text_parts, byte_order_mark, filled_ending, AreOfBlocks}
 use Rattle.textwrap_marked.proofs.Common.{IsReflowedBehind, IsReflowedFrom}
 use Rattle.textwrap_marks.specs.declared.options.ReflowOptions.{ReflowOptions}
@@ -21,7 +21,7 @@ use Rattle.textwrap_marked.proofs.EndsAlike.{ends-alike, one-line}
 use Rattle.textwrap_marked.proofs.Feedless.{IsFeedless}
 use Rattle.textwrap_marked.proofs.SameParts.{from-other, laid-other, width-same}
 use Rattle.textwrap_marked.proofs.TextBack.{AreReadBack, IsTextBack, text-back, within-back}
-use Rattle.textwrap_marked.specs.Laws.{behind_mark, KeepsEnding, mark_of, text_sense}
+use Rattle.textwrap_marked.specs.Laws.{behind_mark, HaveTheSameRows, KeepsEnding, ShowTheSame}
 use Rattle.textwrap_marked.specs.Reflow.{IsReflowed}
 use Rattle.textwrap_marked.specs.Within.{IsReflowedWithin, IsReflowedWithinBehind, IsReflowedWithinFrom}
 use Rattle.textwrap_marked.specs.declared.within.LineRange.{LineRange}
@@ -157,10 +157,14 @@ module _ (options : ReflowOptions) (From : List ℕ → List ℕ → Type 0)
       → AreSameParts options.ending (text_parts options (behind_mark text)) (text_parts options (behind_mark reflowed))
   parts-same behind = (each (behind_mark text) (behind_mark reflowed) behind.1).same
 
-  sense-same : HasPlainMarkers options → IsBehind → text_sense reflowed ≡ text_sense text
-  sense-same plain behind =
+  rows-same : IsBehind → HaveTheSameRows options text reflowed
+  rows-same behind plain =
+      let r = each (behind_mark text) (behind_mark reflowed) behind.1 in ap rows_in r.split ∙ r.rows plain
+
+  shown-same : IsBehind → ShowTheSame options text reflowed
+  shown-same behind =
       let r = each (behind_mark text) (behind_mark reflowed) behind.1 in
-      ap₂ (λ b words. mark_of b ++ words) behind.0 (ap (flat_map line_sense) r.split ∙ r.sense plain)
+      (behind.0, r.shown, r.text_shows, subst (λ l. AreShown options l r.shown) (sym r.split) r.new_shows)
 
 module _ (options : ReflowOptions) (text reflowed : List ℕ) where
   opened : (b : Bool) → starts_with nat_eq text byte_order_mark ≡ b → IsReflowedBehind b options text reflowed
@@ -178,10 +182,13 @@ module _ (options : ReflowOptions) (text reflowed : List ℕ) where
   parts-kept is =
       parts-same options (IsReflowedFrom options) (text-back options) text reflowed (opened _ refl is)
 
-  pub nothing-lost : HasPlainMarkers options → IsReflowed options text reflowed
-      → text_sense reflowed ≡ text_sense text
-  nothing-lost plain is =
-      sense-same options (IsReflowedFrom options) (text-back options) text reflowed plain (opened _ refl is)
+  pub rows-stay : IsReflowed options text reflowed → HaveTheSameRows options text reflowed
+  rows-stay is =
+      rows-same options (IsReflowedFrom options) (text-back options) text reflowed (opened _ refl is)
+
+  pub nothing-lost : IsReflowed options text reflowed → ShowTheSame options text reflowed
+  nothing-lost is =
+      shown-same options (IsReflowedFrom options) (text-back options) text reflowed (opened _ refl is)
 
 -- the same where only some lines are filled
 module _ (options : ReflowOptions) (range : LineRange) (text reflowed : List ℕ) where
@@ -196,10 +203,13 @@ module _ (options : ReflowOptions) (range : LineRange) (text reflowed : List ℕ
   parts-kept-within is =
       parts-same options _ (within-back options range) text reflowed (opened-within _ refl is)
 
-  pub nothing-lost-within : HasPlainMarkers options → IsReflowedWithin options range text reflowed
-      → text_sense reflowed ≡ text_sense text
-  nothing-lost-within plain is =
-      sense-same options _ (within-back options range) text reflowed plain (opened-within _ refl is)
+  pub rows-stay-within : IsReflowedWithin options range text reflowed → HaveTheSameRows options text reflowed
+  rows-stay-within is =
+      rows-same options _ (within-back options range) text reflowed (opened-within _ refl is)
+
+  pub nothing-lost-within : IsReflowedWithin options range text reflowed → ShowTheSame options text reflowed
+  nothing-lost-within is =
+      shown-same options _ (within-back options range) text reflowed (opened-within _ refl is)
 
 pub texts-stay : (options : ReflowOptions) (text reflowed : List ℕ) → IsReflowed options text reflowed
     → IsReflowed options reflowed reflowed

@@ -2,10 +2,11 @@
 use Rattle.textwrap_marked.proofs.LineNames.{◌≡◌, ℕ, ◌||◌, Bool, true, false, List, [], ◌∷◌, ◌++◌, All}
 use Rattle.textwrap_marked.proofs.LineNames.{All-append, ap, arith, flat_map, join_with_byte, length}
 use Rattle.textwrap_marked.proofs.LineNames.{map, nat_lt, refl, subst, sym, ◌∙◌, all-left, all-right}
-use Rattle.textwrap_marked.proofs.LineNames.{flat, ap₂, flat_map-append, LineText, StateText, ◌+◌}
+use Rattle.textwrap_marked.proofs.LineNames.{flat, ap₂, LineText, StateText, ◌+◌}
 use Rattle.textwrap_marked.proofs.LineNames.{cases_Bool, not}
-use Rattle.textwrap_marked.proofs.Common.{is_beside, stays, AreSameParts, HasPlainMarkers, IsSameBy}
-use Rattle.textwrap_marked.proofs.Common.{line_sense, parts_of_blocks, AreOfBlocks, words_of_lines}
+use Rattle.textwrap_marked.proofs.Common.{is_beside, stays, AreSameParts, AreShown, IsSameBy}
+use Rattle.textwrap_marked.proofs.Common.{parts_of_blocks, AreOfBlocks, HasNoBarMark, rows_in}
+use Rattle.textwrap_marked.proofs.Common.{words_of_lines}
 use Rattle.textwrap_marked.proofs.Common.{kept_line, IsOfBlock}
 use Rattle.textwrap_marks.specs.declared.options.ReflowOptions.{ReflowOptions}
 use Rattle.textwrap_marked.proofs.PrintedText.{ends_as, filled-last}
@@ -19,6 +20,8 @@ use Rattle.textwrap_marked.proofs.Feedless.{IsFeedless}
 use Rattle.textwrap_marked.proofs.FenceMarks.{IsSafe}
 use Rattle.textwrap_marked.proofs.KeptLines.{AreHeads, head-same, keep}
 use Rattle.textwrap_marked.proofs.ReturnsOff.{return_if}
+use Rattle.textwrap_marked.proofs.ShownLines.{shown-append}
+use Rattle.textwrap_marked.proofs.TableRows.{rows-append}
 use Rattle.textwrap_marked.proofs.TextBlocks.{last_line, read}
 use Rattle.textwrap_marked.specs.Reflow.{kept_text}
 
@@ -39,7 +42,10 @@ module _ (options : ReflowOptions) (returns : Bool) (told : IsTold options.endin
     pub heads : AreHeads (flat bs) (flat blocks)
     pub some : nat_lt 0 (length again) ≡ nat_lt 0 (length raws)
     pub begun : AreBegun returns raws again
-    pub sense : HasPlainMarkers options → flat_map line_sense again ≡ flat_map line_sense raws
+    pub shown : List (List ℕ)
+    pub raws_show : AreShown options raws shown
+    pub again_show : AreShown options again shown
+    pub rows : HasNoBarMark options → rows_in again ≡ rows_in raws
 
   -- one block after the other: those that stay, and others or none, are as they were
   abbrev pub AreOfBlocksAny : Bool → List (List LineText) → List ℕ → Type 0
@@ -130,10 +136,14 @@ module _ (options : ReflowOptions) (returns : Bool) (told : IsTold options.endin
         some = k.fed_same later.again later.some ∙ ap (λ l. nat_lt 0 (length l)) (sym k.whole);
         begun = subst (λ l. AreBegun returns l (k.news ++ later.again)) (sym k.whole)
             (k.begun later.again later.some (omega arith));
-        sense = λ plain.
-            flat_map-append line_sense k.news later.again
-            ∙ ap₂ (λ a b. a ++ b) k.sense (later.sense plain)
-            ∙ sym (ap (flat_map line_sense) k.whole ∙ flat_map-append line_sense k.kept k.left);
+        shown = k.shown ++ later.shown;
+        raws_show = subst (λ l. AreShown options l (k.shown ++ later.shown)) (sym k.whole)
+            (shown-append options k.kept k.left k.shown later.shown k.kept_show later.raws_show);
+        again_show =
+            shown-append options k.news later.again k.shown later.shown k.news_show later.again_show;
+        rows = λ plain.
+            rows-append k.news later.again ∙ ap₂ (λ a b. a ++ b) k.rows (later.rows plain)
+            ∙ sym (ap rows_in k.whole ∙ rows-append k.kept k.left);
       }
     where
       new : LineText → LineText

@@ -1,14 +1,15 @@
 -- A new text, read again, has the parts of the text.
 use Rattle.textwrap_marked.proofs.LineNames.{None, Option, Some, ◌≡◌, ℕ, ◌<◌, ◌||◌, not, Bool, true}
 use Rattle.textwrap_marked.proofs.LineNames.{false, List, [], ◌∷◌, ◌++◌, ◌==◌, All, All-nil, ap, arith}
-use Rattle.textwrap_marked.proofs.LineNames.{flat_map, join_with_byte, length, nat_lt, lt-ltb}
+use Rattle.textwrap_marked.proofs.LineNames.{join_with_byte, length, nat_lt, lt-ltb}
 use Rattle.textwrap_marked.proofs.LineNames.{cases_Bool, refl, slice_split, subst, sym, true≢false, ◌∙◌}
 use Rattle.textwrap_marked.proofs.LineNames.{all-left, flat, length-slice_split, first_state}
 use Rattle.textwrap_marked.proofs.LineNames.{lines_of_text}
 use Rattle.textwrap_marked.proofs.LineNames.{LineText, StateText, false_from_ne_true}
 use Rattle.textwrap_text.specs.declared.line_ending.LineEnding.{LineEnding}
-use Rattle.textwrap_marked.proofs.Common.{blocks, is_beside, stays, AreSameParts, HasPlainMarkers}
-use Rattle.textwrap_marked.proofs.Common.{line_sense, parts_of_blocks, text_parts, filled_ending}
+use Rattle.textwrap_marked.proofs.Common.{blocks, is_beside, stays, AreSameParts, AreShown}
+use Rattle.textwrap_marked.proofs.Common.{parts_of_blocks, text_parts, filled_ending, HasNoBarMark}
+use Rattle.textwrap_marked.proofs.Common.{rows_in}
 use Rattle.textwrap_marked.proofs.Common.{AreOfBlocks, IsOfBlock, IsReflowedFrom}
 use Rattle.textwrap_marks.specs.declared.options.ReflowOptions.{ReflowOptions}
 use Rattle.textwrap_marked.proofs.AnewLines.{bytes-by, IsTold, returns_by}
@@ -47,8 +48,11 @@ module _ (options : ReflowOptions) (returns : Bool) (told : IsTold options.endin
     pub split : slice_split (λ c. c == 10) reflowed ≡ raw ∷ raws
     pub begun : AreBegun returns (slice_split (λ c. c == 10) text) (raw ∷ raws)
     pub feedless : All IsFeedless (raw ∷ raws)
-    pub sense : HasPlainMarkers options
-        → flat_map line_sense (raw ∷ raws) ≡ flat_map line_sense (slice_split (λ c. c == 10) text)
+    pub shown : List (List ℕ)
+    pub text_shows : AreShown options (slice_split (λ c. c == 10) text) shown
+    pub new_shows : AreShown options (raw ∷ raws) shown
+    pub rows : HasNoBarMark options
+        → rows_in (raw ∷ raws) ≡ rows_in (slice_split (λ c. c == 10) text)
 
   pub walk-blocks : (bs : List (List LineText)) (beside : Bool) → AreBlocks bs → (state : StateText)
       (raws : List (List ℕ)) (text : List ℕ) → flat bs ≡ read options state raws
@@ -65,7 +69,10 @@ module _ (options : ReflowOptions) (returns : Bool) (told : IsTold options.endin
     heads = tt;
     some = ap (λ l. nat_lt 0 (length l)) (read-none state raws reads);
     begun = none-begun raws;
-    sense = λ plain. ap (flat_map line_sense) (read-none state raws reads);
+    shown = [];
+    raws_show = subst (λ l. AreShown options l []) (read-none state raws reads) refl;
+    again_show = refl;
+    rows = λ plain. ap rows_in (read-none state raws reads);
   }
   walk-blocks ([] ∷ bs) beside are state raws text reads laid safe free = absurd are
   walk-blocks ((first ∷ lines) ∷ bs) beside are state raws text reads (is_kept, stay, front, back, of, later, is) safe
@@ -113,7 +120,10 @@ module _ (options : ReflowOptions) (returns : Bool) (told : IsTold options.endin
         split = split ∙ some;
         begun = subst (AreBegun returns (slice_split (λ c. c == 10) text)) some r.begun;
         feedless = subst (All IsFeedless) some r.feedless;
-        sense = λ plain. ap (flat_map line_sense) (sym some) ∙ r.sense plain;
+        shown = r.shown;
+        text_shows = r.raws_show;
+        new_shows = subst (λ l. AreShown options l r.shown) some r.again_show;
+        rows = λ plain. ap rows_in (sym some) ∙ r.rows plain;
       }
 
   pub parts-back : (text reflowed : List ℕ)

@@ -1,24 +1,26 @@
 -- The lines of a paragraph of a text, one after another.
 use Rattle.textwrap_marked.proofs.LineNames.{◌≡◌, ℕ, ◌<◌, ◌&&◌, ◌||◌, not, Bool, true, false, List, []}
 use Rattle.textwrap_marked.proofs.LineNames.{◌∷◌, ◌++◌, All, All-append, All-map, All-head, All-tail}
-use Rattle.textwrap_marked.proofs.LineNames.{ap, append-nil, arith, codes, cases_Bool, flat_map, length}
+use Rattle.textwrap_marked.proofs.LineNames.{ap, append-nil, arith, codes, cases_Bool, length}
 use Rattle.textwrap_marked.proofs.LineNames.{length-append, map, nat_lt, refl, subst, sym, ⊤, ◌∙◌, ap₂}
 use Rattle.textwrap_marked.proofs.LineNames.{or-false, bytes_eq-Decides, bytes_eq, without_returns}
 use Rattle.textwrap_marked.proofs.LineNames.{as_title, entered, is_ended, line_as_read, LineText, passed}
 use Rattle.textwrap_marked.proofs.LineNames.{read_lines, StateText, with_titles, closes_block}
 use Rattle.textwrap_marked.proofs.LineNames.{closes_early, first_word, words_before_last, is_column_word}
 use Rattle.textwrap_marked.proofs.LineNames.{last_word, opens_paragraph, contains, SpacedText}
-use Rattle.textwrap_marked.proofs.Common.{goes_on, HasPlainMarkers, line_sense, words_of_lines}
+use Rattle.textwrap_marked.proofs.Common.{AreShown, goes_on, HasNoBarMark, is_row, rows_in, Shows}
+use Rattle.textwrap_marked.proofs.Common.{words_of_lines}
 use Rattle.textwrap_marks.specs.declared.options.ReflowOptions.{ReflowOptions}
 use Rattle.textwrap_text.proofs.Common.{length-map}
 use Rattle.textwrap_marked.proofs.HangingForms.{IsHanging}
 use Rattle.textwrap_marked.proofs.LaterLines.{IsOfText}
-use Rattle.textwrap_marked.proofs.LineSenses.{later-sense}
 use Rattle.textwrap_marks.proofs.ListLemmas.{any-none, or-left, or-right}
 use Rattle.textwrap_marked.proofs.OpenBehind.{behind_text, no-columns}
 use Rattle.textwrap_marked.proofs.ParagraphLines.{later-line}
+use Rattle.textwrap_marked.proofs.ShownLines.{shows-later}
 use Rattle.textwrap_marked.proofs.SpacedBack.{spaced-plain}
 use Rattle.textwrap_marked.proofs.SpreadWords.{front-more, last-more, last_text}
+use Rattle.textwrap_marked.proofs.TableRows.{later-row, rows-skip}
 use Rattle.textwrap_marked.proofs.WordsIn.{IsPlain}
 use Rattle.textwrap_marked.specs.Lines.{is_title}
 use Rattle.textwrap_marks.specs.Signs.{ends_early}
@@ -237,7 +239,8 @@ module _ (options : ReflowOptions) (in_block : Bool) (hanging lead : List ℕ) (
     pub final : last_text (words_of_lines (line ∷ lines))
         ≡ last_text (map (λ w. w.word) (last_line line lines).words)
     pub words : AreTextWords in_block (words_of_lines (line ∷ lines))
-    pub sense : HasPlainMarkers options → flat_map line_sense done ≡ words_of_lines lines
+    pub shown : AreShown options done (words_of_lines lines)
+    pub rows : HasNoBarMark options → rows_in done ≡ []
 
   walked-last : (mine others : List (List ℕ)) → 0 < length others
       → last_text (mine ++ others) ≡ last_text others
@@ -256,9 +259,10 @@ module _ (options : ReflowOptions) (in_block : Bool) (hanging lead : List ℕ) (
   walk-more : (state : StateText) (line next : LineText) (lines rest : List LineText)
       (raw : List ℕ) (raws left : List (List ℕ)) → raws ≡ raw ∷ left
       → IsOfText options in_block hanging state line → line.ended ≡ false
-      → (HasPlainMarkers options → line_sense raw ≡ map (λ w. w.word) next.words)
+      → Shows options (without_returns raw) (map (λ w. w.word) next.words)
+      → (HasNoBarMark options → is_row (without_returns raw) ≡ false)
       → IsWalked next lines rest left → IsWalked line (next ∷ lines) rest raws
-  walk-more state line next lines rest raw raws left whole of ended sense walked =
+  walk-more state line next lines rest raw raws left whole of ended shows level walked =
       let own = line-words state line of in
       let none = masked-all in_block line.words
       (ended-none in_block line.words (sym of.ends ∙ ended)) in
@@ -281,7 +285,8 @@ module _ (options : ReflowOptions) (in_block : Bool) (hanging lead : List ℕ) (
           columns = All-append NoColumn mine others own.columns walked.words.columns;
           closing = closing-before in_block mine others none walked.words.closing;
         };
-        sense = λ plain. ap₂ (λ a b. a ++ b) (sense plain) (walked.sense plain);
+        shown = (_, words_of_lines lines, shows, walked.shown, refl);
+        rows = λ plain. rows-skip raw walked.done (level plain) ∙ walked.rows plain;
       }
 
   pub walk : (lines : List LineText) (line : LineText) (state : StateText) (rest : List LineText)
@@ -309,7 +314,8 @@ module _ (options : ReflowOptions) (in_block : Bool) (hanging lead : List ℕ) (
     final = ap last_text (append-nil (map (λ w. w.word) line.words));
     words = subst (AreTextWords in_block) (sym (append-nil (map (λ w. w.word) line.words)))
         (line-words state line of);
-    sense = λ plain. refl;
+    shown = refl;
+    rows = λ plain. refl;
   }
   walk (next ∷ lines) line state rest raws of apart title (goes, one) fed is =
       let (level, ended, prefix, opens) = goes-facts line next goes in
@@ -331,8 +337,9 @@ module _ (options : ReflowOptions) (in_block : Bool) (hanging lead : List ℕ) (
       let title_next : title_of next (lines ++ rest) ≡ false =
       ap (λ l. title_of l (lines ++ rest)) same ∙ plain in
       walk-more state line next lines rest peeled.raw raws peeled.left peeled.whole of ended
-      (λ plain. later-sense options plain in_block hanging lead ds rs hang behind peeled.raw fed_next of_read hung
-      ∙ ap (λ (l : LineText). map (λ w. w.word) l.words) (sym same))
+      (subst (λ (l : LineText). Shows options (without_returns peeled.raw) (map (λ w. w.word) l.words)) (sym same)
+      (shows-later options in_block hanging lead ds rs hang behind peeled.raw fed_next of_read hung))
+      (λ plain. later-row options plain in_block hanging lead ds rs hang behind peeled.raw fed_next of_read hung)
       (walk lines next behind rest peeled.left of_next level title_next one
       (ap (λ (l : LineText). l.fed) same)
       (peeled.later ∙ ap (λ l. read options (passed behind l) peeled.left) (sym same)))

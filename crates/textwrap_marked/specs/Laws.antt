@@ -1,8 +1,8 @@
 -- The statements of the laws, each under a name that a caller can cite.
-use Rattle.std.specs.Prelude.{◌≡◌, ◌≢◌, ℕ, ◌+◌, ◌≤◌, ◌⊎◌, ◌==◌, ◌||◌, Bool, true, false, List, []}
-use Rattle.std.specs.Prelude.{◌∷◌, ◌++◌, All, drop, if◌then◌else◌, IsUtf8, length, map, nat_eq, None}
-use Rattle.std.specs.Prelude.{Option, Some, ⊤}
-use Rattle.std.specs.List.{flat_map, slice_split, starts_with}
+use Rattle.std.specs.Prelude.{◌≡◌, ◌≢◌, ℕ, ◌+◌, ◌<◌, ◌≤◌, ◌⊎◌, ◌==◌, ◌||◌, Bool, true, false, List}
+use Rattle.std.specs.Prelude.{[], ◌∷◌, ◌++◌, All, bytes_eq, codes, drop, if◌then◌else◌, IsUtf8, length}
+use Rattle.std.specs.Prelude.{map, nat_eq, nat_lt, None, Option, Some, ⊤}
+use Rattle.std.specs.List.{filter, flat_map, list_any, slice_split, starts_with}
 use Rattle.textwrap_base.specs.Cost.{division_cost, problem_at}
 use Rattle.textwrap_base.specs.Division.{closed_width, IsDivision}
 use Rattle.textwrap_base.specs.declared.penalties.Penalties.{Penalties}
@@ -21,7 +21,8 @@ use Rattle.textwrap_marked.specs.Reflow.{byte_order_mark, filled_end, filled_end
 use Rattle.textwrap_marked.specs.Reflow.{IsReflowed, kept_line, kept_text, later_room, printed}
 use Rattle.textwrap_marked.specs.Reflow.{shown_lines}
 use Rattle.textwrap_marked.specs.Within.{IsReflowedWithin}
-use Rattle.textwrap_marks.specs.Words.{has_bytes, has_letter, is_white}
+use Rattle.textwrap_marks.specs.Marks.{is_among, is_comment_at, is_quote}
+use Rattle.textwrap_marks.specs.Words.{has_bytes, is_white, spaced_text, SpacedText}
 use Rattle.textwrap_marks.specs.declared.options.Algorithm.{Algorithm}
 use Rattle.textwrap_marks.specs.declared.options.Algorithm.TheVariants.{FirstFit, LeastCost}
 use Rattle.textwrap_marks.specs.declared.options.ReflowOptions.{ReflowOptions}
@@ -129,46 +130,89 @@ WordsAreKept =
 
 -- ---- nothing is lost
 
--- from the first word on that has a letter or digit
-abbrev pub from_letter : List (List ℕ) → List (List ℕ)
-from_letter [] = []
-from_letter (word ∷ words) = if has_letter word then word ∷ words else from_letter words
+-- what may stand before the text of a line: white, then at most one comment mark and quote marks, with
+-- white behind each. In a block comment the mark is `*`
+pub record IsMargin (options : ReflowOptions) (margin : List ℕ) : Type 0 where
+  pub lead : List ℕ
+  pub comments : List SpacedText
+  pub quotes : List SpacedText
+  pub in_block : Bool
+  pub is : margin ≡ lead ++ spaced_text (comments ++ quotes)
+  pub white : All (λ c. is_white c ≡ true) lead
+  pub one : length comments ≤ 1
+  pub comment : All (λ w. is_comment_at options in_block w.word ≡ true) comments
+  pub quote : All (λ w. is_quote w.word ≡ true) quotes
+  pub apart : All (λ w. 0 < length w.white × All (λ c. is_white c ≡ true) w.white) (comments ++ quotes)
 
--- the words of a line, up to its ending, but for those in front without a letter or digit
-abbrev pub line_sense : List ℕ → List (List ℕ)
-line_sense line = from_letter (words_between_white (without_returns line))
+-- a line shows the words behind a margin of it, and where it has no word at all a line feed
+abbrev pub Shows : ReflowOptions → List ℕ → List (List ℕ) → Type 0
+Shows options line shown =
+    (margin : List ℕ) × (rest : List ℕ) × IsMargin options margin × (line ≡ margin ++ rest)
+    × (shown ≡ (if nat_lt 0 (length (words_between_white line)) then words_between_white rest
+    else (10 ∷ []) ∷ []))
+
+-- lines, without the carriage returns at their ends, show this one after the other
+abbrev pub AreShown : ReflowOptions → List (List ℕ) → List (List ℕ) → Type 0
+AreShown options [] shown = shown ≡ []
+AreShown options (line ∷ lines) shown =
+    (front : List (List ℕ)) × (back : List (List ℕ)) × Shows options (without_returns line) front
+    × AreShown options lines back × (shown ≡ front ++ back)
 
 -- what follows a byte order mark, if there is one
 abbrev pub behind_mark : List ℕ → List ℕ
 behind_mark text = if starts_with nat_eq text byte_order_mark then drop 3 text else text
 
--- a byte order mark by itself, if there is one
-abbrev pub mark_of : Bool → List (List ℕ)
-mark_of marked = if marked then byte_order_mark ∷ [] else []
+-- the lines of a text, between line feeds, behind that mark
+abbrev pub lines_behind_mark : List ℕ → List (List ℕ)
+lines_behind_mark text = slice_split (λ c. c == 10) (behind_mark text)
 
--- a byte order mark, and then those words of each line, one line after the other
-abbrev pub text_sense : List ℕ → List (List ℕ)
-text_sense text =
-    mark_of (starts_with nat_eq text byte_order_mark)
-    ++ flat_map line_sense (slice_split (λ c. c == 10) (behind_mark text))
+-- both texts begin with a byte order mark, or neither does, and their lines show the same
+abbrev pub ShowTheSame : ReflowOptions → List ℕ → List ℕ → Type 0
+ShowTheSame options text other =
+    (starts_with nat_eq other byte_order_mark ≡ starts_with nat_eq text byte_order_mark)
+    × (shown : List (List ℕ)) × AreShown options (lines_behind_mark text) shown
+    × AreShown options (lines_behind_mark other) shown
 
--- no mark that the caller declared has a letter or digit
-abbrev pub HasPlainMarkers : ReflowOptions → Type 0
-HasPlainMarkers options = All (λ mark. has_letter mark.now ≡ false) options.markers.now
-
--- where no declared mark has a letter or digit, no word of a text is lost, added or moved, but for words
--- in front of a line that have none either
+-- no word is lost, added, moved, cut or taken past an empty line, but for what stands in margins
 abbrev pub NothingIsLost : Type 0
 NothingIsLost =
     (options : ReflowOptions) (text reflowed : List ℕ)
-    → HasPlainMarkers options → IsReflowed options text reflowed → text_sense reflowed ≡ text_sense text
+    → IsReflowed options text reflowed → ShowTheSame options text reflowed
 
 -- nor where only the paragraphs at some lines are filled
 abbrev pub NothingIsLostWithin : Type 0
 NothingIsLostWithin =
     (options : ReflowOptions) (range : LineRange) (text reflowed : List ℕ)
-    → HasPlainMarkers options → IsReflowedWithin options range text reflowed
-    → text_sense reflowed ≡ text_sense text
+    → IsReflowedWithin options range text reflowed → ShowTheSame options text reflowed
+
+-- ---- rows of tables
+
+-- a word `|` stands in the line
+abbrev pub is_row : List ℕ → Bool
+is_row line = list_any (λ w. bytes_eq w (codes "|")) (words_between_white line)
+
+-- such lines, without the carriage returns at their ends
+abbrev pub rows_in : List (List ℕ) → List (List ℕ)
+rows_in lines = filter is_row (map without_returns lines)
+
+-- the caller declared no mark `|`
+abbrev pub HasNoBarMark : ReflowOptions → Type 0
+HasNoBarMark options = is_among (codes "|") options.markers.now ≡ false
+
+-- both texts have the same of them, byte for byte and in order
+abbrev pub HaveTheSameRows : ReflowOptions → List ℕ → List ℕ → Type 0
+HaveTheSameRows options text other =
+    HasNoBarMark options → rows_in (lines_behind_mark other) ≡ rows_in (lines_behind_mark text)
+
+abbrev pub RowsStay : Type 0
+RowsStay =
+    (options : ReflowOptions) (text reflowed : List ℕ)
+    → IsReflowed options text reflowed → HaveTheSameRows options text reflowed
+
+abbrev pub RowsStayWithin : Type 0
+RowsStayWithin =
+    (options : ReflowOptions) (range : LineRange) (text reflowed : List ℕ)
+    → IsReflowedWithin options range text reflowed → HaveTheSameRows options text reflowed
 
 -- ---- the lines of a paragraph
 

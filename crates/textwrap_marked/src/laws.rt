@@ -8,7 +8,8 @@ ghost use Rattle.textwrap_marked.specs.Laws.{EarlierWidthsMakeNoDifference, Firs
 ghost use Rattle.textwrap_marked.specs.Laws.{JustifiedPartsAreAsWide, LeastCostIsLeast};
 ghost use Rattle.textwrap_marked.specs.Laws.{NothingIsLost, NothingIsLostWithin, PartsAreKept};
 ghost use Rattle.textwrap_marked.specs.Laws.{PartsAreKeptWithin, ReflowedTextsAreUnique};
-ghost use Rattle.textwrap_marked.specs.Laws.{ReflowedTextsStay, WhatStandsApartStays, WordsAreKept};
+ghost use Rattle.textwrap_marked.specs.Laws.{ReflowedTextsStay, RowsStay, RowsStayWithin};
+ghost use Rattle.textwrap_marked.specs.Laws.{WhatStandsApartStays, WordsAreKept};
 
 /// A text becomes one text at the same options: the one that `reflow` returns.
 pub fn reflowed_texts_are_unique()
@@ -47,11 +48,10 @@ pub fn words_are_kept()
     ensures { WordsAreKept }
 {}
 
-/// Nothing is lost, mixed or added, told without a word on prefixes or paragraphs: both texts have
-/// the same words in order, where of each line the words in front that have no letter or digit are
-/// left out. (A byte order mark counts as a word by itself.) So all that may come and go is line
-/// ends, white, and marks at the beginning of lines. It holds if no mark that the caller declared
-/// has a letter or digit, as `dnl` has.
+/// Nothing is lost, mixed or added, told without a word on how a text is read: both texts have the
+/// same words between white, in the same order and between the same empty lines. Only what may stand
+/// in the margin of a line comes and goes: white, one comment mark, which may be one that the caller
+/// declared, and quote marks. So no line has words from both sides of an empty line.
 pub fn nothing_is_lost()
     ensures { NothingIsLost }
 {}
@@ -60,6 +60,14 @@ pub fn nothing_is_lost()
 /// added either, told in the same way.
 pub fn nothing_is_lost_within()
     ensures { NothingIsLostWithin }
+{}
+
+/// Each line with a word `|`, as a row of a table has it, is in the new text byte for byte, but for
+/// its ending, and in order, and no other line there has one; also where only the paragraphs at some
+/// lines are filled. It holds if the caller did not declare `|` as a mark.
+pub fn table_rows_stay()
+    ensures whole { RowsStay }
+    ensures within { RowsStayWithin }
 {}
 
 /// The new text, read again, is read as the text was: block by block and in order the same lines

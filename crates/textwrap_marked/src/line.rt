@@ -1,4 +1,5 @@
 //! What is kept of a line that was read.
+
 /// A line, and what is read of it.
 #[derive(Drop)]
 pub struct MarkedLine<'t> {

@@ -57,7 +57,6 @@ fn lead_len(text: &str) -> usize
 }
 
 /// How many words are a comment mark: at most one.
-
 fn comment_len(text: &str, in_block: bool, options: &ReflowOptions<'_>) -> usize
     ensures len { result ≡ comment_len options.now in_block (spaced_words text.now) }
     ensures within { result ≤ length (spaced_words text.now) }

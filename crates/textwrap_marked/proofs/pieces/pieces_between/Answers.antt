@@ -1,10 +1,8 @@
 use Rattle.textwrap_marked.proofs.pieces.pieces_between.Goals as goal
-use Rattle.textwrap_text.proofs.Common.{append_assoc, drop_more, map_push, arith, refl, map, subst, ℕ, ◌≤◌}
-use Rattle.textwrap_text.proofs.Common.{List, ◌++◌, sym, ◌+◌, ◌∙◌, ◌∷◌, ◌≡◌, []}
-use Rattle.textwrap_text.proofs.Common.{length}
-use Rattle.textwrap_text.specs.Blanks.{final_blanks}
+use Rattle.textwrap_text.proofs.Common.{append_assoc, drop_more, map_push, arith, refl, map}
+use Rattle.textwrap_text.proofs.Common.{List, ◌++◌, sym, ◌∙◌, ◌∷◌, ◌≡◌, []}
 use Rattle.textwrap_words.proofs.Common.{WordText}
-use Rattle.textwrap_marked.specs.Pieces.{AreInRow, piece_view}
+use Rattle.textwrap_marked.specs.Pieces.{piece_view}
 use Rattle.textwrap_marked.specs.declared.pieces.JoinedPiece.{JoinedPiece}
 
 pub returns-then-is_empty-clause-pieces : goal.returns-then-is_empty-clause-pieces
@@ -37,12 +35,3 @@ one-more : (pieces items : List JoinedPiece) (p : JoinedPiece) (is : WordText) (
     → map piece_view items ++ rest ≡ all
 one-more pieces items p is rest all pushed same before =
     rw (pushed, map_push, same, append_assoc) before
-
--- one that opens behind the pieces so far
-row-more : (pieces items : List JoinedPiece) (p : JoinedPiece) (opens end : ℕ) → items ≡ pieces ++ p ∷ []
-    → p.opens ≡ opens → opens ≤ p.closes → end ≡ p.closes + length (final_blanks p.text.now)
-    → ((rest : List JoinedPiece) → AreInRow opens rest → AreInRow 0 (pieces ++ rest))
-    → (rest : List JoinedPiece) → AreInRow end rest → AreInRow 0 (items ++ rest)
-row-more pieces items p opens end pushed is order ends before rest are =
-    rw (pushed, append_assoc pieces (p ∷ []) rest)
-    (before (p ∷ rest) (is, order, subst (λ n. AreInRow n rest) ends are))

@@ -6,11 +6,11 @@ use Rattle.textwrap_marked.proofs.LineNames.{length, lt-ltb, map, nat_lt, None, 
 use Rattle.textwrap_marked.proofs.LineNames.{sym, ◌∙◌, all-right, flat, as_title}
 use Rattle.textwrap_marked.proofs.LineNames.{entered, fence_at, has_columns, is_return, line_as_read, LineText, ◌<◌}
 use Rattle.textwrap_marked.proofs.LineNames.{passed}
-use Rattle.textwrap_marked.proofs.LineNames.{StateText, without_returns, first_word}
+use Rattle.textwrap_marked.proofs.LineNames.{StateText, without_returns, begins_text, first_word}
 use Rattle.textwrap_marked.proofs.LineNames.{opens_paragraph, has_letter, spaced_text, SpacedText}
 use Rattle.textwrap_marked.proofs.Common.{AreShown, break_white, ending_if, filled_end, HasNoBarMark}
-use Rattle.textwrap_marked.proofs.Common.{is_beside, is_row, IsSameBy, printed, rows_in, Shows, stays}
-use Rattle.textwrap_marked.proofs.Common.{words_of_lines}
+use Rattle.textwrap_marked.proofs.Common.{is_beside, IsSameBy, lines_alone, printed, Shows, stays}
+use Rattle.textwrap_marked.proofs.Common.{stands_alone, words_of_lines}
 use Rattle.textwrap_marks.specs.declared.options.ReflowOptions.{ReflowOptions}
 use Rattle.std.proofs.Math.Bool.{and-true}
 use Rattle.textwrap_marked.proofs.AnewLines.{IsTold}
@@ -37,7 +37,7 @@ use Rattle.textwrap_marked.proofs.ReadBack.{ending, AreOfBlocksAny, IsReadBack, 
 use Rattle.textwrap_marked.proofs.ReturnsOff.{return_if}
 use Rattle.textwrap_marked.proofs.ShownLines.{line-split, shown-append, shows-first}
 use Rattle.textwrap_marked.proofs.SpacedBack.{AreSpaced, IsWhite}
-use Rattle.textwrap_marked.proofs.TableRows.{first-row, rows-append, rows-skip}
+use Rattle.textwrap_marked.proofs.LinesAlone.{alone-append, alone-skip, first-not-alone}
 use Rattle.textwrap_marked.proofs.TextBlocks.{AreTextWords, as-title-none, last_line, read}
 use Rattle.textwrap_marked.proofs.TextBlocks.{read-more, title_of}
 use Rattle.textwrap_marked.specs.Laws.{IsSameParagraph}
@@ -128,15 +128,16 @@ module _ (options : ReflowOptions) (returns : Bool) (told : IsTold options.endin
       (first-parts options (entered state (without_returns raw)) raw p.fed p.lead p.cs p.qs p.bs p.ws p.has p.apart).0
       spaced some is options
 
-  -- and is no row of a table
-  no-row : HasNoBarMark options → (text : List ℕ) (ws : List SpacedText) → AreSpaced ws → 0 < length ws
-      → without_returns text ≡ here.prefix ++ spaced_text ws → has_columns options.justify ws ≡ false
-      → is_row (without_returns text) ≡ false
-  no-row plain text ws spaced some is level =
-      first-row options plain (entered state (without_returns raw)).in_block (without_returns text) p.lead p.cs p.qs
-      p.bs p.ws ws p.has.have p.has.text.white
+  -- and does not stand for itself
+  text-first : HasNoBarMark options → (text : List ℕ) (ws : List SpacedText) → AreSpaced ws → 0 < length ws
+      → without_returns text ≡ here.prefix ++ spaced_text ws → (starred : Bool)
+      → begins_text starred (first_word ws) ≡ true → has_columns options.justify ws ≡ false
+      → stands_alone options (without_returns text) ≡ false
+  text-first plain text ws spaced some is =
+      first-not-alone options plain (entered state (without_returns raw)).in_block (without_returns text) p.lead p.cs
+      p.qs p.bs p.ws ws p.has.have p.has.text.white
       (first-parts options (entered state (without_returns raw)) raw p.fed p.lead p.cs p.qs p.bs p.ws p.has p.apart).0
-      spaced some is level
+      spaced some is
 
   -- the first line of the text is its prefix and its words
   first-split : without_returns raw ≡ here.prefix ++ spaced_text p.ws
@@ -147,12 +148,12 @@ module _ (options : ReflowOptions) (returns : Bool) (told : IsTold options.endin
       ∙ sym (append_assoc p.lead (spaced_text marks) (spaced_text p.ws))
 
   lines-level : (left : List (List ℕ)) → left ≡ p.walked.done ++ p.walked.left → HasNoBarMark options
-      → rows_in (raw ∷ left) ≡ rows_in p.walked.left
+      → lines_alone options (raw ∷ left) ≡ lines_alone options p.walked.left
   lines-level left whole plain =
       let of = first-text options (entered state (without_returns raw)) raw p.fed p.lead p.cs p.qs p.bs p.ws p.has p.apart
       in
-      rows-skip raw left (no-row plain raw p.ws of.spaced of.some first-split of.columns) ∙ ap rows_in whole
-      ∙ rows-append p.walked.done p.walked.left ∙ ap (λ l. l ++ rows_in p.walked.left) (p.walked.rows plain)
+      alone-skip options raw left (text-first plain raw p.ws of.spaced of.some first-split of.starred of.begins of.columns) ∙ ap (lines_alone options) whole
+      ∙ alone-append options p.walked.done p.walked.left ∙ ap (λ l. l ++ lines_alone options p.walked.left) (p.walked.alone plain)
 
   lines-show : (left : List (List ℕ)) → left ≡ p.walked.done ++ p.walked.left → (after : List (List ℕ))
       → AreShown options p.walked.left after
@@ -347,11 +348,11 @@ module _ (options : ReflowOptions) (returns : Bool) (told : IsTold options.endin
                   ∙ ap (λ l. marks_shown ++ l) (sym spelled)
                   ∙ sym (append_assoc marks_shown own front),
             );
-        rows = λ plain.
-            rows-skip new_raw raws_new (no-row plain new_raw new.words new_is.of.spaced new_is.of.some
+        alone = λ plain.
+            alone-skip options new_raw raws_new (text-first plain new_raw new.words new_is.of.spaced new_is.of.some
             (line-split options at new_raw fed_new ∙ ap (λ q. q ++ spaced_text new.words) new_is.prefixed)
-            new_is.of.columns)
-            ∙ n.rows plain ∙ later.rows plain ∙ sym (ap rows_in whole ∙ lines-level left walked plain);
+            new_is.of.starred new_is.of.begins new_is.of.columns)
+            ∙ n.alone plain ∙ later.alone plain ∙ sym (ap (lines_alone options) whole ∙ lines-level left walked plain);
       }
 
   -- by the lines of a division of its pieces

@@ -8,7 +8,7 @@ use Rattle.textwrap_marked.proofs.LineNames.{ap₂, bytes_eq, as_title, entered,
 use Rattle.textwrap_marked.proofs.LineNames.{LineText, passed, StateText, without_returns, first_word}
 use Rattle.textwrap_marked.proofs.LineNames.{opens_paragraph}
 use Rattle.textwrap_text.specs.declared.line_ending.LineEnding.{LineEnding}
-use Rattle.textwrap_marked.proofs.Common.{AreShown, ending_if, is_row, rows_in, Shows}
+use Rattle.textwrap_marked.proofs.Common.{AreShown, ending_if, lines_alone, Shows, stands_alone}
 use Rattle.textwrap_marked.proofs.Common.{kept_line}
 use Rattle.textwrap_marks.specs.declared.options.ReflowOptions.{ReflowOptions}
 use Rattle.std.proofs.Math.Bool.{and-true}
@@ -107,7 +107,7 @@ module _ (options : ReflowOptions) (returns : Bool) (told : IsTold options.endin
       pub shown : List (List ℕ)
       pub kept_show : AreShown options kept shown
       pub news_show : AreShown options news shown
-      pub rows : rows_in news ≡ rows_in kept
+      pub alone : lines_alone options news ≡ lines_alone options kept
       pub reads : rest ≡ read options behind left
       pub safe : IsSafe options behind
       pub again : (others : List LineText) (more : List (List ℕ)) → others ≡ read options behind more
@@ -134,7 +134,7 @@ module _ (options : ReflowOptions) (returns : Bool) (told : IsTold options.endin
     shown = [];
     kept_show = refl;
     news_show = refl;
-    rows = refl;
+    alone = refl;
     reads = is;
     safe = safe;
     again = λ others more read heads same. read;
@@ -179,7 +179,7 @@ module _ (options : ReflowOptions) (returns : Bool) (told : IsTold options.endin
           later.news_show,
           refl,
         );
-        rows = ap₂ (λ line lines. cond (is_row line) (line ∷ lines) lines) (anew-content e returns fed raw) later.rows;
+        alone = ap₂ (λ line lines. cond (stands_alone options line) (line ∷ lines) lines) (anew-content e returns fed raw) later.alone;
         reads = later.reads;
         safe = later.safe;
         again = λ others more read_others heads same.

@@ -27,6 +27,7 @@ pub mod LaterLines
 pub mod LineKinds
 pub mod LineTests
 pub mod LineWords
+pub mod LinesAlone
 pub mod NewBlock
 pub mod NewLines
 pub mod NewParts
@@ -48,7 +49,6 @@ pub mod SameParts
 pub mod ShownLines
 pub mod SpacedBack
 pub mod SpreadWords
-pub mod TableRows
 pub mod TextBack
 pub mod TextBlocks
 pub mod TextParts

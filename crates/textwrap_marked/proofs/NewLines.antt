@@ -8,7 +8,7 @@ use Rattle.textwrap_marked.proofs.LineNames.{is_ended, LineText, passed, StateTe
 use Rattle.textwrap_marked.proofs.LineNames.{begins_text, closes_block, first_word, is_key, last_white}
 use Rattle.textwrap_marked.proofs.LineNames.{last_word, opens_paragraph, contains, has_byte, has_letter}
 use Rattle.textwrap_marked.proofs.LineNames.{spaced_text, SpacedText}
-use Rattle.textwrap_marked.proofs.Common.{AreShown, HasNoBarMark, rows_in, words_of_lines}
+use Rattle.textwrap_marked.proofs.Common.{AreShown, HasNoBarMark, lines_alone, words_of_lines}
 use Rattle.textwrap_marks.specs.declared.options.ReflowOptions.{ReflowOptions}
 use Rattle.textwrap_text.proofs.Common.{slice_index}
 use Rattle.textwrap_marked.proofs.FreeLines.{AreFree}
@@ -26,7 +26,7 @@ use Rattle.textwrap_marked.proofs.SpreadWords.{goes-on, last_text, last-word, Ma
 use Rattle.textwrap_marked.proofs.SpreadWords.{spread-columns, spread-end, spread-first}
 use Rattle.textwrap_marked.proofs.SpreadWords.{spread-last, spread-len, spread-spaced, spread-white}
 use Rattle.textwrap_marked.proofs.SpreadWords.{spread-words}
-use Rattle.textwrap_marked.proofs.TableRows.{later-row, rows-skip}
+use Rattle.textwrap_marked.proofs.LinesAlone.{alone-skip, later-not-alone}
 use Rattle.textwrap_marked.proofs.TextBlocks.{AreClosing, AreOneBlock, AreTextWords, as-title-none}
 use Rattle.textwrap_marked.proofs.TextBlocks.{last-behind, last_line, line_at, NoClose, NoColumn}
 use Rattle.textwrap_marked.proofs.TextBlocks.{read, read-more, title_of}
@@ -162,7 +162,7 @@ module _ (options : ReflowOptions) (in_block starred : Bool) (wide : ℕ → ℕ
       pub shown : (after : List (List ℕ)) → AreShown options left after
           → (front : List (List ℕ)) × AreShown options raws front
           × (map (λ w. w.word) line.words ++ front ≡ words ++ after)
-      pub rows : HasNoBarMark options → rows_in raws ≡ rows_in left
+      pub alone : HasNoBarMark options → lines_alone options raws ≡ lines_alone options left
 
     last-new : (word : List ℕ) (words : List (List ℕ)) (state : StateText) (line : LineText)
         (prefix : List ℕ) → AreTextWords in_block (word ∷ words)
@@ -206,7 +206,7 @@ module _ (options : ReflowOptions) (in_block starred : Bool) (wide : ℕ → ℕ
           fed = fed;
           spells = append-nil (map (λ w. w.word) line.words) ∙ spelled;
           shown = λ after are. (after, are, ap (λ l. l ++ after) spelled);
-          rows = λ plain. refl;
+          alone = λ plain. refl;
         }
 
     -- another line behind one
@@ -256,9 +256,9 @@ module _ (options : ReflowOptions) (in_block starred : Bool) (wide : ℕ → ℕ
                 ap (λ l. l ++ (next_words ++ front)) spelled ∙ ap (λ l. own ++ l) is
                     ∙ sym (append_assoc own later after),
               );
-          rows = λ plain. rows-skip raw raws (later-row options plain in_block hanging lead ds rs hang
+          alone = λ plain. alone-skip options raw raws (later-not-alone options plain in_block hanging lead ds rs hang
               (entered behind (without_returns raw)) raw (nat_lt 0 (length raws)) next_new.of next_new.prefixed)
-              ∙ are.rows plain;
+              ∙ are.alone plain;
         }
 
     -- a line that others follow does not end its paragraph

@@ -8,7 +8,7 @@ use Rattle.textwrap_marked.proofs.LineNames.{lines_of_text}
 use Rattle.textwrap_marked.proofs.LineNames.{read_lines, with_titles, inl, inr, ◌⊎◌}
 use Rattle.textwrap_text.specs.declared.line_ending.LineEnding.{LineEnding}
 use Rattle.textwrap_text.specs.declared.line_ending.LineEnding.TheVariants.{CRLF, LF}
-use Rattle.textwrap_marked.proofs.Common.{AreShown, blocks, AreSameParts, rows_in}
+use Rattle.textwrap_marked.proofs.Common.{AreShown, blocks, AreSameParts, lines_alone}
 use Rattle.textwrap_marked.proofs.Common.{text_parts, byte_order_mark, filled_ending, AreOfBlocks}
 use Rattle.textwrap_marked.proofs.Common.{IsReflowedBehind, IsReflowedFrom}
 use Rattle.textwrap_marks.specs.declared.options.ReflowOptions.{ReflowOptions}
@@ -21,7 +21,7 @@ use Rattle.textwrap_marked.proofs.EndsAlike.{ends-alike, one-line}
 use Rattle.textwrap_marked.proofs.Feedless.{IsFeedless}
 use Rattle.textwrap_marked.proofs.SameParts.{from-other, laid-other, width-same}
 use Rattle.textwrap_marked.proofs.TextBack.{AreReadBack, IsTextBack, text-back, within-back}
-use Rattle.textwrap_marked.specs.Laws.{behind_mark, HaveTheSameRows, KeepsEnding, ShowTheSame}
+use Rattle.textwrap_marked.specs.Laws.{behind_mark, HaveTheSameAlone, KeepsEnding, ShowTheSame}
 use Rattle.textwrap_marked.specs.Reflow.{IsReflowed}
 use Rattle.textwrap_marked.specs.Within.{IsReflowedWithin, IsReflowedWithinBehind, IsReflowedWithinFrom}
 use Rattle.textwrap_marked.specs.declared.within.LineRange.{LineRange}
@@ -157,9 +157,9 @@ module _ (options : ReflowOptions) (From : List ℕ → List ℕ → Type 0)
       → AreSameParts options.ending (text_parts options (behind_mark text)) (text_parts options (behind_mark reflowed))
   parts-same behind = (each (behind_mark text) (behind_mark reflowed) behind.1).same
 
-  rows-same : IsBehind → HaveTheSameRows options text reflowed
-  rows-same behind plain =
-      let r = each (behind_mark text) (behind_mark reflowed) behind.1 in ap rows_in r.split ∙ r.rows plain
+  alone-same : IsBehind → HaveTheSameAlone options text reflowed
+  alone-same behind plain =
+      let r = each (behind_mark text) (behind_mark reflowed) behind.1 in ap (lines_alone options) r.split ∙ r.alone plain
 
   shown-same : IsBehind → ShowTheSame options text reflowed
   shown-same behind =
@@ -182,9 +182,9 @@ module _ (options : ReflowOptions) (text reflowed : List ℕ) where
   parts-kept is =
       parts-same options (IsReflowedFrom options) (text-back options) text reflowed (opened _ refl is)
 
-  pub rows-stay : IsReflowed options text reflowed → HaveTheSameRows options text reflowed
-  rows-stay is =
-      rows-same options (IsReflowedFrom options) (text-back options) text reflowed (opened _ refl is)
+  pub alone-stay : IsReflowed options text reflowed → HaveTheSameAlone options text reflowed
+  alone-stay is =
+      alone-same options (IsReflowedFrom options) (text-back options) text reflowed (opened _ refl is)
 
   pub nothing-lost : IsReflowed options text reflowed → ShowTheSame options text reflowed
   nothing-lost is =
@@ -203,9 +203,9 @@ module _ (options : ReflowOptions) (range : LineRange) (text reflowed : List ℕ
   parts-kept-within is =
       parts-same options _ (within-back options range) text reflowed (opened-within _ refl is)
 
-  pub rows-stay-within : IsReflowedWithin options range text reflowed → HaveTheSameRows options text reflowed
-  rows-stay-within is =
-      rows-same options _ (within-back options range) text reflowed (opened-within _ refl is)
+  pub alone-stay-within : IsReflowedWithin options range text reflowed → HaveTheSameAlone options text reflowed
+  alone-stay-within is =
+      alone-same options _ (within-back options range) text reflowed (opened-within _ refl is)
 
   pub nothing-lost-within : IsReflowedWithin options range text reflowed → ShowTheSame options text reflowed
   nothing-lost-within is =

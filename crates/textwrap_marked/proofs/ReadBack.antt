@@ -5,7 +5,7 @@ use Rattle.textwrap_marked.proofs.LineNames.{map, nat_lt, refl, subst, sym, ◌�
 use Rattle.textwrap_marked.proofs.LineNames.{flat, ap₂, LineText, StateText, ◌+◌}
 use Rattle.textwrap_marked.proofs.LineNames.{cases_Bool, not}
 use Rattle.textwrap_marked.proofs.Common.{is_beside, stays, AreSameParts, AreShown, IsSameBy}
-use Rattle.textwrap_marked.proofs.Common.{parts_of_blocks, AreOfBlocks, HasNoBarMark, rows_in}
+use Rattle.textwrap_marked.proofs.Common.{parts_of_blocks, AreOfBlocks, HasNoBarMark, lines_alone}
 use Rattle.textwrap_marked.proofs.Common.{words_of_lines}
 use Rattle.textwrap_marked.proofs.Common.{kept_line, IsOfBlock}
 use Rattle.textwrap_marks.specs.declared.options.ReflowOptions.{ReflowOptions}
@@ -21,7 +21,7 @@ use Rattle.textwrap_marked.proofs.FenceMarks.{IsSafe}
 use Rattle.textwrap_marked.proofs.KeptLines.{AreHeads, head-same, keep}
 use Rattle.textwrap_marked.proofs.ReturnsOff.{return_if}
 use Rattle.textwrap_marked.proofs.ShownLines.{shown-append}
-use Rattle.textwrap_marked.proofs.TableRows.{rows-append}
+use Rattle.textwrap_marked.proofs.LinesAlone.{alone-append}
 use Rattle.textwrap_marked.proofs.TextBlocks.{last_line, read}
 use Rattle.textwrap_marked.specs.Reflow.{kept_text}
 
@@ -45,7 +45,7 @@ module _ (options : ReflowOptions) (returns : Bool) (told : IsTold options.endin
     pub shown : List (List ℕ)
     pub raws_show : AreShown options raws shown
     pub again_show : AreShown options again shown
-    pub rows : HasNoBarMark options → rows_in again ≡ rows_in raws
+    pub alone : HasNoBarMark options → lines_alone options again ≡ lines_alone options raws
 
   -- one block after the other: those that stay, and others or none, are as they were
   abbrev pub AreOfBlocksAny : Bool → List (List LineText) → List ℕ → Type 0
@@ -141,9 +141,9 @@ module _ (options : ReflowOptions) (returns : Bool) (told : IsTold options.endin
             (shown-append options k.kept k.left k.shown later.shown k.kept_show later.raws_show);
         again_show =
             shown-append options k.news later.again k.shown later.shown k.news_show later.again_show;
-        rows = λ plain.
-            rows-append k.news later.again ∙ ap₂ (λ a b. a ++ b) k.rows (later.rows plain)
-            ∙ sym (ap rows_in k.whole ∙ rows-append k.kept k.left);
+        alone = λ plain.
+            alone-append options k.news later.again ∙ ap₂ (λ a b. a ++ b) k.alone (later.alone plain)
+            ∙ sym (ap (lines_alone options) k.whole ∙ alone-append options k.kept k.left);
       }
     where
       new : LineText → LineText

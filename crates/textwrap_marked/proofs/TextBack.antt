@@ -9,7 +9,7 @@ use Rattle.textwrap_marked.proofs.LineNames.{LineText, StateText, false_from_ne_
 use Rattle.textwrap_text.specs.declared.line_ending.LineEnding.{LineEnding}
 use Rattle.textwrap_marked.proofs.Common.{blocks, is_beside, stays, AreSameParts, AreShown}
 use Rattle.textwrap_marked.proofs.Common.{parts_of_blocks, text_parts, filled_ending, HasNoBarMark}
-use Rattle.textwrap_marked.proofs.Common.{rows_in}
+use Rattle.textwrap_marked.proofs.Common.{lines_alone}
 use Rattle.textwrap_marked.proofs.Common.{AreOfBlocks, IsOfBlock, IsReflowedFrom}
 use Rattle.textwrap_marks.specs.declared.options.ReflowOptions.{ReflowOptions}
 use Rattle.textwrap_marked.proofs.AnewLines.{bytes-by, IsTold, returns_by}
@@ -51,8 +51,8 @@ module _ (options : ReflowOptions) (returns : Bool) (told : IsTold options.endin
     pub shown : List (List ℕ)
     pub text_shows : AreShown options (slice_split (λ c. c == 10) text) shown
     pub new_shows : AreShown options (raw ∷ raws) shown
-    pub rows : HasNoBarMark options
-        → rows_in (raw ∷ raws) ≡ rows_in (slice_split (λ c. c == 10) text)
+    pub alone : HasNoBarMark options
+        → lines_alone options (raw ∷ raws) ≡ lines_alone options (slice_split (λ c. c == 10) text)
 
   pub walk-blocks : (bs : List (List LineText)) (beside : Bool) → AreBlocks bs → (state : StateText)
       (raws : List (List ℕ)) (text : List ℕ) → flat bs ≡ read options state raws
@@ -72,7 +72,7 @@ module _ (options : ReflowOptions) (returns : Bool) (told : IsTold options.endin
     shown = [];
     raws_show = subst (λ l. AreShown options l []) (read-none state raws reads) refl;
     again_show = refl;
-    rows = λ plain. ap rows_in (read-none state raws reads);
+    alone = λ plain. ap (lines_alone options) (read-none state raws reads);
   }
   walk-blocks ([] ∷ bs) beside are state raws text reads laid safe free = absurd are
   walk-blocks ((first ∷ lines) ∷ bs) beside are state raws text reads (is_kept, stay, front, back, of, later, is) safe
@@ -123,7 +123,7 @@ module _ (options : ReflowOptions) (returns : Bool) (told : IsTold options.endin
         shown = r.shown;
         text_shows = r.raws_show;
         new_shows = subst (λ l. AreShown options l r.shown) some r.again_show;
-        rows = λ plain. ap rows_in (sym some) ∙ r.rows plain;
+        alone = λ plain. ap (lines_alone options) (sym some) ∙ r.alone plain;
       }
 
   pub parts-back : (text reflowed : List ℕ)

@@ -8,8 +8,8 @@ use Rattle.textwrap_marked.proofs.LineNames.{as_title, entered, is_ended, line_a
 use Rattle.textwrap_marked.proofs.LineNames.{read_lines, StateText, with_titles, closes_block}
 use Rattle.textwrap_marked.proofs.LineNames.{closes_early, first_word, words_before_last, is_column_word}
 use Rattle.textwrap_marked.proofs.LineNames.{last_word, opens_paragraph, contains, SpacedText}
-use Rattle.textwrap_marked.proofs.Common.{AreShown, goes_on, HasNoBarMark, is_row, rows_in, Shows}
-use Rattle.textwrap_marked.proofs.Common.{words_of_lines}
+use Rattle.textwrap_marked.proofs.Common.{AreShown, goes_on, HasNoBarMark, Shows}
+use Rattle.textwrap_marked.proofs.Common.{lines_alone, stands_alone, words_of_lines}
 use Rattle.textwrap_marks.specs.declared.options.ReflowOptions.{ReflowOptions}
 use Rattle.textwrap_text.proofs.Common.{length-map}
 use Rattle.textwrap_marked.proofs.HangingForms.{IsHanging}
@@ -20,7 +20,7 @@ use Rattle.textwrap_marked.proofs.ParagraphLines.{later-line}
 use Rattle.textwrap_marked.proofs.ShownLines.{shows-later}
 use Rattle.textwrap_marked.proofs.SpacedBack.{spaced-plain}
 use Rattle.textwrap_marked.proofs.SpreadWords.{front-more, last-more, last_text}
-use Rattle.textwrap_marked.proofs.TableRows.{later-row, rows-skip}
+use Rattle.textwrap_marked.proofs.LinesAlone.{alone-skip, later-not-alone}
 use Rattle.textwrap_marked.proofs.WordsIn.{IsPlain}
 use Rattle.textwrap_marked.specs.Lines.{is_title}
 use Rattle.textwrap_marks.specs.Signs.{ends_early}
@@ -240,7 +240,7 @@ module _ (options : ReflowOptions) (in_block : Bool) (hanging lead : List ℕ) (
         ≡ last_text (map (λ w. w.word) (last_line line lines).words)
     pub words : AreTextWords in_block (words_of_lines (line ∷ lines))
     pub shown : AreShown options done (words_of_lines lines)
-    pub rows : HasNoBarMark options → rows_in done ≡ []
+    pub alone : HasNoBarMark options → lines_alone options done ≡ []
 
   walked-last : (mine others : List (List ℕ)) → 0 < length others
       → last_text (mine ++ others) ≡ last_text others
@@ -260,7 +260,7 @@ module _ (options : ReflowOptions) (in_block : Bool) (hanging lead : List ℕ) (
       (raw : List ℕ) (raws left : List (List ℕ)) → raws ≡ raw ∷ left
       → IsOfText options in_block hanging state line → line.ended ≡ false
       → Shows options (without_returns raw) (map (λ w. w.word) next.words)
-      → (HasNoBarMark options → is_row (without_returns raw) ≡ false)
+      → (HasNoBarMark options → stands_alone options (without_returns raw) ≡ false)
       → IsWalked next lines rest left → IsWalked line (next ∷ lines) rest raws
   walk-more state line next lines rest raw raws left whole of ended shows level walked =
       let own = line-words state line of in
@@ -286,7 +286,7 @@ module _ (options : ReflowOptions) (in_block : Bool) (hanging lead : List ℕ) (
           closing = closing-before in_block mine others none walked.words.closing;
         };
         shown = (_, words_of_lines lines, shows, walked.shown, refl);
-        rows = λ plain. rows-skip raw walked.done (level plain) ∙ walked.rows plain;
+        alone = λ plain. alone-skip options raw walked.done (level plain) ∙ walked.alone plain;
       }
 
   pub walk : (lines : List LineText) (line : LineText) (state : StateText) (rest : List LineText)
@@ -315,7 +315,7 @@ module _ (options : ReflowOptions) (in_block : Bool) (hanging lead : List ℕ) (
     words = subst (AreTextWords in_block) (sym (append-nil (map (λ w. w.word) line.words)))
         (line-words state line of);
     shown = refl;
-    rows = λ plain. refl;
+    alone = λ plain. refl;
   }
   walk (next ∷ lines) line state rest raws of apart title (goes, one) fed is =
       let (level, ended, prefix, opens) = goes-facts line next goes in
@@ -339,7 +339,7 @@ module _ (options : ReflowOptions) (in_block : Bool) (hanging lead : List ℕ) (
       walk-more state line next lines rest peeled.raw raws peeled.left peeled.whole of ended
       (subst (λ (l : LineText). Shows options (without_returns peeled.raw) (map (λ w. w.word) l.words)) (sym same)
       (shows-later options in_block hanging lead ds rs hang behind peeled.raw fed_next of_read hung))
-      (λ plain. later-row options plain in_block hanging lead ds rs hang behind peeled.raw fed_next of_read hung)
+      (λ plain. later-not-alone options plain in_block hanging lead ds rs hang behind peeled.raw fed_next of_read hung)
       (walk lines next behind rest peeled.left of_next level title_next one
       (ap (λ (l : LineText). l.fed) same)
       (peeled.later ∙ ap (λ l. read options (passed behind l) peeled.left) (sym same)))

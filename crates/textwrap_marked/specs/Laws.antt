@@ -21,7 +21,8 @@ use Rattle.textwrap_marked.specs.Reflow.{byte_order_mark, filled_end, filled_end
 use Rattle.textwrap_marked.specs.Reflow.{IsReflowed, kept_line, kept_text, later_room, printed}
 use Rattle.textwrap_marked.specs.Reflow.{shown_lines}
 use Rattle.textwrap_marked.specs.Within.{IsReflowedWithin}
-use Rattle.textwrap_marks.specs.Marks.{is_among, is_comment_at, is_quote}
+use Rattle.textwrap_marks.specs.Marks.{is_among, is_bullet, is_comment_at, is_quote}
+use Rattle.textwrap_marks.specs.Signs.{begins_text}
 use Rattle.textwrap_marks.specs.Words.{has_bytes, is_white, spaced_text, SpacedText}
 use Rattle.textwrap_marks.specs.declared.options.Algorithm.{Algorithm}
 use Rattle.textwrap_marks.specs.declared.options.Algorithm.TheVariants.{FirstFit, LeastCost}
@@ -185,34 +186,51 @@ NothingIsLostWithin =
     (options : ReflowOptions) (range : LineRange) (text reflowed : List ℕ)
     → IsReflowedWithin options range text reflowed → ShowTheSame options text reflowed
 
--- ---- rows of tables
+-- ---- lines that stand for themselves
 
--- a word `|` stands in the line
-abbrev pub is_row : List ℕ → Bool
-is_row line = list_any (λ w. bytes_eq w (codes "|")) (words_between_white line)
+-- a mark that may stand before a text: of a comment, a quote, a bullet, or an end of a box
+abbrev pub is_line_mark : ReflowOptions → List ℕ → Bool
+is_line_mark options word =
+    is_comment_at options true word || is_comment_at options false word || is_quote word
+    || is_bullet word || bytes_eq word (codes "[") || bytes_eq word (codes "]")
+
+-- the first of these words that is no such mark begins no text: it has no letter or digit, or begins as
+-- a sign of a language or of Markdown does, or tells a tool something
+abbrev pub begins_no_text : ReflowOptions → List (List ℕ) → Bool
+begins_no_text options [] = false
+begins_no_text options (word ∷ words) =
+    if begins_text false word then false
+    else if is_line_mark options word then begins_no_text options words else true
+
+-- a line begins no text, or has a word `|`, as a row of a table has
+abbrev pub stands_alone : ReflowOptions → List ℕ → Bool
+stands_alone options line =
+    let words = words_between_white line in
+    begins_no_text options words || list_any (λ w. bytes_eq w (codes "|")) words
 
 -- such lines, without the carriage returns at their ends
-abbrev pub rows_in : List (List ℕ) → List (List ℕ)
-rows_in lines = filter is_row (map without_returns lines)
+abbrev pub lines_alone : ReflowOptions → List (List ℕ) → List (List ℕ)
+lines_alone options lines = filter (stands_alone options) (map without_returns lines)
 
 -- the caller declared no mark `|`
 abbrev pub HasNoBarMark : ReflowOptions → Type 0
 HasNoBarMark options = is_among (codes "|") options.markers.now ≡ false
 
 -- both texts have the same of them, byte for byte and in order
-abbrev pub HaveTheSameRows : ReflowOptions → List ℕ → List ℕ → Type 0
-HaveTheSameRows options text other =
-    HasNoBarMark options → rows_in (lines_behind_mark other) ≡ rows_in (lines_behind_mark text)
+abbrev pub HaveTheSameAlone : ReflowOptions → List ℕ → List ℕ → Type 0
+HaveTheSameAlone options text other =
+    HasNoBarMark options
+    → lines_alone options (lines_behind_mark other) ≡ lines_alone options (lines_behind_mark text)
 
-abbrev pub RowsStay : Type 0
-RowsStay =
+abbrev pub LinesAloneStay : Type 0
+LinesAloneStay =
     (options : ReflowOptions) (text reflowed : List ℕ)
-    → IsReflowed options text reflowed → HaveTheSameRows options text reflowed
+    → IsReflowed options text reflowed → HaveTheSameAlone options text reflowed
 
-abbrev pub RowsStayWithin : Type 0
-RowsStayWithin =
+abbrev pub LinesAloneStayWithin : Type 0
+LinesAloneStayWithin =
     (options : ReflowOptions) (range : LineRange) (text reflowed : List ℕ)
-    → IsReflowedWithin options range text reflowed → HaveTheSameRows options text reflowed
+    → IsReflowedWithin options range text reflowed → HaveTheSameAlone options text reflowed
 
 -- ---- the lines of a paragraph
 

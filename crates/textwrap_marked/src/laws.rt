@@ -6,9 +6,9 @@
 ghost use Rattle.textwrap_marked.specs.Laws.{EarlierEndingsMakeNoDifference};
 ghost use Rattle.textwrap_marked.specs.Laws.{EarlierWidthsMakeNoDifference, FirstFitKeepsToWidth};
 ghost use Rattle.textwrap_marked.specs.Laws.{JustifiedPartsAreAsWide, LeastCostIsLeast};
-ghost use Rattle.textwrap_marked.specs.Laws.{NothingIsLost, NothingIsLostWithin, PartsAreKept};
-ghost use Rattle.textwrap_marked.specs.Laws.{PartsAreKeptWithin, ReflowedTextsAreUnique};
-ghost use Rattle.textwrap_marked.specs.Laws.{ReflowedTextsStay, RowsStay, RowsStayWithin};
+ghost use Rattle.textwrap_marked.specs.Laws.{LinesAloneStay, LinesAloneStayWithin, NothingIsLost};
+ghost use Rattle.textwrap_marked.specs.Laws.{NothingIsLostWithin, PartsAreKept, PartsAreKeptWithin};
+ghost use Rattle.textwrap_marked.specs.Laws.{ReflowedTextsAreUnique, ReflowedTextsStay};
 ghost use Rattle.textwrap_marked.specs.Laws.{WhatStandsApartStays, WordsAreKept};
 
 /// A text becomes one text at the same options: the one that `reflow` returns.
@@ -62,12 +62,14 @@ pub fn nothing_is_lost_within()
     ensures { NothingIsLostWithin }
 {}
 
-/// Each line with a word `|`, as a row of a table has it, is in the new text byte for byte, but for
-/// its ending, and in order, and no other line there has one; also where only the paragraphs at some
-/// lines are filled. It holds if the caller did not declare `|` as a mark.
-pub fn table_rows_stay()
-    ensures whole { RowsStay }
-    ensures within { RowsStayWithin }
+/// A line whose text begins no text, behind marks, is in the new text byte for byte, but for its
+/// ending, and in order, and no other line there is such: of signs alone, of a fence, a heading's
+/// underline, a tag, what a tool reads. So is each line with a word `|`, as a row of a table has it.
+/// Both hold also where only the paragraphs at some lines are filled, if the caller did not declare
+/// `|` as a mark.
+pub fn lines_alone_stay()
+    ensures whole { LinesAloneStay }
+    ensures within { LinesAloneStayWithin }
 {}
 
 /// The new text, read again, is read as the text was: block by block and in order the same lines

@@ -11,6 +11,7 @@ use Rattle.textwrap_program.specs.Program.{line_feed}
 use Rattle.filter_programs.specs.declared.hyphenate.arguments.Count.{Count}
 use Rattle.filter_programs.specs.declared.hyphenate.arguments.Count.TheVariants.{Width, Left, Right}
 use Rattle.filter_programs.specs.declared.hyphenate.arguments.Request.{Request}
+use Rattle.filter_programs.specs.declared.hyphenate.texts.Filling.{Filling}
 
 -- ---- the command line
 
@@ -31,8 +32,9 @@ dictionary_rule =
     record (new_rule (codes "DICTIONARY")) { action = Some Set; required = true }
 
 abbrev pub hyphenate_app : App
-hyphenate_app = tool_app (codes "hyphenate") (columns_rule ∷ count_rule (codes "left")
-    ∷ count_rule (codes "right") ∷ flag_rule (codes "soft-hyphens")
+hyphenate_app = tool_app (codes "hyphenate") (columns_rule ∷ flag_rule (codes "least-cost")
+    ∷ flag_rule (codes "breaks") ∷ count_rule (codes "left") ∷ count_rule (codes "right")
+    ∷ flag_rule (codes "soft-hyphens")
     ∷ record (flag_rule (codes "quiet")) { short = Some 113 } ∷ dictionary_rule ∷ file_rule ∷ [])
 
 -- ---- what it shows of itself
@@ -49,6 +51,8 @@ help_lines =
     ∷ codes ""
     ∷ codes "Options:"
     ∷ codes "  -w, --width <N>     Fill the text at N columns, with hyphens; also -N"
+    ∷ codes "      --least-cost    Choose the least ragged lines there, not as many words a line as fit"
+    ∷ codes "      --breaks        Let lines end where Unicode lets them, not between blanks alone"
     ∷ codes "      --left <N>      Keep N letters before a hyphen, not as many as the dictionary says"
     ∷ codes "      --right <N>     Keep N letters behind a hyphen"
     ∷ codes "      --soft-hyphens  Set hyphens at the soft hyphens alone of a word that has some"
@@ -81,10 +85,18 @@ number_in_text (Some text) = option_map (λ number. Some number) (width_of text)
 abbrev pub number_if_given : Text → List Row → Option (Option ℕ)
 number_if_given name rows = number_in_text (first_of name rows)
 
+-- how a text is filled by a request, if there is a width
+abbrev pub filling_of : Request → Option Filling
+filling_of request =
+    option_map (λ width. record { width = width; least_cost = request.least_cost; breaks = request.breaks })
+    request.width
+
 -- these matches mean this request
 pub record IsRequest (rows : List Row) (request : Request) : Type 0 where
   pub dictionary : request.dictionary.now ≡ unwrap_or (first_of (codes "DICTIONARY") rows) []
   pub width : number_if_given (codes "width") rows ≡ Some request.width
+  pub least_cost : request.least_cost ≡ flag_in (codes "least-cost") rows
+  pub breaks : request.breaks ≡ flag_in (codes "breaks") rows
   pub left : number_if_given (codes "left") rows ≡ Some request.left
   pub right : number_if_given (codes "right") rows ≡ Some request.right
   pub soft_hyphens : request.soft_hyphens ≡ flag_in (codes "soft-hyphens") rows

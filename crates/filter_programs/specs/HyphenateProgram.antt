@@ -13,8 +13,8 @@ use Rattle.text_filters.specs.declared.faults.Reason.{Reason}
 use Rattle.text_filters.specs.Words.{spelled_out}
 use Rattle.text_filters.specs.declared.program.Ending.{Ending}
 use Rattle.textwrap_hyphens.specs.Hyphenation.{Hyphenation}
-use Rattle.filter_programs.specs.HyphenateArguments.{IsRequest, help_text, hyphenate_app, name_of}
-use Rattle.filter_programs.specs.HyphenateArguments.{number_if_given, version_text}
+use Rattle.filter_programs.specs.HyphenateArguments.{IsRequest, filling_of, help_text, hyphenate_app}
+use Rattle.filter_programs.specs.HyphenateArguments.{name_of, number_if_given, version_text}
 use Rattle.filter_programs.specs.HyphenateDictionary.{ReadsNone, ReadsSaid, as_asked}
 use Rattle.filter_programs.specs.HyphenateTexts.{hyphenating_by}
 use Rattle.filter_programs.specs.declared.hyphenate.arguments.Count.{Count}
@@ -68,7 +68,7 @@ Hyphenates faults request old new ending =
     × OnlySays old mid
     × SaysChanged faults.messages request h.changed old.messages mid.messages said
     × Serves faults hyphenate_about
-    (hyphenating_by request.width (as_asked request h)) request.inputs mid new rest
+    (hyphenating_by (filling_of request) (as_asked request h)) request.inputs mid new rest
     × (ending ≡ record rest { said = said && rest.said }))
     ⊎ ((failure : Failure) × ReadsNone (bytes_at old.files request.dictionary.now) failure
     × OnlySays old new

@@ -1,18 +1,23 @@
 -- What texts become by a dictionary: words with hyphens, and filled paragraphs.
-use Rattle.std.specs.Prelude.{◌≡◌, ℕ, List, [], ◌∷◌, ◌++◌, Option, None, Some, true}
+use Rattle.std.specs.Prelude.{◌≡◌, ℕ, Bool, List, [], ◌∷◌, ◌++◌, if◌then◌else◌, Option, None, Some, true}
 use Rattle.std.specs.List.{flat_map, join_with_byte}
 use Rattle.std.specs.Str.Lines.{lines}
 use Rattle.textwrap_text.specs.LineEnding.{line_feed}
 use Rattle.textwrap_words.specs.Cuts.{parts_onward}
 use Rattle.textwrap_words.specs.WordSplitters.{hyphen}
-use Rattle.textwrap_words.specs.WrapAlgorithms.{ByFirstFit}
+use Rattle.textwrap_words.specs.WrapAlgorithms.{Algorithm, ByFirstFit}
 use Rattle.textwrap_layout.specs.Filling.{IsFilled}
-use Rattle.textwrap_layout.specs.Options.{settings_at}
+use Rattle.textwrap_layout.specs.Options.{default_algorithm, settings_at}
 use Rattle.textwrap_hyphens.specs.Hyphenation.{Hyphenation}
 use Rattle.textwrap_hyphens.specs.Points.{hyphenation_points}
+use Rattle.textwrap_hyphens.specs.Splitting.{split_points}
 use Rattle.textwrap_hyphens.specs.Table.{held}
 use Rattle.text_filters.specs.Filter.{Work}
-use Rattle.textwrap_plain.specs.Hyphenated.{DividesAtPoints}
+use Rattle.textwrap_plain.specs.Options.{DividesFrom, words_by}
+use Rattle.textwrap_plain.specs.declared.options.PlainSeparator.{PlainSeparator}
+use Rattle.textwrap_plain.specs.declared.options.PlainSeparator.TheVariants.{AtBlanks, AtBreaks}
+use Rattle.textwrap_unicode.specs.declared.numbers.Numbers.TheVariants.{ByPairs}
+use Rattle.filter_programs.specs.declared.hyphenate.texts.Filling.{Filling}
 use Rattle.filter_programs.specs.declared.hyphenate.texts.Hyphenating.{Hyphenating}
 
 -- the parts of a word between these points, joined by hyphens
@@ -27,18 +32,29 @@ hyphenated_word h word = hyphenated_at (hyphenation_points h word) word ++ line_
 abbrev pub hyphenated_words : Hyphenation → List ℕ → List ℕ
 hyphenated_words h text = flat_map (hyphenated_word h) (lines text)
 
--- a text, filled by first fit at a width with hyphens at its points
-abbrev pub IsFilledWith : ℕ → Hyphenation → List ℕ → List ℕ → Type 0
-IsFilledWith width h = IsFilled (settings_at width) (DividesAtPoints h ByFirstFit (settings_at width))
+-- lines end where Unicode lets them, or between blanks
+abbrev pub separator_by : Bool → PlainSeparator
+separator_by breaks = if breaks then AtBreaks ByPairs else AtBlanks
 
--- what a text becomes: filled, if there is a width, else its words with their hyphens
-abbrev pub IsMade : Option ℕ → Hyphenation → List ℕ → List ℕ → Type 0
+-- they are the least ragged ones, or by first fit
+abbrev pub algorithm_by : Bool → Algorithm
+algorithm_by least_cost = if least_cost then default_algorithm else ByFirstFit
+
+-- a text, filled so at a width, with hyphens at the points of its words
+abbrev pub IsFilledWith : Filling → Hyphenation → List ℕ → List ℕ → Type 0
+IsFilledWith how h =
+    let settings = settings_at how.width in
+    IsFilled settings (DividesFrom (words_by (separator_by how.breaks)) (split_points h)
+    (algorithm_by how.least_cost) settings)
+
+-- what a text becomes: filled, if that is asked for, else its words with their hyphens
+abbrev pub IsMade : Option Filling → Hyphenation → List ℕ → List ℕ → Type 0
 IsMade None h text made = made ≡ hyphenated_words h text
-IsMade (Some width) h text made = IsFilledWith width h text made
+IsMade (Some how) h text made = IsFilledWith how h text made
 
 -- the program as a filter
-abbrev pub hyphenating_by : Option ℕ → Hyphenation → Work
-hyphenating_by width h = record { Makes = IsMade width h; applies = λ text. true }
+abbrev pub hyphenating_by : Option Filling → Hyphenation → Work
+hyphenating_by filling h = record { Makes = IsMade filling h; applies = λ text. true }
 
 abbrev pub hyphenating : Hyphenating → Work
-hyphenating how = hyphenating_by how.width (held how.patterns)
+hyphenating how = hyphenating_by how.filling (held how.patterns)

@@ -1,5 +1,5 @@
 //! A dictionary of hyphenation, as C hands it over.
-ghost use Rattle.std.specs.Prelude.{◌≡◌, ◌↔◌, true, MatchOption};
+ghost use Rattle.std.specs.Prelude.{◌≡◌, ◌↔◌, ◌⊎◌, [], true, MatchOption};
 ghost use Rattle.textwrap_calls.specs.Dictionary.{IsDamaged, IsKnownDictionary, is_whole};
 ghost use Rattle.textwrap_calls.specs.Dictionary.{hyphenation_of, with_letters};
 ghost use Rattle.textwrap_hyphens.specs.Table.{held};
@@ -39,7 +39,9 @@ pub fn is_known(given: &TextwrapDictionary<'_>) -> bool
 /// Whether these are no numbers, or those of a dictionary that is known and was not damaged.
 #[tactic(auto, unfolding(crate::specs::Dictionary::is_whole))]
 pub(crate) fn is_whole(given: &TextwrapDictionary<'_>) -> bool
-    ensures { result ≡ is_whole given.now }
+    ensures value { result ≡ is_whole given.now }
+    ensures means { result ≡ true ↔ IsKnownDictionary given.now
+        × ((given.now.numbers.now ≡ []) ⊎ ¬ IsDamaged given.now) }
 {
     is_known(given)
         && (given.numbers.is_empty() || given.is_checked != 0 || is_sealed(given.numbers))

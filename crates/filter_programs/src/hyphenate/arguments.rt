@@ -2,9 +2,10 @@
 ghost use Rattle.std.specs.Prelude.{◌≡◌, IfOk, MatchResult, None, false};
 ghost use Rattle.clap.specs.Words.{app_of, found_of, rows_of, rule_of};
 ghost use Rattle.filter_programs.specs.HyphenateArguments.{IsRequest, columns_rule, count_rule};
-ghost use Rattle.filter_programs.specs.HyphenateArguments.{dictionary_rule, hyphenate_app, name_of};
-ghost use Rattle.filter_programs.specs.HyphenateArguments.{number_if_given};
+ghost use Rattle.filter_programs.specs.HyphenateArguments.{dictionary_rule, filling_of, hyphenate_app};
+ghost use Rattle.filter_programs.specs.HyphenateArguments.{name_of, number_if_given};
 
+use crate::hyphenate::texts::Filling;
 use clap::{Arg, ArgAction, ArgMatches, Command};
 use std::alloc::{AllocError, Global};
 use text_filters::arguments::{
@@ -23,6 +24,8 @@ Arguments:
 
 Options:
   -w, --width <N>     Fill the text at N columns, with hyphens; also -N
+      --least-cost    Choose the least ragged lines there, not as many words a line as fit
+      --breaks        Let lines end where Unicode lets them, not between blanks alone
       --left <N>      Keep N letters before a hyphen, not as many as the dictionary says
       --right <N>     Keep N letters behind a hyphen
       --soft-hyphens  Set hyphens at the soft hyphens alone of a word that has some
@@ -54,6 +57,10 @@ pub struct Request<'a> {
     /// The columns at which the paragraphs of a text are filled. Without them each line of the text is
     /// a word, and is hyphenated.
     pub width: Option<usize>,
+    /// Whether the lines of a filled text are the least ragged ones, and not by first fit.
+    pub least_cost: bool,
+    /// Whether they end where Unicode lets them, and not between blanks alone.
+    pub breaks: bool,
     /// How many letters stay before a hyphen, if not as many as the dictionary says.
     pub left: Option<usize>,
     /// How many letters stay behind a hyphen.
@@ -64,6 +71,20 @@ pub struct Request<'a> {
     pub quiet: bool,
     /// The inputs.
     pub inputs: Inputs<'a>,
+}
+
+impl Request<'_> {
+    /// How a text is filled, if there is a width.
+    pub fn filling(&self) -> Option<Filling>
+        ensures { result ≡ filling_of self.now }
+    {
+        let width = self.width?;
+        Some(Filling {
+            width,
+            least_cost: self.least_cost,
+            breaks: self.breaks,
+        })
+    }
 }
 
 /// An option whose value is a number.
@@ -80,6 +101,16 @@ pub(crate) fn command<'a>(alloc: Global) -> Result<Command<'a>, AllocError>
 {
     new_command(alloc, "hyphenate", ABOUT, EXAMPLES)
         .arg(columns_argument(alloc))?
+        .arg(flag(
+            alloc,
+            "least-cost",
+            "Choose the least ragged lines there, not as many words a line as fit",
+        ))?
+        .arg(flag(
+            alloc,
+            "breaks",
+            "Let lines end where Unicode lets them, not between blanks alone",
+        ))?
         .arg(count_argument(
             alloc,
             "left",
@@ -154,6 +185,8 @@ pub fn request_in<'m, 'a>(matches: &'m ArgMatches<'a>) -> Result<Request<'m>, Co
     Ok(Request {
         dictionary: value_of(matches, "DICTIONARY"),
         width,
+        least_cost: is_set(matches, "least-cost"),
+        breaks: is_set(matches, "breaks"),
         left,
         right,
         soft_hyphens: is_set(matches, "soft-hyphens"),

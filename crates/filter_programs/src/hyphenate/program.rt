@@ -107,7 +107,7 @@ fn serve_request<F: Files, R: ReadWhole, W: WriteWhole, M: WriteWhole>(
     let patterns = patterns.table().soft_hyphens(request.soft_hyphens);
     let said = say_changed(request, patterns.changed(), messages);
     let filter = Hyphenating {
-        width: request.width,
+        filling: request.filling(),
         patterns,
     };
     let run = Run {

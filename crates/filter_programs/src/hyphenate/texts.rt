@@ -1,39 +1,49 @@
 //! What texts become by a dictionary of hyphenation.
 ghost use Rattle.std.specs.Prelude.{◌≡◌, ◌++◌, IfOk, OnOk, string_bytes};
 ghost use Rattle.textwrap_words.specs.Cuts.{AreInnerCuts};
+ghost use Rattle.textwrap_layout.specs.Options.{settings_at};
 ghost use Rattle.textwrap_hyphens.specs.Table.{held};
-ghost use Rattle.filter_programs.specs.HyphenateTexts.{IsFilledWith, IsMade, hyphenated_at};
+ghost use Rattle.textwrap_plain.specs.Options.{plain_algorithm, plain_settings};
+ghost use Rattle.filter_programs.specs.HyphenateTexts.{IsFilledWith, IsMade, algorithm_by, hyphenated_at};
 ghost use Rattle.filter_programs.specs.HyphenateTexts.{hyphenated_word, hyphenated_words, hyphenating};
+ghost use Rattle.filter_programs.specs.HyphenateTexts.{separator_by};
 
 use std::alloc::{AllocError, Global};
 use text_filters::filter::{Filter, Made};
 use textwrap_hyphens::points::points;
 use textwrap_hyphens::table::PatternTable;
-use textwrap_layout::layout::Layout;
-use textwrap_layout::options::Options;
-use textwrap_lines::inner::fill_by;
-use textwrap_plain::Hyphenated;
-use textwrap_words::wrap_algorithms::WrapAlgorithm;
+use textwrap_plain::{BuiltInAlgorithm, PlainOptions, PlainSeparator, PlainSplitter, fill};
 
 /// What a text is hyphenated by.
 ///
-/// With a width its paragraphs are filled at so many columns by first fit, with hyphens at the points
-/// of the dictionary. Without one each of its lines is a word, and gets a hyphen `-` at each of its
-/// points: `hyphenation` becomes `hy-phen-ation` by the patterns `hy3ph`, `he2n`, `hena4`, `hen5at`,
-/// `1na`, `n2at`, `1tio`, `2io` and `o2n`. A line feed stands behind each word, also behind the last.
+/// If that is asked for, its paragraphs are filled, with hyphens at the points of the dictionary. If not,
+/// each of its lines is a word, and gets a hyphen `-` at each of its points: `hyphenation` becomes
+/// `hy-phen-ation` by the patterns `hy3ph`, `he2n`, `hena4`, `hen5at`, `1na`, `n2at`, `1tio`, `2io` and
+/// `o2n`. A line feed stands behind each word, also behind the last.
 #[derive(Clone, Copy)]
 pub struct Hyphenating<'p> {
-    /// The columns of a line, if the text is filled.
-    pub width: Option<usize>,
+    /// How the text is filled, if it is.
+    pub filling: Option<Filling>,
     /// The dictionary.
     pub patterns: PatternTable<'p>,
+}
+
+/// How a text is filled.
+#[derive(Clone, Copy)]
+pub struct Filling {
+    /// The columns of a line.
+    pub width: usize,
+    /// Whether the lines are the least ragged ones, and not by first fit.
+    pub least_cost: bool,
+    /// Whether lines end where Unicode lets them, and not between blanks alone.
+    pub breaks: bool,
 }
 
 impl Filter for Hyphenating<'_> {
     ghost work = { λ how. hyphenating how };
 
     fn filter(&self, alloc: Global, text: &str) -> Result<Made, AllocError> {
-        let text = made_by(alloc, text, self.width, &self.patterns)?;
+        let text = made_by(alloc, text, self.filling, &self.patterns)?;
         Ok(Made {
             text,
             applies: true,
@@ -41,40 +51,58 @@ impl Filter for Hyphenating<'_> {
     }
 }
 
-/// What a text becomes by a dictionary: filled, if there is a width, else its words with their
-/// hyphens.
+/// What a text becomes by a dictionary: filled, if that is asked for, else its words with their hyphens.
 fn made_by(
     alloc: Global,
     text: &str,
-    width: Option<usize>,
+    filling: Option<Filling>,
     patterns: &PatternTable<'_>,
 ) -> Result<String, AllocError>
-    ensures { IfOk result (λ made. IsMade width (held patterns.now) text.now (string_bytes made)) }
+    ensures { IfOk result (λ made. IsMade filling (held patterns.now) text.now (string_bytes made)) }
 {
-    match width {
-        Some(width) => filled(alloc, text, width, patterns),
+    match filling {
+        Some(how) => filled(alloc, text, how, patterns),
         None => hyphenated_words(alloc, text, patterns),
     }
 }
 
-/// The text, filled with hyphens by first fit.
+/// The text, filled with hyphens.
 fn filled(
     alloc: Global,
     text: &str,
-    width: usize,
+    how: Filling,
     patterns: &PatternTable<'_>,
 ) -> Result<String, AllocError>
-    ensures { IfOk result (λ filled. IsFilledWith width (held patterns.now) text.now
+    ensures { IfOk result (λ filled. IsFilledWith how (held patterns.now) text.now
         (string_bytes filled)) }
 {
-    let options = Options::new(width).wrap_algorithm(WrapAlgorithm::FirstFit);
-    let parts = Hyphenated {
-        parts: &options,
-        patterns,
-    };
-    match fill_by(alloc, text, Layout::of(&options), &parts) {
+    match fill(alloc, text, &filling_options(how, patterns)) {
         Ok(filled) => Ok(filled),
         Err(_) => Err(AllocError),
+    }
+}
+
+/// The options that fill a text so.
+fn filling_options<'p>(how: Filling, patterns: &PatternTable<'p>) -> PlainOptions<'p>
+    ensures settings { plain_settings result ≡ settings_at how.width }
+    ensures separator { result.word_separator ≡ separator_by how.breaks }
+    ensures splitter { result.word_splitter ≡ PlainSplitter.Dictionary patterns.now }
+    ensures algorithm { plain_algorithm result ≡ algorithm_by how.least_cost }
+{
+    let defaults = PlainOptions::new(how.width);
+    PlainOptions {
+        word_separator: if how.breaks {
+            defaults.word_separator
+        } else {
+            PlainSeparator::AtBlanks
+        },
+        word_splitter: PlainSplitter::Dictionary(*patterns),
+        wrap_algorithm: if how.least_cost {
+            defaults.wrap_algorithm
+        } else {
+            BuiltInAlgorithm::FirstFit
+        },
+        ..defaults
     }
 }
 

@@ -3,7 +3,8 @@ use Rattle.std.proofs.KnownBytes.{Keeps-refl}
 use Rattle.text_filters.specs.Program.{Serves, World}
 use Rattle.text_filters.specs.Streams.{faults_of}
 use Rattle.textwrap_hyphens.specs.Hyphenation.{Hyphenation}
-use Rattle.textwrap_hyphens.specs.Table.{patterns_view}
+use Rattle.textwrap_hyphens.specs.Table.{held, patterns_view}
+use Rattle.filter_programs.specs.HyphenateArguments.{filling_of}
 use Rattle.filter_programs.specs.HyphenateProgram.{SaysChanged, hyphenate_about}
 use Rattle.filter_programs.specs.HyphenateTexts.{hyphenating_by}
 use Rattle.filter_programs.proofs.hyphenate.program.serve_request.Goals as goal
@@ -39,8 +40,11 @@ returns g c =
       (Keeps-refl mid.unread, c.in-Ok.ensures.kept, Keeps-refl mid.output),
       subst (λ changed. SaysChanged faults.messages request changed old told c.say_changed-said.result)
           (c.changed.ensures ∙ ap (λ (h : Hyphenation). h.changed) is) c.say_changed-said.ensures,
-      subst (λ (h : Hyphenation). Serves faults hyphenate_about (hyphenating_by request.width h)
-          request.inputs mid new c.serve-ending.result) is c.serve-ending.ensures,
+      subst (λ (h : Hyphenation). Serves faults hyphenate_about (hyphenating_by (filling_of request) h)
+          request.inputs mid new c.serve-ending.result) is
+          (subst (λ filling. Serves faults hyphenate_about
+          (hyphenating_by filling (held c.soft_hyphens-patterns.result)) request.inputs mid new
+          c.serve-ending.result) c.filling.ensures c.serve-ending.ensures),
       ap (λ (said : Bool). record c.serve-ending.result { said = said }) (elim c.if-said.branch [
         | then-said w ↦ rw w.if-said.true w.result-is
         | else-said w ↦ rw w.if-said.false (w.result-is ∙ w.if-said.false)

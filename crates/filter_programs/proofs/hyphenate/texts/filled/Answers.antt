@@ -1,21 +1,26 @@
-use Rattle.std.proofs.Common.{rules, subst, string_bytes, ◌≡◌}
-use Rattle.textwrap_words.specs.WrapAlgorithms.{ByFirstFit}
-use Rattle.textwrap_hyphens.specs.Table.{held}
+use Rattle.std.proofs.Common.{subst, string_bytes}
 use Rattle.textwrap_layout.specs.Filling.{IsFilled}
-use Rattle.textwrap_layout.specs.Options.{layout_view, settings_at}
-use Rattle.textwrap_plain.proofs.Wrapping.{divides-under}
-use Rattle.textwrap_plain.specs.Hyphenated.{DividesHyphenatedUnder, HasPartsBeside}
+use Rattle.textwrap_layout.specs.Options.{Settings}
+use Rattle.textwrap_plain.specs.Options.{DividesFrom, plain_algorithm, plain_settings, points_by, words_by}
+use Rattle.textwrap_plain.specs.declared.options.PlainSeparator.{PlainSeparator}
+use Rattle.textwrap_plain.specs.declared.options.PlainSplitter.{PlainSplitter}
+use Rattle.textwrap_plain.specs.declared.options.PlainSplitter.TheVariants.{Dictionary}
+use Rattle.textwrap_words.specs.WrapAlgorithms.{Algorithm}
 use Rattle.filter_programs.proofs.hyphenate.texts.filled.Goals as goal
+use Rattle.filter_programs.specs.HyphenateTexts.{algorithm_by, separator_by}
 
 pub returns-in-Ok : goal.returns-in-Ok
 returns-in-Ok c =
-    let options = c.wrap_algorithm-options.result in
-    let h = held c.args.patterns.now in
-    let text = c.args.text.now in
-    let filled = string_bytes c.in-Ok.filled in
-    let parts : HasPartsBeside options ByFirstFit = search rules in
-    let settings : layout_view c.of.result ≡ settings_at c.args.width = search rules in
-    subst (λ Divides. IsFilled (settings_at c.args.width) Divides text filled)
-    (divides-under options h ByFirstFit parts (settings_at c.args.width))
-    (subst (λ s. IsFilled s (DividesHyphenatedUnder options h s) text filled) settings
-    c.in-Ok.ensures.filled)
+    let o = c.filling_options.result in
+    let how = c.args.how in
+    let options = c.filling_options.ensures in
+    let Filled : Settings → PlainSeparator → PlainSplitter → Algorithm → Type 0 = λ s separator splitter algorithm.
+    IsFilled s (DividesFrom (words_by separator) (points_by splitter) algorithm s) c.args.text.now
+    (string_bytes c.in-Ok.filled) in
+    subst (λ s. Filled s (separator_by how.breaks) (Dictionary c.args.patterns.now)
+    (algorithm_by how.least_cost)) options.settings
+    (subst (Filled (plain_settings o) (separator_by how.breaks)
+    (Dictionary c.args.patterns.now)) options.algorithm
+    (subst (λ p. Filled (plain_settings o) (separator_by how.breaks) p (plain_algorithm o)) options.splitter
+    (subst (λ w. Filled (plain_settings o) w o.word_splitter (plain_algorithm o)) options.separator
+    c.in-Ok.ensures.filled)))

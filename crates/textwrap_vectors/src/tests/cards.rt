@@ -109,19 +109,11 @@ const VERSES_BY_PENALTY: &[(usize, [usize; 2], u128)] = &[
 ];
 
 /// Three verses, of which the second leads on.
+#[rattlefmt::skip]
 const POEM: [Verse; 3] = [
-    Verse {
-        width: 4,
-        leads_on: false,
-    },
-    Verse {
-        width: 4,
-        leads_on: true,
-    },
-    Verse {
-        width: 4,
-        leads_on: false,
-    },
+    Verse { width: 4, leads_on: false },
+    Verse { width: 4, leads_on: true },
+    Verse { width: 4, leads_on: false },
 ];
 
 /// A break penalty may depend on the penalties. The usual hyphen penalty counts for none of these,

@@ -70,11 +70,8 @@ const CUT_IN_MIDDLE: Rows<'_> = &[
 
 const CUT_NOWHERE: Rows<'_> = &[("foo bar", 5, "foo b|ar|")];
 
-const CUT_EVERYWHERE: Rows<'_> = &[
-    ("añb", 1, "a|ñ|b|"),
-    ("a안b", 2, "a|안|b|"),
-    ("안 b", 3, "안| b|"),
-];
+#[rattlefmt::skip]
+const CUT_EVERYWHERE: Rows<'_> = &[("añb", 1, "a|ñ|b|"), ("a안b", 2, "a|안|b|"), ("안 b", 3, "안| b|")];
 
 /// Asserts that the texts have these lines if they are cut into words here.
 fn assert_cut(rt: &(impl Abort + AllocGlobal), line_cuts: LineCuts, rows: Rows<'_>) {

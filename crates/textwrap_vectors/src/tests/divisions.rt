@@ -43,12 +43,8 @@ pub(super) const FALLING: &[Block] = &[
 ];
 
 /// Four fragments of five columns.
-const FIVES: &[Block] = &[
-    Block(5, 0, 0),
-    Block(5, 0, 0),
-    Block(5, 0, 0),
-    Block(5, 0, 0),
-];
+#[rattlefmt::skip]
+const FIVES: &[Block] = &[Block(5, 0, 0), Block(5, 0, 0), Block(5, 0, 0), Block(5, 0, 0)];
 
 const MAX: usize = usize::MAX;
 

@@ -44,16 +44,13 @@ const FILLED_AT_ENDS: &[FilledAtEnds<'_>] = &[
     ("a b", "  ", "", ["  a\nb", "  a\nb", "  a b", "  a b"], ["  \na\nb", "  \na\nb", "  a b", "  a b"]),
     ("foo bar", "* ", "- ", ["* f\n- o\n- o\n- b\n- a\n- r", "* f\n- o\n- o\n- b\n- a\n- r", "* foo bar", "* foo bar"],
         ["* \n- f\n- o\n- o\n- b\n- a\n- r", "* \n- f\n- o\n- o\n- b\n- a\n- r", "* foo bar", "* foo bar"]),
-    ("a\n\nb c", "", "> ", ["a\n\n> b\n> c", "a\n\n> b\n> c", "a\n\n> b c", "a\n\n> b c"],
-        ["a\n\n> b\n> c", "a\n\n> b\n> c", "a\n\n> b c", "a\n\n> b c"]),
+    ("a\n\nb c", "", "> ", ["a\n\n> b\n> c", "a\n\n> b\n> c", "a\n\n> b c", "a\n\n> b c"], ["a\n\n> b\n> c", "a\n\n> b\n> c", "a\n\n> b c", "a\n\n> b c"]),
     // Characters without columns begin a piece where the character before them fills the line.
-    ("a\u{301}b", "", "", ["a\n\u{301}b", "a\u{301}\nb", "a\u{301}b", "a\u{301}b"],
-        ["a\n\u{301}b", "a\u{301}\nb", "a\u{301}b", "a\u{301}b"]),
+    ("a\u{301}b", "", "", ["a\n\u{301}b", "a\u{301}\nb", "a\u{301}b", "a\u{301}b"], ["a\n\u{301}b", "a\u{301}\nb", "a\u{301}b", "a\u{301}b"]),
     ("あ\u{301}", "", "", ["あ\u{301}"; 4], ["あ\n\u{301}", "あ\n\u{301}", "あ\u{301}", "あ\u{301}"]),
     ("\u{301}\u{301}\u{301}", "", "", ["\u{301}\u{301}\u{301}"; 4], ["\u{301}\u{301}\u{301}"; 4]),
     // Indents of escape sequences have no columns.
-    ("ab c", "\x1b[1m", "\x1b[0m",
-        ["\x1b[1ma\n\x1b[0mb\n\x1b[0mc", "\x1b[1ma\n\x1b[0mb\n\x1b[0mc", "\x1b[1mab c", "\x1b[1mab c"],
+    ("ab c", "\x1b[1m", "\x1b[0m", ["\x1b[1ma\n\x1b[0mb\n\x1b[0mc", "\x1b[1ma\n\x1b[0mb\n\x1b[0mc", "\x1b[1mab c", "\x1b[1mab c"],
         ["\x1b[1m\n\x1b[0ma\n\x1b[0mb\n\x1b[0mc", "\x1b[1ma\n\x1b[0mb\n\x1b[0mc", "\x1b[1mab c", "\x1b[1mab c"]),
 ];
 

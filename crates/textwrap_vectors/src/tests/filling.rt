@@ -33,8 +33,7 @@ const FILLED: &[(&str, usize, Layout<'_>, &str)] = &[
     // Once a line is out, the first line of a paragraph is divided for the width that the initial
     // indent leaves, and where paragraphs are to be even, for the one that its own indent leaves.
     ("aaa\nbbb ccc", 7, Layout { subsequent_indent: "    ", ..OPTIMAL_FIT }, "aaa\n    bbb ccc"),
-    ("aaa\nbbb ccc", 7, Layout { subsequent_indent: "    ", even_paragraphs: true, ..OPTIMAL_FIT },
-        "aaa\n    bbb\n    ccc"),
+    ("aaa\nbbb ccc", 7, Layout { subsequent_indent: "    ", even_paragraphs: true, ..OPTIMAL_FIT }, "aaa\n    bbb\n    ccc"),
     ("a\n\nb", 10, Layout { subsequent_indent: "> ", ..OPTIMAL_FIT }, "a\n\n> b"),
     ("a\n\nb", 10, Layout { subsequent_indent: "> ", even_paragraphs: true, ..OPTIMAL_FIT }, "a\n\n> b"),
 ];
@@ -63,26 +62,9 @@ const GREAT: Penalties = Penalties {
     ..PENALTIES
 };
 
+#[rattlefmt::skip]
 const WIDTHS: &[usize] = &[
-    0,
-    1,
-    2,
-    3,
-    4,
-    5,
-    6,
-    7,
-    8,
-    9,
-    10,
-    11,
-    12,
-    13,
-    20,
-    31,
-    50,
-    80,
-    usize::MAX,
+    0, 1, 2, 3, 4, 5, 6, 7, 8, 9, 10, 11, 12, 13, 20, 31, 50, 80, usize::MAX,
 ];
 
 const ALL_PENALTIES: &[Option<Penalties>] = &[None, Some(PENALTIES), Some(ODD), Some(GREAT)];

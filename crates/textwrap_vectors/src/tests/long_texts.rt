@@ -76,8 +76,7 @@ const ROWS: &[Row<'_>] = &[
     ("line feeds wrapped", Wrap(80, OPTIMAL_FIT), NONE, LINE_FEEDS, ("", "|", LINE_ENDINGS + 1, "", 1, "")),
     ("line feeds filled", Fill(80, OPTIMAL_FIT), NONE, LINE_FEEDS, LINE_FEEDS),
     ("line feeds in place", FillInplace(80), NONE, LINE_FEEDS, LINE_FEEDS),
-    ("line feeds in a column", Columns(1, 1, OPTIMAL_FIT, "", "", ""), NONE, LINE_FEEDS,
-        ("", " \n", LINE_ENDINGS + 1, "", 1, "")),
+    ("line feeds in a column", Columns(1, 1, OPTIMAL_FIT, "", "", ""), NONE, LINE_FEEDS, ("", " \n", LINE_ENDINGS + 1, "", 1, "")),
     // Empty lines are nothing to fill again. They get the indent without its blank, and lose
     // nothing.
     ("line feeds refilled", Refill(80, OPTIMAL_FIT), NONE, LINE_FEEDS, EMPTY),
@@ -102,8 +101,7 @@ const ROWS: &[Row<'_>] = &[
     ("words refilled", Refill(8, OPTIMAL_FIT), NONE, LINES_OF_WORDS, LINES_OF_WORDS),
     ("words alone", Append(8, OPTIMAL_FIT), NONE, ("", "ab\n", WORDS - 1, "", 1, "ab"), ("", "ab|", WORDS, "", 1, "")),
     // No line follows the last two words.
-    ("words in place", FillInplace(7), NONE, ("", "abc ", 100_000, "", 1, ""),
-        ("", "abc abc\n", 49_999, "", 1, "abc abc ")),
+    ("words in place", FillInplace(7), NONE, ("", "abc ", 100_000, "", 1, ""), ("", "abc abc\n", 49_999, "", 1, "abc abc ")),
     // Each paragraph has its lines.
     ("paragraphs wrapped", Wrap(10, FIRST_FIT), NONE, PARAGRAPHS, ("", "To be,\tor|not\r|to be||", 300, "", 1, "|")),
     ("paragraphs filled", Fill(10, FIRST_FIT), NONE, PARAGRAPHS, ("", "To be,\tor\nnot\r\nto be\n\n", 300, "", 1, "")),
@@ -112,15 +110,12 @@ const ROWS: &[Row<'_>] = &[
     ("long indents", Fill(10_002, OPTIMAL_FIT), LONG_QUOTE, ("", "ab ", 49, "", 1, "ab"), QUOTED),
     ("a long margin", Dedent, NONE, ("", " ", 5000, "ab\n", 50, ""), ("", "ab\n", 50, "", 1, "")),
     // A word with many points is split at those where a line is full.
-    ("points filled", Fill(8, OPTIMAL_FIT), NONE, ("", "a-", 20_000, "", 1, ""),
-        ("", "a-a-a-a-\n", 4_999, "", 1, "a-a-a-a-")),
+    ("points filled", Fill(8, OPTIMAL_FIT), NONE, ("", "a-", 20_000, "", 1, ""), ("", "a-a-a-a-\n", 4_999, "", 1, "a-a-a-a-")),
     // Many escape sequences.
     ("sequences stripped", Strip, NONE, ("", "a\x1b[1m", 20_000, "", 1, ""), ("", "a", 20_000, "", 1, "")),
     // Many columns of many lines, and a wide one.
-    ("a large table", Columns(200, 401, OPTIMAL_FIT, "|", "|", "|"), NONE, ("", "a\n", 200 * 200 - 1, "", 1, "a"),
-        ("", "|a", 200, "|\n", 200, "")),
-    ("a letter in a wide column", Columns(1, 100_000, OPTIMAL_FIT, "", "", ""), NONE, ("a", "", 0, "", 1, ""),
-        ("a", " ", 99_999, "", 1, "\n")),
+    ("a large table", Columns(200, 401, OPTIMAL_FIT, "|", "|", "|"), NONE, ("", "a\n", 200 * 200 - 1, "", 1, "a"), ("", "|a", 200, "|\n", 200, "")),
+    ("a letter in a wide column", Columns(1, 100_000, OPTIMAL_FIT, "", "", ""), NONE, ("a", "", 0, "", 1, ""), ("a", " ", 99_999, "", 1, "\n")),
 ];
 
 /// The call with this indent, before the first line and each later one, or as what is found before

@@ -158,18 +158,10 @@ const ENDED: Word<'_> = Word {
 };
 
 /// Its pieces of two columns, and what is given after the last.
+#[rattlefmt::skip]
 const PIECES: [Option<Word<'_>>; 4] = [
-    Some(Word {
-        word: "ab",
-        whitespace: "",
-        penalty: "",
-        width: 2,
-    }),
-    Some(Word {
-        word: "cd",
-        width: 2,
-        ..ENDED
-    }),
+    Some(Word { word: "ab", whitespace: "", penalty: "", width: 2 }),
+    Some(Word { word: "cd", width: 2, ..ENDED }),
     None,
     None,
 ];

@@ -67,16 +67,10 @@ fn is_filled_once(
     is_text(filled_twice(alloc, text, first, second), &once)
 }
 
+#[rattlefmt::skip]
 const PLAIN_TEXTS: &[&str] = &[
-    "",
-    "a",
-    "aa bb cc dd",
-    "one two three four five six seven",
-    "To be, or not to be: that is the question",
-    "well-known facts, no other words",
-    "a bb ccc dddd eeeee ffffff ggggggg",
-    "안녕 하세요 안녕하세요",
-    "x\ty z",
+    "", "a", "aa bb cc dd", "one two three four five six seven", "To be, or not to be: that is the question",
+    "well-known facts, no other words", "a bb ccc dddd eeeee ffffff ggggggg", "안녕 하세요 안녕하세요", "x\ty z",
     "averyveryverylongword and some others",
 ];
 

@@ -92,8 +92,7 @@ const INDENTED_FIRST_FIT: Layout<'_> = Layout {
 #[rattlefmt::skip]
 const ON_TEXTS: &[(Given<'_>, usize)] = &[
     // What gives lines.
-    (Given(Wrap(10, INDENTED_FIRST_FIT), TEXT,
-            "+* To be,|+  or not|+  to be:|+  that is|+  the|+  question|+  Hamlet|"), 11),
+    (Given(Wrap(10, INDENTED_FIRST_FIT), TEXT, "+* To be,|+  or not|+  to be:|+  that is|+  the|+  question|+  Hamlet|"), 11),
     // Without indents nothing is allocated but the list of lines.
     (Given(Wrap(5, FIRST_FIT), PARAGRAPHS, "foo|bar|é foo|fooba|rbaz|"), 2),
     (Given(Wrap(10, INDENTED), TEXT, "+* To be,|+  or not|+  to be:|+  that|+  is the|+  question|+  Hamlet|"), 21),
@@ -110,8 +109,7 @@ const ON_TEXTS: &[(Given<'_>, usize)] = &[
     (Given(Dedent, "  foo\n    bar\n\n   baz\n", "foo\n  bar\n\n baz\n"), 1),
     (Given(Unfill(5, "* ", "  ", LineEnding::LF), "* foo\n  bar\n  baz\n", "foo bar baz\n"), 1),
     (Given(Refill(10, INDENTED), "* foo\n  bar\n", "* foo bar\n"), 7),
-    (Given(Columns(2, 24, OPTIMAL_FIT, "|", "|", "|"), TEXT,
-            "|To be,    |is the     |\n|or not to |question   |\n|be: that  |Hamlet     |\n"), 13),
+    (Given(Columns(2, 24, OPTIMAL_FIT, "|", "|", "|"), TEXT, "|To be,    |is the     |\n|or not to |question   |\n|be: that  |Hamlet     |\n"), 13),
     (Given(Strip, "To be, \x1b[1mor not to be", "To be, or not to be"), 3),
 ];
 
@@ -165,11 +163,7 @@ const AT_HYPHENS: &[Word<'_>] = &[
 
 /// The pieces at the points of a caller: there `foo` gets a hyphen if it ends its line.
 #[rattlefmt::skip]
-const IN_MIDDLE: &[Word<'_>] = &[
-    LETTERS,
-    Word { word: "foo", penalty: "-", ..THREE },
-    THREE,
-];
+const IN_MIDDLE: &[Word<'_>] = &[LETTERS, Word { word: "foo", penalty: "-", ..THREE }, THREE];
 
 /// A call on words.
 enum OnWords {
@@ -263,12 +257,8 @@ enum OnLines {
 }
 
 /// A word of three columns and a blank, nine times.
-const NINE: [Word<'_>; 9] = [Word {
-    word: "abc",
-    whitespace: " ",
-    penalty: "",
-    width: 3,
-}; 9];
+#[rattlefmt::skip]
+const NINE: [Word<'_>; 9] = [Word { word: "abc", whitespace: " ", penalty: "", width: 3 }; 9];
 
 /// Widths by which the table is asked.
 const WIDTHS: &[usize] = &[7, 3, 7];

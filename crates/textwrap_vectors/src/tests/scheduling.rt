@@ -91,21 +91,14 @@ const PLANS: &[(usize, &[Row<'_>], Plan<'_>)] = &[
         (7, &["Floors", "Countertops"]),
         (4, &["Bathrooms"]),
     ]),
-    (16, HOUSE, &[
-        (14, &["Foundation", "Framing", "Plumbing"]),
-        (15, &["Electrical", "Insulation", "Drywall", "Floors"]),
-        (6, &["Countertops", "Bathrooms"]),
-    ]),
+    (16, HOUSE, &[(14, &["Foundation", "Framing", "Plumbing"]), (15, &["Electrical", "Insulation", "Drywall", "Floors"]), (6, &["Countertops", "Bathrooms"])]),
     // No tasks give one day of 0 hours, and not no day.
     (8, &[], &[(0, &[])]),
     // A day takes its first task in any case: one that is longer than the day is there alone, with
     // all its hours, also where they pass 64 bits.
     (8, &[("a", 2, 1, 1), ("b", 10, 1, 2), ("c", 2, 1, 1)], &[(3, &["a"]), (12, &["b"]), (3, &["c"])]),
     (0, &[("a", 1, 0, 0), ("b", 0, 0, 1), ("c", 1, 1, 1)], &[(1, &["a"]), (1, &["b"]), (2, &["c"])]),
-    (MAX, &[("a", MAX, MAX, MAX), ("b", MAX, MAX, MAX)], &[
-        (36_893_488_147_419_103_230, &["a"]),
-        (36_893_488_147_419_103_230, &["b"]),
-    ]),
+    (MAX, &[("a", MAX, MAX, MAX), ("b", MAX, MAX, MAX)], &[(36_893_488_147_419_103_230, &["a"]), (36_893_488_147_419_103_230, &["b"])]),
     // A day may have any number of hours, and so may a task: a day is full to its last hour, and
     // sums do not come back to 0.
     (0, &[("a", 0, 0, 0), ("b", 0, 0, 0)], &[(0, &["a", "b"])]),

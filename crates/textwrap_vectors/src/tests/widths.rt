@@ -5,14 +5,12 @@ use super::texts::Call::Strip;
 use super::texts::assert_gives;
 use textwrap::words::{Fragment, Word};
 
+#[rattlefmt::skip]
 const WIDTHS: &[(&str, usize)] = &[
     ("", 0),
     ("Café Plain", 10),
     ("\u{1b}[31mCafé Rouge\u{1b}[0m", 10),
-    (
-        "\u{1b}]8;;http://example.com\u{1b}\\This is a link\u{1b}]8;;\u{1b}\\",
-        14,
-    ),
+    ("\u{1b}]8;;http://example.com\u{1b}\\This is a link\u{1b}]8;;\u{1b}\\", 14),
     ("\u{1b}[12", 0),
     ("a\u{1b}", 1),
     ("\u{1b}\u{1b}[31m", 4),
@@ -40,14 +38,12 @@ fn only_visible_characters_have_columns(rt: HostRuntime) {
     }
 }
 
+#[rattlefmt::skip]
 const VISIBLE_TEXTS: &[(&str, &str)] = &[
     ("", ""),
     ("Café  Plain", "Café  Plain"),
     ("a\u{1b}[1mb", "ab"),
-    (
-        "\u{1b}]8;;http://example.com\u{1b}\\This is a link\u{1b}]8;;\u{1b}\\",
-        "This is a link",
-    ),
+    ("\u{1b}]8;;http://example.com\u{1b}\\This is a link\u{1b}]8;;\u{1b}\\", "This is a link"),
     ("\u{1b}[12", ""),
     ("a\u{1b}", "a"),
     ("\u{1b}\u{1b}[31m", "[31m"),

@@ -22,13 +22,11 @@ const WRAPPED: &[(&str, usize, Layout<'_>, &str)] = &[
     // whose last lines start earliest. A paragraph with fewer bytes than the width has columns is
     // one line.
     ("textwrap: a small library for wrapping text.", 18, OPTIMAL_FIT, "textwrap: a|small library for|wrapping text.|"),
-    ("textwrap: an efficient and powerful library for wrapping text.", 28, OPTIMAL_FIT,
-        "textwrap: an efficient|and powerful library for|wrapping text.|"),
+    ("textwrap: an efficient and powerful library for wrapping text.", 28, OPTIMAL_FIT, "textwrap: an efficient|and powerful library for|wrapping text.|"),
     ("To be, or not to be: that is the question", 10, OPTIMAL_FIT, "To be,|or not to|be: that|is the|question|"),
-    ("This is a demo of the short last line penalty.", 37, OPTIMAL_FIT,
-        "This is a demo of the short last|line penalty.|"),
-    ("This is a demo of the short last line penalty.", 37, Layout { penalties: Some(LONG_LAST_LINE), ..OPTIMAL_FIT },
-        "This is a demo of the short last line|penalty.|"),
+    ("This is a demo of the short last line penalty.", 37, OPTIMAL_FIT, "This is a demo of the short last|line penalty.|"),
+    ("This is a demo of the short last line penalty.", 37,
+        Layout { penalties: Some(LONG_LAST_LINE), ..OPTIMAL_FIT }, "This is a demo of the short last line|penalty.|"),
     ("", 0, OPTIMAL_FIT, "|"),
     ("", 10, OPTIMAL_FIT, "|"),
     ("foo     bar     baz  ", 5, OPTIMAL_FIT, "foo|bar|baz|"),
@@ -59,19 +57,15 @@ const WRAPPED: &[(&str, usize, Layout<'_>, &str)] = &[
     ("foo  ", 10, Layout { preserve_trailing_space: true, ..OPTIMAL_FIT }, "foo  |"),
     // Paragraphs end at the chosen ending alone.
     ("a\r\nb\nc", 10, Layout { line_ending: LineEnding::CRLF, ..OPTIMAL_FIT }, "a|b\nc|"),
-    ("a\r\nb\nc", 10, Layout { line_ending: LineEnding::CRLF, preserve_trailing_space: true, ..OPTIMAL_FIT },
-        "a|b\nc|"),
+    ("a\r\nb\nc", 10, Layout { line_ending: LineEnding::CRLF, preserve_trailing_space: true, ..OPTIMAL_FIT }, "a|b\nc|"),
     // The first line has the initial indent, and each later one with pieces the subsequent one; a
     // line to which nothing was added is borrowed.
     ("", 10, Layout { initial_indent: "!!!", subsequent_indent: "", ..OPTIMAL_FIT }, "+!!!|"),
     ("foobarbaz", 5, Layout { initial_indent: "-->", subsequent_indent: "", ..OPTIMAL_FIT }, "+-->|fooba|rbaz|"),
     ("foobarbaz", 5, Layout { initial_indent: "* ", subsequent_indent: "  ", ..OPTIMAL_FIT }, "+* foo|+  bar|+  baz|"),
-    ("This is a little example.", 12, Layout { initial_indent: "* ", subsequent_indent: "  ", ..OPTIMAL_FIT },
-        "+* This is|+  a little|+  example.|"),
-    ("x x x x x x x x x x x x x", 10, Layout { initial_indent: "👉👉", subsequent_indent: "", ..OPTIMAL_FIT },
-        "+👉👉x x x|x x x x x|x x x x x|"),
-    ("Wrapping text all day long.", 15, Layout { initial_indent: "", subsequent_indent: "....", ..OPTIMAL_FIT },
-        "Wrapping text|+....all day|+....long.|"),
+    ("This is a little example.", 12, Layout { initial_indent: "* ", subsequent_indent: "  ", ..OPTIMAL_FIT }, "+* This is|+  a little|+  example.|"),
+    ("x x x x x x x x x x x x x", 10, Layout { initial_indent: "👉👉", subsequent_indent: "", ..OPTIMAL_FIT }, "+👉👉x x x|x x x x x|x x x x x|"),
+    ("Wrapping text all day long.", 15, Layout { initial_indent: "", subsequent_indent: "....", ..OPTIMAL_FIT }, "Wrapping text|+....all day|+....long.|"),
     ("a\n\nb", 10, Layout { initial_indent: "", subsequent_indent: "> ", ..OPTIMAL_FIT }, "a||+> b|"),
     ("aaa\nbbb ccc", 7, Layout { initial_indent: "", subsequent_indent: "    ", ..OPTIMAL_FIT }, "aaa|+    bbb ccc|"),
 ];

@@ -39,18 +39,14 @@ type Row = (
 /// With these patterns.
 #[rattlefmt::skip]
 const HYPHENATED: &[Row] = &[
-    ("a narrow column", COLUMN, 10, ("", ""),
-        "Zeilenum-\nbruch und\nSilben-\ntrennung\nin schma-\nlen Spal-\nten",
+    ("a narrow column", COLUMN, 10, ("", ""), "Zeilenum-\nbruch und\nSilben-\ntrennung\nin schma-\nlen Spal-\nten",
         "Zeilen-\numbruch\nund Sil-\nbentren-\nnung in\nschmalen\nSpalten"),
-    ("as narrow, with indents", COLUMN, 12, ("* ", "  "),
-        "* Zeilenum-\n  bruch und\n  Silben-\n  trennung\n  in schma-\n  len Spal-\n  ten",
+    ("as narrow, with indents", COLUMN, 12, ("* ", "  "), "* Zeilenum-\n  bruch und\n  Silben-\n  trennung\n  in schma-\n  len Spal-\n  ten",
         "* Zeilen-\n  umbruch\n  und Sil-\n  bentren-\n  nung in\n  schmalen\n  Spalten"),
-    ("each paragraph for itself", "Zeilen\nZeilen", 4, ("", ""), "Zei-\nlen\nZei-\nlen",
-        "Zei-\nlen\nZei-\nlen"),
-    ("behind a hyphen of the word a line may end, and none is added", "ein Zeilen-Spalten", 11, ("", ""),
-        "ein Zeilen-\nSpalten", "ein Zeilen-\nSpalten"),
-    ("the parts of such a word are left whole, and broken", "Silbentrennung-Silbentrennung", 10, ("", ""),
-        "Silbentren\nnung-\nSilbentren\nnung", "Silbentren\nnung-\nSilbentren\nnung"),
+    ("each paragraph for itself", "Zeilen\nZeilen", 4, ("", ""), "Zei-\nlen\nZei-\nlen", "Zei-\nlen\nZei-\nlen"),
+    ("behind a hyphen of the word a line may end, and none is added", "ein Zeilen-Spalten", 11, ("", ""), "ein Zeilen-\nSpalten", "ein Zeilen-\nSpalten"),
+    ("the parts of such a word are left whole, and broken", "Silbentrennung-Silbentrennung", 10,
+        ("", ""), "Silbentren\nnung-\nSilbentren\nnung", "Silbentren\nnung-\nSilbentren\nnung"),
     ("a hyphen U+2010 is no point", "Silbentrennung\u{2010}Silbentrennung", 10, ("", ""),
         "Silbentren\nnung\u{2010}Silbe\nntrennung", "Silbentren\nnung\u{2010}Silbe\nntrennung"),
     ("nor is one before a word", "--Zeilen", 5, ("", ""), "--Zei\nlen", "--Zei\nlen"),
@@ -72,12 +68,9 @@ const WHOLE: Row = (
 #[rattlefmt::skip]
 const IN_PARTS: &[Row] = &[
     ("the parts of a word with a hyphen are hyphenated if asked", "Silbentrennung-Silbentrennung", 10,
-        ("", ""),
-        "Silben-\ntrennung-\nSilben-\ntrennung", "Silben-\ntrennung-\nSilben-\ntrennung"),
-    ("so are those beside U+2010, which is no point", "Silbentrennung\u{2010}Silbentrennung", 10,
-        ("", ""),
-        "Silben-\ntren-\nnung\u{2010}Sil-\nbentren-\nnung",
-        "Silben-\ntren-\nnung\u{2010}Sil-\nbentren-\nnung"),
+        ("", ""), "Silben-\ntrennung-\nSilben-\ntrennung", "Silben-\ntrennung-\nSilben-\ntrennung"),
+    ("so are those beside U+2010, which is no point", "Silbentrennung\u{2010}Silbentrennung", 10, ("", ""),
+        "Silben-\ntren-\nnung\u{2010}Sil-\nbentren-\nnung", "Silben-\ntren-\nnung\u{2010}Sil-\nbentren-\nnung"),
 ];
 
 /// A link whose text is `Zeilen`.
@@ -90,16 +83,12 @@ const HYPHEN_LINK: &str = "\u{1b}]8;;https://a-b.de/\u{1b}\\Zeilen\u{1b}]8;;\u{1
 #[rattlefmt::skip]
 const LINKS: &[Row] = &[
     ("an address has no columns, and no line ends in it", LINK, 4, ("", ""),
-        "\u{1b}]8;;https://ab.de/\u{1b}\\Zei-\nlen\u{1b}]8;;\u{1b}\\",
-        "\u{1b}]8;;https://ab.de/\u{1b}\\Zei-\nlen\u{1b}]8;;\u{1b}\\"),
+        "\u{1b}]8;;https://ab.de/\u{1b}\\Zei-\nlen\u{1b}]8;;\u{1b}\\", "\u{1b}]8;;https://ab.de/\u{1b}\\Zei-\nlen\u{1b}]8;;\u{1b}\\"),
     ("but a hyphen in it is a point, and what is behind that has columns", HYPHEN_LINK, 10, ("", ""),
-        "\u{1b}]8;;https://a-b.de/\u{1b}\\Zei-\nlen\u{1b}]8;;\u{1b}\\",
-        "\u{1b}]8;;https://a-b.de/\u{1b}\\Zei-\nlen\u{1b}]8;;\u{1b}\\"),
-    ("so a line may end in it", HYPHEN_LINK, 4, ("", ""),
-        "\u{1b}]8;;https://a-b.de\n/\u{1b}\\Zei-\nlen\u{1b}]8;;\u{1b}\\",
+        "\u{1b}]8;;https://a-b.de/\u{1b}\\Zei-\nlen\u{1b}]8;;\u{1b}\\", "\u{1b}]8;;https://a-b.de/\u{1b}\\Zei-\nlen\u{1b}]8;;\u{1b}\\"),
+    ("so a line may end in it", HYPHEN_LINK, 4, ("", ""), "\u{1b}]8;;https://a-b.de\n/\u{1b}\\Zei-\nlen\u{1b}]8;;\u{1b}\\",
         "\u{1b}]8;;https://a-b.de\n/\u{1b}\\Zei-\nlen\u{1b}]8;;\u{1b}\\"),
-    ("also right behind the hyphen", HYPHEN_LINK, 8, ("", ""),
-        "\u{1b}]8;;https://a-\nb.de/\u{1b}\\Zei-\nlen\u{1b}]8;;\u{1b}\\",
+    ("also right behind the hyphen", HYPHEN_LINK, 8, ("", ""), "\u{1b}]8;;https://a-\nb.de/\u{1b}\\Zei-\nlen\u{1b}]8;;\u{1b}\\",
         "\u{1b}]8;;https://a-b.de/\u{1b}\\Zei-\nlen\u{1b}]8;;\u{1b}\\"),
 ];
 
@@ -107,11 +96,9 @@ const LINKS: &[Row] = &[
 #[rattlefmt::skip]
 const PLAIN_LINKS: &[Row] = &[
     ("an address has no columns, and no line ends in it", LINK, 4, ("", ""),
-        "\u{1b}]8;;https://ab.de/\u{1b}\\Zeil\nen\u{1b}]8;;\u{1b}\\",
-        "\u{1b}]8;;https://ab.de/\u{1b}\\Zeil\nen\u{1b}]8;;\u{1b}\\"),
+        "\u{1b}]8;;https://ab.de/\u{1b}\\Zeil\nen\u{1b}]8;;\u{1b}\\", "\u{1b}]8;;https://ab.de/\u{1b}\\Zeil\nen\u{1b}]8;;\u{1b}\\"),
     ("but a hyphen in it is a point, and what is behind that has columns", HYPHEN_LINK, 10, ("", ""),
-        "\u{1b}]8;;https://a-b.de/\u{1b}\\Zeile\nn\u{1b}]8;;\u{1b}\\",
-        "\u{1b}]8;;https://a-b.de/\u{1b}\\Zeile\nn\u{1b}]8;;\u{1b}\\"),
+        "\u{1b}]8;;https://a-b.de/\u{1b}\\Zeile\nn\u{1b}]8;;\u{1b}\\", "\u{1b}]8;;https://a-b.de/\u{1b}\\Zeile\nn\u{1b}]8;;\u{1b}\\"),
 ];
 
 /// With these patterns, filled again, whatever the indents of the options are.
@@ -120,14 +107,11 @@ const REFILLED: &[Row] = &[
     ("a comment", "// Zeilenumbruch\n// und Silbentrennung\n// in schmalen\n// Spalten\n", 13, ("* ", "  "),
         "// Zeilenum-\n// bruch und\n// Silben-\n// trennung\n// in schma-\n// len Spal-\n// ten\n",
         "// Zeilen-\n// umbruch\n// und Sil-\n// bentren-\n// nung in\n// schmalen\n// Spalten\n"),
-    ("the first line has an indent of its own", "- Zeilen\n  Zeilen", 6, ("", ""),
-        "- Zei-\n  len\n  Zei-\n  len", "- Zei-\n  len\n  Zei-\n  len"),
-    ("the ending of the options stands in the place of that of the text", "Zeilen\r\nZeilen\r\n", 4, ("", ""),
-        "Zei-\nlen\nZei-\nlen\n", "Zei-\nlen\nZei-\nlen\n"),
-    ("a text that ends in another ending than that of its lines ends in none", "Zeilen\r\n\n", 4, ("", ""),
-        "Zei-\nlen", "Zei-\nlen"),
-    ("a hyphen at the end of a line stays, and a blank behind it", "Zei-\nlen\n", 10, ("", ""),
-        "Zei- len\n", "Zei- len\n"),
+    ("the first line has an indent of its own", "- Zeilen\n  Zeilen", 6, ("", ""), "- Zei-\n  len\n  Zei-\n  len", "- Zei-\n  len\n  Zei-\n  len"),
+    ("the ending of the options stands in the place of that of the text",
+        "Zeilen\r\nZeilen\r\n", 4, ("", ""), "Zei-\nlen\nZei-\nlen\n", "Zei-\nlen\nZei-\nlen\n"),
+    ("a text that ends in another ending than that of its lines ends in none", "Zeilen\r\n\n", 4, ("", ""), "Zei-\nlen", "Zei-\nlen"),
+    ("a hyphen at the end of a line stays, and a blank behind it", "Zei-\nlen\n", 10, ("", ""), "Zei- len\n", "Zei- len\n"),
     ("a text of empty lines is empty", "\n\n", 10, ("", ""), "", ""),
 ];
 
@@ -321,11 +305,9 @@ fn only_hyphenated_lines_are_copied(rt: HostRuntime) -> Result<(), AllocError> {
 }
 
 /// The text in two narrow columns.
+#[rattlefmt::skip]
 const ROWS: &[&str] = &[
-    "Zeilenum- |in schma- ",
-    "bruch und |len Spal- ",
-    "Silben-   |ten       ",
-    "trennung  |          ",
+    "Zeilenum- |in schma- ", "bruch und |len Spal- ", "Silben-   |ten       ", "trennung  |          ",
 ];
 
 #[test]

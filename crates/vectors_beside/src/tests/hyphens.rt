@@ -12,19 +12,12 @@ use textwrap_patterns::written::{exception, pattern};
 use textwrap_vectors::heap::Heap;
 
 /// The patterns of Liang's thesis that stand in `hyphenation`.
-const LIANG: [&str; 9] = [
-    "hy3ph", "he2n", "hena4", "hen5at", "1na", "n2at", "1tio", "2io", "o2n",
-];
+#[rattlefmt::skip]
+const LIANG: [&str; 9] = ["hy3ph", "he2n", "hena4", "hen5at", "1na", "n2at", "1tio", "2io", "o2n"];
 
 /// Patterns of other scripts and signs.
-const OTHERS: [&str; 6] = [
-    "\u{e4}1\u{df}",
-    "\u{df}1e",
-    "\u{130}1i",
-    "1d1'a",
-    ".a1b",
-    "e1\u{301}",
-];
+#[rattlefmt::skip]
+const OTHERS: [&str; 6] = ["\u{e4}1\u{df}", "\u{df}1e", "\u{130}1i", "1d1'a", ".a1b", "e1\u{301}"];
 
 /// A word, its points by both lists of patterns, and how many allocations these take. Each row has the
 /// rule that it shows.
@@ -38,72 +31,29 @@ const REFUSED: &[(&str, &str, &[usize], usize)] = &[
 
 /// A word, and its points by both lists of patterns, with the exceptions and at least 2 letters
 /// before a point and 3 behind it. Each row has the rule that it shows.
+#[rattlefmt::skip]
 const WORDS: [(&str, &str, &[usize]); 22] = [
     ("Liang's example: hy-phen-ation", "hyphenation", &[2, 6]),
     ("letters are lower-cased one by one", "HYPHENation", &[2, 6]),
-    (
-        "each run of letters is a word for itself",
-        "(hyphenation),",
-        &[3, 7],
-    ),
-    (
-        "each run of letters is a word for itself",
-        "hyphenation/hyphenation",
-        &[2, 6, 14, 18],
-    ),
-    (
-        "a word with a hyphen is left whole",
-        "hyphenation-hyphenation",
-        &[],
-    ),
+    ("each run of letters is a word for itself", "(hyphenation),", &[3, 7]),
+    ("each run of letters is a word for itself", "hyphenation/hyphenation", &[2, 6, 14, 18]),
+    ("a word with a hyphen is left whole", "hyphenation-hyphenation", &[]),
     ("that of Unicode too", "hyphenation\u{2010}", &[]),
     ("soft hyphens are left out", "hy\u{ad}phenation", &[4, 8]),
-    (
-        "a point stands behind a soft hyphen",
-        "hyphen\u{ad}ation",
-        &[2, 8],
-    ),
-    (
-        "escape sequences are no letters",
-        "hy\u{1b}[1mphenation",
-        &[6, 10],
-    ),
-    (
-        "an exception has its points whatever the patterns say",
-        "table",
-        &[1, 4],
-    ),
+    ("a point stands behind a soft hyphen", "hyphen\u{ad}ation", &[2, 8]),
+    ("escape sequences are no letters", "hy\u{1b}[1mphenation", &[6, 10]),
+    ("an exception has its points whatever the patterns say", "table", &[1, 4]),
     ("also in capital letters", "Table", &[1, 4]),
     ("and without a point", "phenation", &[]),
     ("an exception is the whole run", "tables", &[]),
-    (
-        "at least so many letters stand before a point",
-        "ab\u{e4}\u{df}",
-        &[],
-    ),
+    ("at least so many letters stand before a point", "ab\u{e4}\u{df}", &[]),
     ("\u{df} stays as it is", "ab\u{c4}\u{df}ebc", &[4, 6]),
-    (
-        "a letter whose lower case is not one character stays as it is",
-        "ab\u{130}ibc",
-        &[4],
-    ),
-    (
-        "patterns have apostrophes, in either form, but no point stands beside one",
-        "abd\u{2019}abc",
-        &[2],
-    ),
+    ("a letter whose lower case is not one character stays as it is", "ab\u{130}ibc", &[4]),
+    ("patterns have apostrophes, in either form, but no point stands beside one", "abd\u{2019}abc", &[2]),
     ("an apostrophe counts for no letter", "abd'a", &[]),
     ("nor does a mark", "ab\u{e4}\u{df}e\u{301}", &[]),
-    (
-        "an apostrophe at the end of a run is none",
-        "'hyphenation'",
-        &[3, 7],
-    ),
-    (
-        "no point stands before a combining mark",
-        "abe\u{301}abc",
-        &[],
-    ),
+    ("an apostrophe at the end of a run is none", "'hyphenation'", &[3, 7]),
+    ("no point stands before a combining mark", "abe\u{301}abc", &[]),
     ("an empty word has no points", "", &[]),
 ];
 

@@ -47,10 +47,9 @@ fn help_has_flags_and_texts(rt: HostRuntime) {
 }
 
 /// The flags of a program and what they mean.
+#[rattlefmt::skip]
 const ENTRIES: &[&str] = &[
-    "-h, --help",
-    "Print this help and exit.",
-    "-w, --width N",
+    "-h, --help", "Print this help and exit.", "-w, --width N",
     "Wrap at N columns, where the default is that of the terminal, or 80.",
 ];
 
@@ -95,11 +94,8 @@ fn texts_beside_one_another_keep_their_styles(rt: HostRuntime) {
     assert_gives_texts(&rt, "styled", rows, STYLED_ROWS);
 }
 
-const BARRED_ROWS: &[&str] = &[
-    "| one   | four  |",
-    "| two   | five  |",
-    "| three |       |",
-];
+#[rattlefmt::skip]
+const BARRED_ROWS: &[&str] = &["| one   | four  |", "| two   | five  |", "| three |       |"];
 
 #[test]
 fn rows_stand_between_bars(rt: HostRuntime) {

@@ -50,13 +50,11 @@ const UNKNOWN: TextwrapOptions<'_> = TextwrapOptions {
 const BALANCED: &[LinesRow] = &[
     ((LinesCall::WrapBalanced(AT_40), TITLE), (DONE, 2, 0), (&[(0, 18, 0), (19, 23, 0), NONE], b"")),
     ((LinesCall::WrapBalanced(AT_40), TITLE), (TOO_SMALL, 2, 0), (&[(0, 18, 0)], b"")),
-    ((LinesCall::WrapBalanced(QUOTED), TITLE), (DONE, 2, 18),
-        (&[(0, 25, 0), (0, 18, 1), NONE], b"> it was the worst____")),
+    ((LinesCall::WrapBalanced(QUOTED), TITLE), (DONE, 2, 18), (&[(0, 25, 0), (0, 18, 1), NONE], b"> it was the worst____")),
     ((LinesCall::WrapBalanced(QUOTED), TITLE), (TOO_SMALL, 2, 18), (&[(0, 25, 0), (0, 18, 1)], b"> it was t")),
     ((LinesCall::WrapBalanced(AT_BREAKS), b"either/or not"), (DONE, 2, 0), (&[(0, 7, 0), (7, 6, 0), NONE], b"")),
     // A word that is wider than a line is broken at the width of the options.
-    ((LinesCall::WrapBalanced(AT_6), b"a wonderful word"), (DONE, 4, 0),
-        (&[(0, 1, 0), (2, 6, 0), (8, 3, 0), (12, 4, 0), NONE], b"")),
+    ((LinesCall::WrapBalanced(AT_6), b"a wonderful word"), (DONE, 4, 0), (&[(0, 1, 0), (2, 6, 0), (8, 3, 0), (12, 4, 0), NONE], b"")),
 ];
 
 /// Lines of which the first leaves two attributes open, and the second ends one of them.
@@ -74,10 +72,8 @@ const NO_TEXT: &[TextwrapText<'_>] = &[TextwrapText { bytes: b"\xff" }];
 #[rattlefmt::skip]
 const ATTRIBUTES: &[LinesRow] = &[
     ((LinesCall::CarryAttributes(COLOURED, AT_6), b""), (DONE, 3, 43),
-        (&[(0, 14, 1), (14, 20, 1), (34, 9, 1), NONE],
-            b"a \x1b[1;31mb\x1b[0m\x1b[1m\x1b[31mc\x1b[39md\x1b[0m\x1b[1me\x1b[0m__")),
-    ((LinesCall::CarryAttributes(COLOURED, AT_6), b""), (TOO_SMALL, 3, 43),
-        (&[(0, 14, 1)], b"a \x1b[1;31mb\x1b[0m\x1b[1m\x1b[31mc")),
+        (&[(0, 14, 1), (14, 20, 1), (34, 9, 1), NONE], b"a \x1b[1;31mb\x1b[0m\x1b[1m\x1b[31mc\x1b[39md\x1b[0m\x1b[1me\x1b[0m__")),
+    ((LinesCall::CarryAttributes(COLOURED, AT_6), b""), (TOO_SMALL, 3, 43), (&[(0, 14, 1)], b"a \x1b[1;31mb\x1b[0m\x1b[1m\x1b[31mc")),
 ];
 
 /// The texts of two columns, row by row.
@@ -103,10 +99,7 @@ const WIDTHS: &[OffsetsRow] = &[
 /// What is not known is refused before what is no text.
 #[rattlefmt::skip]
 const REFUSED_LINES: &[RefusedLines] = &[
-    (UNKNOWN_OPTIONS, &[
-        (LinesCall::WrapBalanced(UNKNOWN), b"\xff"),
-        (LinesCall::CarryAttributes(NO_TEXT, UNKNOWN), b""),
-    ]),
+    (UNKNOWN_OPTIONS, &[(LinesCall::WrapBalanced(UNKNOWN), b"\xff"), (LinesCall::CarryAttributes(NO_TEXT, UNKNOWN), b"")]),
     (NOT_UTF8, &[
         (LinesCall::WrapBalanced(AT_40), b"a \xff"),
         (LinesCall::WrapBalanced(NO_TEXT_INDENT), b"a"),

@@ -48,12 +48,10 @@ const FIRST_FIT: &[OffsetsRow] = &[
 #[rattlefmt::skip]
 const OPTIMAL_FIT: &[OffsetsRow] = &[
     (OffsetsCall::OptimalFit(&[CARD, CARD, CARD], &[9], PENALTIES), (DONE, 2), &[2, 3, NO_OFFSET]),
-    (OffsetsCall::OptimalFit(&[CARD, TextwrapFragment { break_penalty: 30, ..CARD }, CARD], &[9], PENALTIES), (DONE, 2),
-        &[1, 3, NO_OFFSET]),
+    (OffsetsCall::OptimalFit(&[CARD, TextwrapFragment { break_penalty: 30, ..CARD }, CARD], &[9], PENALTIES), (DONE, 2), &[1, 3, NO_OFFSET]),
     (OffsetsCall::OptimalFit(&[WIDE, WIDE], &[0], TextwrapPenalties { overflow_penalty: usize::MAX, ..PENALTIES }),
         (OVERFLOW, BEFORE), &[NO_OFFSET, NO_OFFSET]),
-    (OffsetsCall::OptimalFit(&[WIDE, WIDE], &[0],
-            TextwrapPenalties { overflow_penalty: usize::MAX, reserved_sizes: [1, 0, 0, 0], ..PENALTIES }),
+    (OffsetsCall::OptimalFit(&[WIDE, WIDE], &[0], TextwrapPenalties { overflow_penalty: usize::MAX, reserved_sizes: [1, 0, 0, 0], ..PENALTIES }),
         (UNKNOWN_OPTIONS, BEFORE), &[NO_OFFSET, NO_OFFSET]),
 ];
 

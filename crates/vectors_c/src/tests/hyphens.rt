@@ -217,8 +217,7 @@ const POINTS: &[OffsetsRow] = &[
     (OffsetsCall::HyphenPoints(b"hyphenation", EXCHANGED), (DAMAGED_TABLE, BEFORE), &[NO_OFFSET]),
     (OffsetsCall::HyphenPoints(b"hyphenation", SHORT), (DAMAGED_TABLE, BEFORE), &[NO_OFFSET]),
     // Three letters have to stand before a point here, in place of two.
-    (OffsetsCall::HyphenPoints(b"hyphenation", TextwrapDictionary { is_checked: 1, in_parts: 1, ..EXCHANGED }),
-        (DONE, 1), &[6, NO_OFFSET]),
+    (OffsetsCall::HyphenPoints(b"hyphenation", TextwrapDictionary { is_checked: 1, in_parts: 1, ..EXCHANGED }), (DONE, 1), &[6, NO_OFFSET]),
     (OffsetsCall::HyphenPoints(b"hyphenation", NO_NUMBERS), (DONE, 0), &[NO_OFFSET]),
     // Soft hyphens are not seen, or are the points.
     (OffsetsCall::HyphenPoints(b"hy\xc2\xadphenation", WHOLE), (DONE, 2), &[4, 8, NO_OFFSET]),
@@ -255,33 +254,23 @@ const FILLED: &[TextRow] = &[
     ((TextCall::Fill(AT_6), b"hyphenation"), (DONE, 15, b"hy-\nphen-\nation__")),
     ((TextCall::Fill(TextwrapOptions { dictionary: FAR, ..AT_6 }), b"hyphenation"), (DONE, 13, b"hyphen-\nation__")),
     ((TextCall::Fill(AT_11), b"the re-hyphenation"), (DONE, 19, b"the re-\nhyphenation__")),
-    ((TextCall::Fill(TextwrapOptions { dictionary: IN_PARTS, ..AT_6 }), b"re-hyphenation"),
-        (DONE, 18, b"re-hy-\nphen-\nation__")),
+    ((TextCall::Fill(TextwrapOptions { dictionary: IN_PARTS, ..AT_6 }), b"re-hyphenation"), (DONE, 18, b"re-hy-\nphen-\nation__")),
     // At blanks this is one word.
-    ((TextCall::Fill(AT_6), b"\xe4\xbd\xa0\xe5\xa5\xbdhyphenation"),
-        (DONE, 21, b"\xe4\xbd\xa0\xe5\xa5\xbdhy-\nphen-\nation__")),
-    ((TextCall::Fill(AT_BREAKS), b"\xe4\xbd\xa0\xe5\xa5\xbdhyphenation"),
-        (DONE, 22, b"\xe4\xbd\xa0\xe5\xa5\xbd\nhy-\nphen-\nation__")),
+    ((TextCall::Fill(AT_6), b"\xe4\xbd\xa0\xe5\xa5\xbdhyphenation"), (DONE, 21, b"\xe4\xbd\xa0\xe5\xa5\xbdhy-\nphen-\nation__")),
+    ((TextCall::Fill(AT_BREAKS), b"\xe4\xbd\xa0\xe5\xa5\xbdhyphenation"), (DONE, 22, b"\xe4\xbd\xa0\xe5\xa5\xbd\nhy-\nphen-\nation__")),
     // By pairs no line ends between `%` and `(`; by the expression it may, as no digit stands there.
     ((TextCall::Fill(AT_BREAKS), b"ab%(cdef)"), (DONE, 10, b"ab%(cd\nef)__")),
     ((TextCall::Fill(AT_BREAKS_BY_EXPRESSION), b"ab%(cdef)"), (DONE, 10, b"ab%\n(cdef)__")),
-    ((TextCall::Fill(AT_BREAKS_BY_EXPRESSION), b"\xe4\xbd\xa0\xe5\xa5\xbdhyphenation"),
-        (DONE, 22, b"\xe4\xbd\xa0\xe5\xa5\xbd\nhy-\nphen-\nation__")),
+    ((TextCall::Fill(AT_BREAKS_BY_EXPRESSION), b"\xe4\xbd\xa0\xe5\xa5\xbdhyphenation"), (DONE, 22, b"\xe4\xbd\xa0\xe5\xa5\xbd\nhy-\nphen-\nation__")),
     ((TextCall::Fill(AT_11), b"the hy\xc2\xadphenation"), (DONE, 19, b"the hy\xc2\xadphen-\nation__")),
-    ((TextCall::Fill(TextwrapOptions { dictionary: SOFT, ..AT_11 }), b"the hy\xc2\xadphenation"),
-        (DONE, 19, b"the hy\xc2\xad-\nphenation__")),
-    ((TextCall::Fill(TextwrapOptions { split_at_hyphens: 0, ..AT_11 }), b"the re-hyphenation"),
-        (DONE, 19, b"the re-\nhyphenation__")),
+    ((TextCall::Fill(TextwrapOptions { dictionary: SOFT, ..AT_11 }), b"the hy\xc2\xadphenation"), (DONE, 19, b"the hy\xc2\xad-\nphenation__")),
+    ((TextCall::Fill(TextwrapOptions { split_at_hyphens: 0, ..AT_11 }), b"the re-hyphenation"), (DONE, 19, b"the re-\nhyphenation__")),
     // Without numbers there is no dictionary.
-    ((TextCall::Fill(TextwrapOptions { dictionary: NO_NUMBERS, ..AT_11 }), b"the hyphenation"),
-        (DONE, 15, b"the\nhyphenation__")),
+    ((TextCall::Fill(TextwrapOptions { dictionary: NO_NUMBERS, ..AT_11 }), b"the hyphenation"), (DONE, 15, b"the\nhyphenation__")),
     // A line of the least cost may do without a hyphen.
-    ((TextCall::Fill(TextwrapOptions { optimal_fit: 1, ..AT_11 }), b"the hyphenation"),
-        (DONE, 17, b"the hyphen-\nation__")),
-    ((TextCall::Fill(TextwrapOptions { optimal_fit: 1, hyphen_penalty: 1_000_000, ..AT_11 }), b"the hyphenation"),
-        (DONE, 15, b"the\nhyphenation__")),
-    ((TextCall::FillJustified(TextwrapOptions { width: 13, ..AT_11 }), b"a b hyphenation"),
-        (DONE, 19, b"a  b  hyphen-\nation__")),
+    ((TextCall::Fill(TextwrapOptions { optimal_fit: 1, ..AT_11 }), b"the hyphenation"), (DONE, 17, b"the hyphen-\nation__")),
+    ((TextCall::Fill(TextwrapOptions { optimal_fit: 1, hyphen_penalty: 1_000_000, ..AT_11 }), b"the hyphenation"), (DONE, 15, b"the\nhyphenation__")),
+    ((TextCall::FillJustified(TextwrapOptions { width: 13, ..AT_11 }), b"a b hyphenation"), (DONE, 19, b"a  b  hyphen-\nation__")),
 ];
 
 /// Words that end nobody knows where.
@@ -328,11 +317,7 @@ const REFUSED_TEXTS: &[RefusedTexts] = &[
         (TextCall::Fill(TextwrapOptions { dictionary: SHORT, ..AT_11 }), b"a"),
         (TextCall::FillJustified(TextwrapOptions { dictionary: SHORT, ..AT_11 }), b"\xff"),
     ]),
-    (NOT_UTF8, &[
-        (TextCall::Refill(WRONG_INDENT), b"a"),
-        (TextCall::Fill(AT_11), b"\xff"),
-        (TextCall::Fill(WRONG_INDENT), b"a"),
-    ]),
+    (NOT_UTF8, &[(TextCall::Refill(WRONG_INDENT), b"a"), (TextCall::Fill(AT_11), b"\xff"), (TextCall::Fill(WRONG_INDENT), b"a")]),
 ];
 
 /// The same of the calls that write lines.
@@ -348,13 +333,9 @@ const REFUSED_LINES: &[RefusedLines] = &[
         (LinesCall::Wrap(TextwrapOptions { dictionary: SHORT, ..AT_11 }), b"a"),
         (LinesCall::Columns(1, TextwrapOptions { dictionary: EXCHANGED, ..AT_15 }, BAR), b"a"),
         (LinesCall::WrapBalanced(TextwrapOptions { dictionary: CHANGED, ..AT_11 }), b"a"),
-        (LinesCall::Table(CELLS, &[TextwrapColumn { options: TextwrapOptions { dictionary: SHORT, ..AT_11 }, ..RIGHT }],
-            BARS), b""),
+        (LinesCall::Table(CELLS, &[TextwrapColumn { options: TextwrapOptions { dictionary: SHORT, ..AT_11 }, ..RIGHT }], BARS), b""),
     ]),
-    (NOT_UTF8, &[
-        (LinesCall::Wrap(AT_11), b"\xff"),
-        (LinesCall::Columns(1, AT_15, NO_TEXT_GAPS), b"a"),
-    ]),
+    (NOT_UTF8, &[(LinesCall::Wrap(AT_11), b"\xff"), (LinesCall::Columns(1, AT_15, NO_TEXT_GAPS), b"a")]),
 ];
 
 #[test]
@@ -374,15 +355,11 @@ const AT_14: TextwrapOptions<'_> = TextwrapOptions {
 /// A text is filled again with its own indents. A hyphen that was added before stays.
 #[rattlefmt::skip]
 const REFILLED: &[TextRow] = &[
-    ((TextCall::Refill(AT_14), b"// the\n// hyphenation\n"),
-        (DONE, 24, b"// the hyphen-\n// ation\n__")),
-    ((TextCall::Refill(TextwrapOptions { width: 20, ..AT_14 }), b"// the hyphen-\n// ation\n"),
-        (DONE, 21, b"// the hyphen- ation\n__")),
-    ((TextCall::Refill(TextwrapOptions { dictionary: CHECKED, ..AT_6 }), b"re-hyphenation"),
-        (DONE, 18, b"re-hy-\nphen-\nation__")),
+    ((TextCall::Refill(AT_14), b"// the\n// hyphenation\n"), (DONE, 24, b"// the hyphen-\n// ation\n__")),
+    ((TextCall::Refill(TextwrapOptions { width: 20, ..AT_14 }), b"// the hyphen-\n// ation\n"), (DONE, 21, b"// the hyphen- ation\n__")),
+    ((TextCall::Refill(TextwrapOptions { dictionary: CHECKED, ..AT_6 }), b"re-hyphenation"), (DONE, 18, b"re-hy-\nphen-\nation__")),
     // At blanks this is one word.
-    ((TextCall::Refill(AT_BREAKS), b"> \xe4\xbd\xa0\xe5\xa5\xbdhyphenation\n"),
-        (DONE, 25, b"> \xe4\xbd\xa0\n\xe5\xa5\xbdhy-\nphen-\nation\n__")),
+    ((TextCall::Refill(AT_BREAKS), b"> \xe4\xbd\xa0\xe5\xa5\xbdhyphenation\n"), (DONE, 25, b"> \xe4\xbd\xa0\n\xe5\xa5\xbdhy-\nphen-\nation\n__")),
 ];
 
 #[test]
@@ -394,15 +371,11 @@ fn texts_are_filled_again_with_hyphens(rt: HostRuntime) {
 /// A line with a hyphen is a text of its own.
 #[rattlefmt::skip]
 const WRAPPED: &[LinesRow] = &[
-    ((LinesCall::Wrap(AT_11), b"the hyphenation"), (DONE, 2, 11),
-        (&[(0, 11, 1), (10, 5, 0), NONE], b"the hyphen-_")),
-    ((LinesCall::Wrap(AT_11), b"the hyphenation"), (TOO_SMALL, 2, 11),
-        (&[(0, 11, 1)], b"the hyphen-")),
-    ((LinesCall::Wrap(AT_11), b"the hyphenation"), (TOO_SMALL, 2, 11),
-        (&[(0, 11, 1), (10, 5, 0)], b"the hyphen")),
+    ((LinesCall::Wrap(AT_11), b"the hyphenation"), (DONE, 2, 11), (&[(0, 11, 1), (10, 5, 0), NONE], b"the hyphen-_")),
+    ((LinesCall::Wrap(AT_11), b"the hyphenation"), (TOO_SMALL, 2, 11), (&[(0, 11, 1)], b"the hyphen-")),
+    ((LinesCall::Wrap(AT_11), b"the hyphenation"), (TOO_SMALL, 2, 11), (&[(0, 11, 1), (10, 5, 0)], b"the hyphen")),
     ((LinesCall::Wrap(AT_11), b""), (DONE, 1, 0), (&[(0, 0, 0)], b"_")),
-    ((LinesCall::Wrap(AT_BREAKS), b"\xe4\xbd\xa0\xe5\xa5\xbdhyphenation"), (DONE, 4, 8),
-        (&[(0, 6, 0), (0, 3, 1), (3, 5, 1), (12, 5, 0), NONE], b"hy-phen-_")),
+    ((LinesCall::Wrap(AT_BREAKS), b"\xe4\xbd\xa0\xe5\xa5\xbdhyphenation"), (DONE, 4, 8), (&[(0, 6, 0), (0, 3, 1), (3, 5, 1), (12, 5, 0), NONE], b"hy-phen-_")),
     ((LinesCall::WrapBalanced(AT_11), b"the hyphenation"), (DONE, 2, 7), (&[(0, 7, 1), (6, 9, 0), NONE], b"the hy-_")),
 ];
 
@@ -413,9 +386,8 @@ fn texts_are_wrapped_with_hyphens(rt: HostRuntime) {
 }
 
 /// A text in a table.
-const CELLS: &[TextwrapText<'_>] = &[TextwrapText {
-    bytes: b"the hyphenation",
-}];
+#[rattlefmt::skip]
+const CELLS: &[TextwrapText<'_>] = &[TextwrapText { bytes: b"the hyphenation" }];
 
 /// A column whose lines stand at the right.
 const RIGHT: TextwrapColumn<'_> = TextwrapColumn {
@@ -445,15 +417,12 @@ const AT_BREAKS_IN_COLUMNS: TextwrapOptions<'_> = TextwrapOptions {
 /// The width of a column is that of the lines.
 #[rattlefmt::skip]
 const IN_COLUMNS: &[LinesRow] = &[
-    ((LinesCall::Columns(2, AT_15, BAR), b"the hyphenation"), (DONE, 2, 30),
-        (&[(0, 15, 1), (15, 15, 1), NONE], b"the hy-|ation  phen-  |       _")),
+    ((LinesCall::Columns(2, AT_15, BAR), b"the hyphenation"), (DONE, 2, 30), (&[(0, 15, 1), (15, 15, 1), NONE], b"the hy-|ation  phen-  |       _")),
     ((LinesCall::Columns(2, TextwrapOptions { dictionary: CHECKED, ..AT_15 }, BAR), b"the hyphenation"),
         (TOO_SMALL, 2, 30), (&[(0, 15, 1)], b"the hy-|ation  phen")),
-    ((LinesCall::Columns(2, TextwrapOptions { dictionary: CHECKED, ..AT_BREAKS_IN_COLUMNS }, BAR),
-        b"\xe4\xbd\xa0\xe5\xa5\xbdhyphenation"), (DONE, 2, 28),
-        (&[(0, 15, 1), (15, 13, 1), NONE], b"\xe4\xbd\xa0\xe5\xa5\xbd  |phen- hy-   |ation _")),
-    ((LinesCall::Table(CELLS, &[RIGHT], BARS), b""), (DONE, 2, 26),
-        (&[(0, 13, 1), (13, 13, 1), NONE], b"|the hyphen-||      ation|_")),
+    ((LinesCall::Columns(2, TextwrapOptions { dictionary: CHECKED, ..AT_BREAKS_IN_COLUMNS }, BAR), b"\xe4\xbd\xa0\xe5\xa5\xbdhyphenation"),
+        (DONE, 2, 28), (&[(0, 15, 1), (15, 13, 1), NONE], b"\xe4\xbd\xa0\xe5\xa5\xbd  |phen- hy-   |ation _")),
+    ((LinesCall::Table(CELLS, &[RIGHT], BARS), b""), (DONE, 2, 26), (&[(0, 13, 1), (13, 13, 1), NONE], b"|the hyphen-||      ation|_")),
 ];
 
 #[test]

@@ -123,12 +123,9 @@ type LinesRow = (LinesCall<'static>, &'static str, usize, usize, usize);
 const LINES_AND_ROWS: &[LinesRow] = &[
     // Rows of one column of 11 with a bar at their right, and lines with an indent of one blank, so
     // that each of them is built.
-    (LinesCall::Columns(1, TextwrapOptions { width: 12, ..DEFAULTS }, TextwrapGaps { right: b"|", ..NO_GAPS }), LINE,
-        LINES, LINES + 1, LEN + 12),
-    (LinesCall::Wrap(TextwrapOptions { initial_indent: b" ", subsequent_indent: b" ", ..AT_80 }), LINE, LINES,
-        LINES + 1, LEN + 1),
-    (LinesCall::WrapBalanced(TextwrapOptions { initial_indent: b" ", subsequent_indent: b" ", ..AT_80 }), LINE, LINES,
-        LINES + 1, LEN + 1),
+    (LinesCall::Columns(1, TextwrapOptions { width: 12, ..DEFAULTS }, TextwrapGaps { right: b"|", ..NO_GAPS }), LINE, LINES, LINES + 1, LEN + 12),
+    (LinesCall::Wrap(TextwrapOptions { initial_indent: b" ", subsequent_indent: b" ", ..AT_80 }), LINE, LINES, LINES + 1, LEN + 1),
+    (LinesCall::WrapBalanced(TextwrapOptions { initial_indent: b" ", subsequent_indent: b" ", ..AT_80 }), LINE, LINES, LINES + 1, LEN + 1),
     // The first of each two lines has a hyphen and is built.
     (LinesCall::Wrap(AT_11), "the hyphenation\n", 20_000, 2 * 20_000 + 1, 11 * 20_000),
     // Two rows of 200 columns of 4, with a bar beside each.
@@ -220,8 +217,7 @@ pub(super) fn last_piece(
 const PIECES: &[(PiecesCall<'_>, (u32, usize), PiecePlace)] = &[
     (PiecesCall::Pieces(AT_80), (DONE, 2 * LINES + 1), (LEN - 4, 4, 0, 0, 3)),
     // A line may end after each line feed, so these are more than there is room for.
-    (PiecesCall::Pieces(TextwrapOptions { unicode_breaks: 1, ..AT_80 }), (TOO_SMALL, 3 * LINES),
-        (2 * LINES / 3 * 12 + 8, 4, 0, 0, 3)),
+    (PiecesCall::Pieces(TextwrapOptions { unicode_breaks: 1, ..AT_80 }), (TOO_SMALL, 3 * LINES), (2 * LINES / 3 * 12 + 8, 4, 0, 0, 3)),
     // Its lines have 11 columns each.
     (PiecesCall::BreakApart(10), (DONE, (11 * LINES + 9) / 10), NO_PLACE),
     (PiecesCall::WordsAt(&[12]), (DONE, 2), NO_PLACE),

@@ -11,26 +11,20 @@ use textwrap_calls::texts::TextwrapText;
 /// room for all, the first of them are told, and how many they are.
 #[rattlefmt::skip]
 const PLACES: &[LinesRow] = &[
-    ((LinesCall::Wrap(TextwrapOptions { subsequent_indent: b"> ", ..AT_5 }), b"foo  bar"), (DONE, 2, 5),
-        (&[(0, 3, 0), (0, 5, 1), NONE], b"> bar___")),
+    ((LinesCall::Wrap(TextwrapOptions { subsequent_indent: b"> ", ..AT_5 }), b"foo  bar"), (DONE, 2, 5), (&[(0, 3, 0), (0, 5, 1), NONE], b"> bar___")),
     ((LinesCall::Wrap(AT_5), b"foo  bar"), (TOO_SMALL, 2, 0), (&[(0, 3, 0)], b"")),
-    ((LinesCall::Wrap(TextwrapOptions { subsequent_indent: b"> ", ..AT_5 }), b"foo  bar"), (TOO_SMALL, 2, 5),
-        (&[(0, 3, 0), (0, 5, 1), NONE], b"> b")),
-    ((LinesCall::Wrap(TextwrapOptions { subsequent_indent: b"> ", ..AT_5 }), b"foo  bar baz"), (TOO_SMALL, 3, 10),
-        (&[(0, 3, 0), (0, 5, 1)], b"> bar> ba")),
+    ((LinesCall::Wrap(TextwrapOptions { subsequent_indent: b"> ", ..AT_5 }), b"foo  bar"), (TOO_SMALL, 2, 5), (&[(0, 3, 0), (0, 5, 1), NONE], b"> b")),
+    ((LinesCall::Wrap(TextwrapOptions { subsequent_indent: b"> ", ..AT_5 }), b"foo  bar baz"), (TOO_SMALL, 3, 10), (&[(0, 3, 0), (0, 5, 1)], b"> bar> ba")),
     ((LinesCall::Wrap(AT_5), b"foo  bar"), (DONE, 2, 0), (&[(0, 3, 0), (5, 3, 0), NONE], b"")),
     // The second line is no part of the first one, which is a text of its own.
-    ((LinesCall::Wrap(TextwrapOptions { initial_indent: b"* ", ..AT_6 }), b"foo foo"), (DONE, 2, 5),
-        (&[(0, 5, 1), (4, 3, 0), NONE], b"* foo___")),
+    ((LinesCall::Wrap(TextwrapOptions { initial_indent: b"* ", ..AT_6 }), b"foo foo"), (DONE, 2, 5), (&[(0, 5, 1), (4, 3, 0), NONE], b"* foo___")),
     // The empty line stands at its own paragraph, and not behind the line before it.
-    ((LinesCall::Wrap(DEFAULTS), b"foo  \n\n  \nbar"), (DONE, 4, 0),
-        (&[(0, 3, 0), (6, 0, 0), (7, 0, 0), (10, 3, 0)], b"")),
+    ((LinesCall::Wrap(DEFAULTS), b"foo  \n\n  \nbar"), (DONE, 4, 0), (&[(0, 3, 0), (6, 0, 0), (7, 0, 0), (10, 3, 0)], b"")),
     // A short text is one line without its last blanks, whether it is printable ASCII or not.
     ((LinesCall::Wrap(DEFAULTS), b"foo  "), (DONE, 1, 0), (&[(0, 3, 0), NONE], b"")),
     ((LinesCall::Wrap(DEFAULTS), b"\xc3\xa9\t "), (DONE, 1, 0), (&[(0, 3, 0), NONE], b"")),
     // A line that is a line feed or a carriage return alone is not the one in the ending before it.
-    ((LinesCall::Wrap(TextwrapOptions { crlf: 1, ..DEFAULTS }), b"a\r\n\n\r\n\r\r\nb"), (DONE, 4, 0),
-        (&[(0, 1, 0), (3, 1, 0), (6, 1, 0), (9, 1, 0)], b"")),
+    ((LinesCall::Wrap(TextwrapOptions { crlf: 1, ..DEFAULTS }), b"a\r\n\n\r\n\r\r\nb"), (DONE, 4, 0), (&[(0, 1, 0), (3, 1, 0), (6, 1, 0), (9, 1, 0)], b"")),
 ];
 
 /// Blanks at line ends are kept, with an indent of the first line.
@@ -45,10 +39,9 @@ const PRESERVED: TextwrapOptions<'_> = TextwrapOptions {
 /// Blanks that are preserved are part of the line before, also of a built one.
 #[rattlefmt::skip]
 const BLANKS: &[LinesRow] = &[
-    ((LinesCall::Wrap(PRESERVED), b"foo bar  baz\nqux qux"), (DONE, 5, 6),
-        (&[(0, 6, 1), (4, 5, 0), (9, 3, 0), (13, 4, 0), (17, 3, 0)], b"* foo __")),
-    ((LinesCall::Wrap(TextwrapOptions { even_paragraphs: 1, ..PRESERVED }), b"foo bar  baz\nqux qux"), (DONE, 4, 6),
-        (&[(0, 6, 1), (4, 5, 0), (9, 3, 0), (13, 7, 0), NONE], b"* foo __")),
+    ((LinesCall::Wrap(PRESERVED), b"foo bar  baz\nqux qux"), (DONE, 5, 6), (&[(0, 6, 1), (4, 5, 0), (9, 3, 0), (13, 4, 0), (17, 3, 0)], b"* foo __")),
+    ((LinesCall::Wrap(TextwrapOptions { even_paragraphs: 1, ..PRESERVED }), b"foo bar  baz\nqux qux"),
+        (DONE, 4, 6), (&[(0, 6, 1), (4, 5, 0), (9, 3, 0), (13, 7, 0), NONE], b"* foo __")),
 ];
 
 /// The defaults at 24 columns.
@@ -58,25 +51,22 @@ const AT_24: TextwrapOptions<'_> = TextwrapOptions {
 };
 
 /// A text in columns.
-const IN_COLUMNS: &[LinesRow] = &[(
-    (LinesCall::Columns(4, AT_24, BARS), b"Foo Bar Baz Quux"),
-    (DONE, 1, 24),
-    (&[(0, 24, 1), NONE], b"|Foo |Bar |Baz |Quux   |________"),
-)];
+#[rattlefmt::skip]
+const IN_COLUMNS: &[LinesRow] = &[
+    ((LinesCall::Columns(4, AT_24, BARS), b"Foo Bar Baz Quux"), (DONE, 1, 24), (&[(0, 24, 1), NONE], b"|Foo |Bar |Baz |Quux   |________")),
+];
 
 /// Lines of which the first leaves a style open.
+#[rattlefmt::skip]
 const STYLED: &[TextwrapText<'_>] = &[
-    TextwrapText {
-        bytes: b"\x1b[1mone",
-    },
+    TextwrapText { bytes: b"\x1b[1mone" },
     TextwrapText { bytes: b"two" },
 ];
 
 /// The same, with one line more.
+#[rattlefmt::skip]
 const STYLED_AND_ONE: &[TextwrapText<'_>] = &[
-    TextwrapText {
-        bytes: b"\x1b[1mone",
-    },
+    TextwrapText { bytes: b"\x1b[1mone" },
     TextwrapText { bytes: b"two" },
     TextwrapText { bytes: b"three" },
 ];
@@ -84,15 +74,12 @@ const STYLED_AND_ONE: &[TextwrapText<'_>] = &[
 /// Lines are left out, and styles carried.
 #[rattlefmt::skip]
 const LISTS: &[LinesRow] = &[
-    ((LinesCall::ShortenLines(STYLED_AND_ONE, 2, 6, b"..."), b""), (DONE, 2, 13),
-        (&[(0, 7, 1), (7, 6, 1)], b"\x1b[1monetwo...___________________")),
+    ((LinesCall::ShortenLines(STYLED_AND_ONE, 2, 6, b"..."), b""), (DONE, 2, 13), (&[(0, 7, 1), (7, 6, 1)], b"\x1b[1monetwo...___________________")),
     // There are fewer than may be kept.
     ((LinesCall::ShortenLines(STYLED_AND_ONE, usize::MAX, 6, b"..."), b""), (DONE, 3, 15),
         (&[(0, 7, 1), (7, 3, 1), (10, 5, 1)], b"\x1b[1monetwothree___________________")),
-    ((LinesCall::ShortenLinesBy(STYLED_AND_ONE, 1, 3, b".", 1), b""), (DONE, 1, 11),
-        (&[(0, 11, 1)], b"\x1b[1mon\x1b[0m._____________________")),
-    ((LinesCall::CarryStyles(STYLED, AT_6), b""), (DONE, 2, 22),
-        (&[(0, 11, 1), (11, 11, 1)], b"\x1b[1mone\x1b[0m\x1b[1mtwo\x1b[0m__________")),
+    ((LinesCall::ShortenLinesBy(STYLED_AND_ONE, 1, 3, b".", 1), b""), (DONE, 1, 11), (&[(0, 11, 1)], b"\x1b[1mon\x1b[0m._____________________")),
+    ((LinesCall::CarryStyles(STYLED, AT_6), b""), (DONE, 2, 22), (&[(0, 11, 1), (11, 11, 1)], b"\x1b[1mone\x1b[0m\x1b[1mtwo\x1b[0m__________")),
 ];
 
 /// A column of 4 whose lines stand at the left.
@@ -134,10 +121,8 @@ const NO_TEXT: &[TextwrapText<'_>] = &[TextwrapText { bytes: b"\xff" }];
 /// Texts stand in their columns, where there is room.
 #[rattlefmt::skip]
 const TABLES: &[LinesRow] = &[
-    ((LinesCall::Table(CELLS, COLUMNS, BARS), b""), (TOO_SMALL, 3, 36),
-        (&[(0, 12, 1), (12, 12, 1), (24, 12, 1)], b"|foo |  1.5||bar |     ||baz |     ")),
-    ((LinesCall::Table(CELLS, COLUMNS, BARS), b""), (DONE, 3, 36),
-        (&[(0, 12, 1), (12, 12, 1), (24, 12, 1)], b"|foo |  1.5||bar |     ||baz |     |")),
+    ((LinesCall::Table(CELLS, COLUMNS, BARS), b""), (TOO_SMALL, 3, 36), (&[(0, 12, 1), (12, 12, 1), (24, 12, 1)], b"|foo |  1.5||bar |     ||baz |     ")),
+    ((LinesCall::Table(CELLS, COLUMNS, BARS), b""), (DONE, 3, 36), (&[(0, 12, 1), (12, 12, 1), (24, 12, 1)], b"|foo |  1.5||bar |     ||baz |     |")),
 ];
 
 /// Lines of which the last column has fewer.
@@ -156,17 +141,14 @@ pub(super) const NO_TEXT_GAPS: TextwrapGaps<'_> = TextwrapGaps {
 /// Lines in columns are the rows of the text that has these lines.
 #[rattlefmt::skip]
 const ROWS_OF_LINES: &[LinesRow] = &[
-    ((LinesCall::RowsOfLines(&[TextwrapText { bytes: b"Foo" }, TextwrapText { bytes: b"Bar" }, TextwrapText { bytes: b"Baz" },
-                    TextwrapText { bytes: b"Quux" }], 4, 24, BARS), b""), (DONE, 1, 24),
-        (&[(0, 24, 1), NONE], b"|Foo |Bar |Baz |Quux   |________")),
+    ((LinesCall::RowsOfLines(
+                &[TextwrapText { bytes: b"Foo" }, TextwrapText { bytes: b"Bar" }, TextwrapText { bytes: b"Baz" }, TextwrapText { bytes: b"Quux" }], 4, 24,
+                BARS), b""), (DONE, 1, 24), (&[(0, 24, 1), NONE], b"|Foo |Bar |Baz |Quux   |________")),
     // The first column is filled first, and the width that is left over stands at the end.
-    ((LinesCall::RowsOfLines(FEW_LINES, 2, 12, BARS), b""), (DONE, 2, 24),
-        (&[(0, 12, 1), (12, 12, 1)], b"|Foo |Baz  ||Bar |     |")),
-    ((LinesCall::RowsOfLines(FEW_LINES, 2, 12, BARS), b""), (TOO_SMALL, 2, 24),
-        (&[(0, 12, 1), (12, 12, 1)], b"|Foo |Baz  ||Bar |     ")),
+    ((LinesCall::RowsOfLines(FEW_LINES, 2, 12, BARS), b""), (DONE, 2, 24), (&[(0, 12, 1), (12, 12, 1)], b"|Foo |Baz  ||Bar |     |")),
+    ((LinesCall::RowsOfLines(FEW_LINES, 2, 12, BARS), b""), (TOO_SMALL, 2, 24), (&[(0, 12, 1), (12, 12, 1)], b"|Foo |Baz  ||Bar |     ")),
     // Gaps that leave no room leave a width of 1, and lines are not cut.
-    ((LinesCall::RowsOfLines(FEW_LINES, 2, 0, BARS), b""), (DONE, 2, 16),
-        (&[(0, 9, 1), (9, 7, 1)], b"|Foo|Baz||Bar| |")),
+    ((LinesCall::RowsOfLines(FEW_LINES, 2, 0, BARS), b""), (DONE, 2, 16), (&[(0, 9, 1), (9, 7, 1)], b"|Foo|Baz||Bar| |")),
     ((LinesCall::RowsOfLines(&[], usize::MAX, 24, BARS), b""), (DONE, 0, 0), (&[NONE], b"____")),
 ];
 
@@ -190,8 +172,7 @@ const NO_TEXT_CELLS: &[TextwrapCell<'_>] = &[
 const TABLES_OF_LINES: &[LinesRow] = &[
     ((LinesCall::TableOfLines(WRAPPED_CELLS, COLUMNS, BARS), b""), (DONE, 3, 36),
         (&[(0, 12, 1), (12, 12, 1), (24, 12, 1)], b"|foo |  1.5||bar |     ||baz |     |")),
-    ((LinesCall::TableOfLines(WRAPPED_CELLS, COLUMNS, BARS), b""), (TOO_SMALL, 3, 36),
-        (&[(0, 12, 1), (12, 12, 1)], b"|foo |  1.5||bar |     ||baz |     |")),
+    ((LinesCall::TableOfLines(WRAPPED_CELLS, COLUMNS, BARS), b""), (TOO_SMALL, 3, 36), (&[(0, 12, 1), (12, 12, 1)], b"|foo |  1.5||bar |     ||baz |     |")),
     // A cell without lines takes no row, and there are none without columns.
     ((LinesCall::TableOfLines(&[TextwrapCell { lines: &[] }], COLUMNS, BARS), b""), (DONE, 0, 0), (&[NONE], b"____")),
     ((LinesCall::TableOfLines(WRAPPED_CELLS, &[], BARS), b""), (DONE, 0, 0), (&[NONE], b"____")),

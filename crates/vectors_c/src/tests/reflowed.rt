@@ -11,16 +11,13 @@ type Reflowed = (TextwrapReflowOptions<'static>, &'static [u8], &'static [u8]);
 #[rattlefmt::skip]
 const ROWS: &[Reflowed] = &[
     (REFLOWED, b"> one two three four\n> five\n", b"> one two three\n> four five\n"),
-    (TextwrapReflowOptions { justify: 1, ..REFLOWED }, b"> one two six ten red blue\n",
-        b"> one   two  six\n> ten red blue\n"),
-    (TextwrapReflowOptions { width: 12, optimal_fit: 1, ..REFLOWED }, b"To be, or not to be: that is\n",
-        b"To be, or\nnot to be:\nthat is\n"),
+    (TextwrapReflowOptions { justify: 1, ..REFLOWED }, b"> one two six ten red blue\n", b"> one   two  six\n> ten red blue\n"),
+    (TextwrapReflowOptions { width: 12, optimal_fit: 1, ..REFLOWED }, b"To be, or not to be: that is\n", b"To be, or\nnot to be:\nthat is\n"),
     (TextwrapReflowOptions { ending: 1, ..REFLOWED }, b"one\r\n==\r\n", b"one\n==\n"),
     (TextwrapReflowOptions { ending: 2, ..REFLOWED }, b"one two three four\n==\n", b"one two three\r\nfour\r\n==\r\n"),
     (TextwrapReflowOptions { markdown: 1, ..REFLOWED }, b"# One two three four\n", b"# One two three four\n"),
     (TextwrapReflowOptions { bare: 1, ..REFLOWED }, b"/* one two three four */\n", b"/* one two three\n   four */\n"),
-    (TextwrapReflowOptions { indented: 1, ..REFLOWED }, b"one\n\n    two three four five\n",
-        b"one\n\n    two three\n    four five\n"),
+    (TextwrapReflowOptions { indented: 1, ..REFLOWED }, b"one\n\n    two three four five\n", b"one\n\n    two three\n    four five\n"),
     (TextwrapReflowOptions { markers: &[TextwrapText { bytes: b"dnl" }, TextwrapText { bytes: b"!" }], ..REFLOWED },
         b"dnl one two three four\ndnl five\n", b"dnl one two\ndnl three four\ndnl five\n"),
     (TextwrapReflowOptions { prefixes: &[TextwrapText { bytes: b"*" }, TextwrapText { bytes: b"//" }], ..REFLOWED },
@@ -54,29 +51,14 @@ const UNKNOWN: &[TextwrapReflowOptions<'_>] = &[
 ];
 
 /// A text, a mark or a prefix that is no UTF-8 changes nothing.
-const REFUSED_TEXTS: &[RefusedTexts] = &[(
-    NOT_UTF8,
-    &[
+#[rattlefmt::skip]
+const REFUSED_TEXTS: &[RefusedTexts] = &[
+    (NOT_UTF8, &[
         (TextCall::Reflow(REFLOWED), b"foo\xff"),
-        (
-            TextCall::Reflow(TextwrapReflowOptions {
-                markers: &[
-                    TextwrapText { bytes: b"a" },
-                    TextwrapText { bytes: b"\xff" },
-                ],
-                ..REFLOWED
-            }),
-            b"foo",
-        ),
-        (
-            TextCall::Reflow(TextwrapReflowOptions {
-                prefixes: &[TextwrapText { bytes: b"\xff" }],
-                ..REFLOWED
-            }),
-            b"foo",
-        ),
-    ],
-)];
+        (TextCall::Reflow(TextwrapReflowOptions { markers: &[TextwrapText { bytes: b"a" }, TextwrapText { bytes: b"\xff" }], ..REFLOWED }), b"foo"),
+        (TextCall::Reflow(TextwrapReflowOptions { prefixes: &[TextwrapText { bytes: b"\xff" }], ..REFLOWED }), b"foo"),
+    ]),
+];
 
 #[test]
 fn texts_with_marks_are_told_apart_from_what_is_none(rt: HostRuntime) {

@@ -26,26 +26,13 @@ const PARAGRAPH: &[u8] = b"foo b\xc3\xa4r-baz";
 #[rattlefmt::skip]
 const PIECES: &[PiecesRow] = &[
     ((PiecesCall::PiecesAt(&[], &[], AT_20), PARAGRAPH), (DONE, 1), &[(0, 12, 0, 0, 11), NO_PLACE, NO_PLACE, NO_PLACE]),
-    (
-        (PiecesCall::PiecesAt(&[4], &[], AT_20), PARAGRAPH),
-        (DONE, 2),
-        &[(0, 3, 1, 0, 3), (4, 8, 0, 0, 7), NO_PLACE, NO_PLACE],
-    ),
+    ((PiecesCall::PiecesAt(&[4], &[], AT_20), PARAGRAPH), (DONE, 2), &[(0, 3, 1, 0, 3), (4, 8, 0, 0, 7), NO_PLACE, NO_PLACE]),
     ((PiecesCall::PiecesAt(&[4], &[], AT_20), PARAGRAPH), (TOO_SMALL, 2), &[(0, 3, 1, 0, 3)]),
     // A point at a word's end, or in its blanks, is not used; after a hyphen none is added.
-    ((PiecesCall::PiecesAt(&[4], &[2, 3, 4, 9], AT_20), PARAGRAPH), (DONE, 4), &[
-        (0, 2, 0, 1, 2),
-        (2, 1, 1, 0, 1),
-        (4, 5, 0, 0, 4),
-        (9, 3, 0, 0, 3),
-    ]),
+    ((PiecesCall::PiecesAt(&[4], &[2, 3, 4, 9], AT_20), PARAGRAPH), (DONE, 4), &[(0, 2, 0, 1, 2), (2, 1, 1, 0, 1), (4, 5, 0, 0, 4), (9, 3, 0, 0, 3)]),
     // What is wider than a line is broken.
-    ((PiecesCall::PiecesAt(&[4], &[9], TextwrapOptions { width: 3, ..DEFAULTS }), PARAGRAPH), (DONE, 4), &[
-        (0, 3, 1, 0, 3),
-        (4, 4, 0, 0, 3),
-        (8, 1, 0, 0, 1),
-        (9, 3, 0, 0, 3),
-    ]),
+    ((PiecesCall::PiecesAt(&[4], &[9], TextwrapOptions { width: 3, ..DEFAULTS }), PARAGRAPH),
+        (DONE, 4), &[(0, 3, 1, 0, 3), (4, 4, 0, 0, 3), (8, 1, 0, 0, 1), (9, 3, 0, 0, 3)]),
 ];
 
 /// The paragraph `foo bär`, whose character of two bytes stands at 5.
@@ -71,10 +58,7 @@ const REFUSED_PIECES: &[RefusedPieces] = &[
 #[rattlefmt::skip]
 const REFUSED_LINES: &[RefusedLines] = &[
     (UNKNOWN_OPTIONS, &[(LinesCall::LinesAt(&[4, 8], &[], &[3], AT_9, 2), b"foo bar baz")]),
-    (WRONG_PLACES, &[
-        (LinesCall::LinesAt(&[4, 8], &[], &[2, 1], AT_9, 0), b"foo bar baz"),
-        (LinesCall::LinesAt(&[4, 8], &[], &[4], AT_9, 0), b"foo bar baz"),
-    ]),
+    (WRONG_PLACES, &[(LinesCall::LinesAt(&[4, 8], &[], &[2, 1], AT_9, 0), b"foo bar baz"), (LinesCall::LinesAt(&[4, 8], &[], &[4], AT_9, 0), b"foo bar baz")]),
 ];
 
 #[test]
@@ -87,8 +71,7 @@ fn a_paragraph_has_pieces_at_cuts_and_points(rt: HostRuntime) {
 #[rattlefmt::skip]
 const LINES: &[LinesRow] = &[
     // The pieces are `fo` with a hyphen, `o `, `bar ` and `baz`.
-    ((LinesCall::LinesAt(&[4, 8], &[2], &[1, 3, 4], AT_9, 0), b"foo bar baz"), (DONE, 3, 3),
-        (&[(0, 3, 1), (2, 5, 0), (8, 3, 0)], b"fo-_____")),
+    ((LinesCall::LinesAt(&[4, 8], &[2], &[1, 3, 4], AT_9, 0), b"foo bar baz"), (DONE, 3, 3), (&[(0, 3, 1), (2, 5, 0), (8, 3, 0)], b"fo-_____")),
     // After other lines the first has the subsequent indent; pieces after the last end are in none.
     ((LinesCall::LinesAt(&[4, 8], &[], &[1], TextwrapOptions { subsequent_indent: b"> ", ..AT_9 }, 1), b"foo bar baz"),
         (DONE, 1, 5), (&[(0, 5, 1), NONE, NONE], b"> foo___")),

@@ -50,11 +50,8 @@ const LATE: &[TextwrapSteps<'_>] = &[
 ];
 
 /// An end past the pieces.
-const LONG: &[TextwrapSteps<'_>] = &[TextwrapSteps {
-    cuts: &[4],
-    points: &[],
-    ends: &[3],
-}];
+#[rattlefmt::skip]
+const LONG: &[TextwrapSteps<'_>] = &[TextwrapSteps { cuts: &[4], points: &[], ends: &[3] }];
 
 /// The defaults at 3 columns, with paragraphs between CRLF.
 const AT_3: TextwrapOptions<'_> = TextwrapOptions {
@@ -73,10 +70,8 @@ const INDENTED: TextwrapOptions<'_> = TextwrapOptions {
 /// The lines of each paragraph are those at its steps, and stand where they do in the text.
 #[rattlefmt::skip]
 const WRAPPED: &[LinesRow] = &[
-    ((LinesCall::WrapAt(STEPS, AT_5), TEXT), (DONE, 5, 3),
-        (&[(0, 3, 0), (4, 3, 0), (8, 0, 0), (0, 3, 1), (11, 5, 0)], b"ba-_____")),
-    ((LinesCall::WrapAt(STEPS, AT_5), TEXT), (TOO_SMALL, 5, 3),
-        (&[(0, 3, 0), (4, 3, 0), (8, 0, 0), (0, 3, 1)], b"ba-_____")),
+    ((LinesCall::WrapAt(STEPS, AT_5), TEXT), (DONE, 5, 3), (&[(0, 3, 0), (4, 3, 0), (8, 0, 0), (0, 3, 1), (11, 5, 0)], b"ba-_____")),
+    ((LinesCall::WrapAt(STEPS, AT_5), TEXT), (TOO_SMALL, 5, 3), (&[(0, 3, 0), (4, 3, 0), (8, 0, 0), (0, 3, 1)], b"ba-_____")),
     // Whether a line stands before a paragraph depends on the lines, not on the paragraphs.
     ((LinesCall::WrapAt(LATE, INDENTED), b"foo\nbar"), (DONE, 1, 5), (&[(0, 5, 1), NONE], b"> bar___")),
     ((LinesCall::WrapAt(EACH_ONE, AT_3), b"foo\r\nbar"), (DONE, 2, 0), (&[(0, 3, 0), (5, 3, 0)], b"")),
@@ -87,11 +82,7 @@ const WRAPPED: &[LinesRow] = &[
 const REFUSED_LINES: &[RefusedLines] = &[
     (UNKNOWN_OPTIONS, &[(LinesCall::WrapAt(STEPS, TextwrapOptions { version: 0, ..AT_5 }), b"foo\xff")]),
     (NOT_UTF8, &[(LinesCall::WrapAt(STEPS, AT_5), b"foo\xff")]),
-    (WRONG_PLACES, &[
-        (LinesCall::WrapAt(EACH_ONE, AT_5), TEXT),
-        (LinesCall::WrapAt(STEPS, AT_5), b"foo bar"),
-        (LinesCall::WrapAt(LONG, AT_5), b"foo bar"),
-    ]),
+    (WRONG_PLACES, &[(LinesCall::WrapAt(EACH_ONE, AT_5), TEXT), (LinesCall::WrapAt(STEPS, AT_5), b"foo bar"), (LinesCall::WrapAt(LONG, AT_5), b"foo bar")]),
 ];
 
 /// The same of the calls that write a text.

@@ -108,15 +108,13 @@ const FILLED: &[(TextwrapOptions<'_>, &[u8], &[u8])] = &[
     (TextwrapOptions { break_words: 0, width: 5, ..DEFAULTS }, b"foobarbaz", b"foobarbaz"),
     (TextwrapOptions { preserve_trailing_space: 1, width: 5, ..DEFAULTS }, b"foo bar", b"foo \nbar"),
     (TextwrapOptions { crlf: 1, width: 5, ..DEFAULTS }, b"foo bar\r\nbaz", b"foo\r\nbar\r\nbaz"),
-    (TextwrapOptions { initial_indent: b"* ", subsequent_indent: b"    ", width: 9, ..DEFAULTS }, b"foo bar\nbaz qu",
-        b"* foo bar\n    baz qu"),
+    (TextwrapOptions { initial_indent: b"* ", subsequent_indent: b"    ", width: 9, ..DEFAULTS }, b"foo bar\nbaz qu", b"* foo bar\n    baz qu"),
     (TextwrapOptions { initial_indent: b"* ", subsequent_indent: b"    ", even_paragraphs: 1, width: 9, ..DEFAULTS },
         b"foo bar\nbaz qu", b"* foo bar\n    baz\n    qu"),
     // No text is wider than the greatest width.
     (TextwrapOptions { width: usize::MAX, ..DEFAULTS }, HAMLET, HAMLET),
     (TextwrapOptions { initial_indent: b"* ", width: usize::MAX, ..DEFAULTS }, b"foo bar", b"* foo bar"),
-    (TextwrapOptions { optimal_fit: 0, initial_indent: b"* ", width: usize::MAX, ..DEFAULTS }, b"foo bar",
-        b"* foo bar"),
+    (TextwrapOptions { optimal_fit: 0, initial_indent: b"* ", width: usize::MAX, ..DEFAULTS }, b"foo bar", b"* foo bar"),
 ];
 
 #[test]
@@ -135,11 +133,9 @@ fn each_option_reaches_the_library(rt: HostRuntime) {
 #[rattlefmt::skip]
 const INDENTED: &[TextRow] = &[
     ((TextCall::Unfill, b"* foo\n  bar\n"), (DONE, 12, b"foo bar\n*   ____")),
-    ((TextCall::Refill(TextwrapOptions { width: 20, ..DEFAULTS }), b"* foo\n  bar\n"),
-        (DONE, 10, b"* foo bar\n______")),
+    ((TextCall::Refill(TextwrapOptions { width: 20, ..DEFAULTS }), b"* foo\n  bar\n"), (DONE, 10, b"* foo bar\n______")),
     // Each later line has the indent of the second one, and each ends in CRLF.
-    ((TextCall::Refill(TextwrapOptions { crlf: 1, ..NARROW }), b"a\n>>>>bcd\n"),
-        (DONE, 24, b"a\r\n>>>>b\r\n>>>>c\r\n>>>>d\r\n")),
+    ((TextCall::Refill(TextwrapOptions { crlf: 1, ..NARROW }), b"a\n>>>>bcd\n"), (DONE, 24, b"a\r\n>>>>b\r\n>>>>c\r\n>>>>d\r\n")),
     ((TextCall::Indent(b"> "), b"a\n\nb\n"), (DONE, 10, b"> a\n>\n> b\n______")),
     ((TextCall::Indent(b"#"), b"\n\n"), (DONE, 4, b"#\n#\n")),
     ((TextCall::Dedent, b"  a\n    b\n"), (DONE, 6, b"a\n  b\n__________")),
@@ -147,14 +143,12 @@ const INDENTED: &[TextRow] = &[
 
 /// The unfilled text with its indents, in twice the room of the text. In the third the second line is
 /// joined whole, as it is the first that is not empty, and is the later indent too.
+#[rattlefmt::skip]
 const UNFILLED: &[TextRow] = &[
     ((TextCall::Unfill, b""), (DONE, 0, b"")),
     ((TextCall::Unfill, b"foo\n"), (DONE, 4, b"foo\n____")),
     ((TextCall::Unfill, b"\n > "), (DONE, 6, b" >  > __")),
-    (
-        (TextCall::Unfill, b"\r\n >\r\n"),
-        (DONE, 6, b" >\r\n >______"),
-    ),
+    ((TextCall::Unfill, b"\r\n >\r\n"), (DONE, 6, b" >\r\n >______")),
 ];
 
 /// A line stands where the number of the alignment says.
@@ -181,11 +175,7 @@ const WIDENED: &[TextRow] = &[
 #[rattlefmt::skip]
 const REFUSED_TEXTS: &[RefusedTexts] = &[
     (UNKNOWN_OPTIONS, &[(TextCall::ShortenBy(8, b"..", 2), b"a verylong"), (TextCall::Align(6, 3), b"\xe9")]),
-    (NOT_UTF8, &[
-        (TextCall::Fill(DEFAULTS), b"foo\xff"),
-        (TextCall::Align(6, 2), b"\xe9"),
-        (TextCall::ExpandTabs(4), b"a\tb\xff"),
-    ]),
+    (NOT_UTF8, &[(TextCall::Fill(DEFAULTS), b"foo\xff"), (TextCall::Align(6, 2), b"\xe9"), (TextCall::ExpandTabs(4), b"a\tb\xff")]),
 ];
 
 #[test]

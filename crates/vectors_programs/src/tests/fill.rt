@@ -79,8 +79,7 @@ const FAULTS: &[(&str, &[&str], &str, &str)] = &[
     ("a file that is not there, and one that is", &["10", "none", "40"], "five six", "textwrap: none: not found\n"),
     ("a file that is no text", &["10", "no text"], "", "textwrap: no text: not UTF-8 after 1 bytes\n"),
     ("a width that is no number", &["-w", "ten"], "", "textwrap: --width: 'ten' is not a number of 64 bits\n"),
-    ("a width that is too large", &["18446744073709551616"], "",
-        "textwrap: --width: '18446744073709551616' is not a number of 64 bits\n"),
+    ("a width that is too large", &["18446744073709551616"], "", "textwrap: --width: '18446744073709551616' is not a number of 64 bits\n"),
 ];
 
 #[test]

@@ -88,16 +88,12 @@ const CALLS: &[(&str, &[&str], &str, &str)] = &[
     ("a width before the dictionary", &["-w", "6", "words.dic"], "a table", "a ta-\nble"),
     ("a width after =", &["--width=6", "words.dic"], "a table", "a ta-\nble"),
     ("the last width counts", &["-w6", "words.dic", "-80"], "a table", "a table"),
-    ("fewer letters on both sides than the dictionary says", &["words.dic", "--left", "1", "--right=1"], "ana\n",
-        "a-na\n"),
-    ("soft hyphens alone, if they are asked for", &["--soft-hyphens", "words.dic"], "hyphena\u{ad}tion\ntable\n",
-        "hyphena\u{ad}-tion\nta-ble\n"),
+    ("fewer letters on both sides than the dictionary says", &["words.dic", "--left", "1", "--right=1"], "ana\n", "a-na\n"),
+    ("soft hyphens alone, if they are asked for", &["--soft-hyphens", "words.dic"], "hyphena\u{ad}tion\ntable\n", "hyphena\u{ad}-tion\nta-ble\n"),
     ("more before a hyphen", &["--left=3", "words.dic"], "hyphenation\n", "hyphen-ation\n"),
-    ("more behind it, of which the last counts", &["--right", "1", "words.dic", "--right", "6"], "hyphenation\n",
-        "hy-phenation\n"),
+    ("more behind it, of which the last counts", &["--right", "1", "words.dic", "--right", "6"], "hyphenation\n", "hy-phenation\n"),
     ("a file", &["words.dic", "one"], "hyphenation", "ta-ble\n"),
-    ("files one after another, and the standard input among them", &["words.dic", "two", "-", "one"], "unknown",
-        "hy-phen-ation\nunknown\nta-ble\n"),
+    ("files one after another, and the standard input among them", &["words.dic", "two", "-", "one"], "unknown", "hy-phen-ation\nunknown\nta-ble\n"),
 ];
 
 #[test]
@@ -160,11 +156,9 @@ const FAILURES: &[Failing] = &[
         "hyphenate: words.dic: line 3: there are more than two groups of patterns\n"),
     ("the dictionary is in a charset that is not known", b"ISCII-DEVANAGARI\n1\xe4\n", FileFault::Nothing,
         "hyphenate: words.dic: line 1: not UTF-8, and no charset that is known: convert it, as by iconv -t UTF-8\n"),
-    ("the dictionary has no patterns", b"UTF-8\nLEFTHYPHENMIN 2\n% none\n", FileFault::Nothing,
-        "hyphenate: words.dic: line 3: has no patterns\n"),
+    ("the dictionary has no patterns", b"UTF-8\nLEFTHYPHENMIN 2\n% none\n", FileFault::Nothing, "hyphenate: words.dic: line 3: has no patterns\n"),
     ("the dictionary is empty", b"", FileFault::Nothing, "hyphenate: words.dic: line 1: has no patterns\n"),
-    ("a read of the dictionary fails", b"hy3ph\n", FileFault::Read(FeedFault::Fails(3, ErrorKind::Other)),
-        "hyphenate: words.dic: cannot read\n"),
+    ("a read of the dictionary fails", b"hy3ph\n", FileFault::Read(FeedFault::Fails(3, ErrorKind::Other)), "hyphenate: words.dic: cannot read\n"),
 ];
 
 #[test]

@@ -61,15 +61,13 @@ fn words_out_of_memory_are_no_fewer_words(rt: HostRuntime) -> Result<(), Fail> {
 }
 
 /// Words, and the width and the algorithm that they ask for, if they are a request.
+#[rattlefmt::skip]
 const REQUESTS: &[(&[&str], Option<(usize, Algorithm)>)] = &[
     // A width and `first`.
     (&["10", "first"], Some((10, Algorithm::FirstFit))),
     (&["007", "first"], Some((7, Algorithm::FirstFit))),
     (&["0", "first"], Some((0, Algorithm::FirstFit))),
-    (
-        &["18446744073709551615", "first"],
-        Some((usize::MAX, Algorithm::FirstFit)),
-    ),
+    (&["18446744073709551615", "first"], Some((usize::MAX, Algorithm::FirstFit))),
     // Without an algorithm the least cost is meant.
     (&["10"], Some((10, Algorithm::OptimalFit))),
     (&["10", "optimal"], Some((10, Algorithm::OptimalFit))),

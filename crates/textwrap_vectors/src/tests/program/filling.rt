@@ -85,33 +85,14 @@ const FIRST: Algorithm = Algorithm::FirstFit;
 const OPTIMAL: Algorithm = Algorithm::OptimalFit;
 
 /// An input, a width and an algorithm, and the output.
+#[rattlefmt::skip]
 const FILLED_INPUTS: &[(&str, usize, Algorithm, &str)] = &[
     ("", 10, FIRST, ""),
     ("", 10, OPTIMAL, ""),
-    (
-        "To be, or not to be: that is the question",
-        10,
-        FIRST,
-        "To be, or\nnot to be:\nthat is\nthe\nquestion",
-    ),
-    (
-        "To be, or not to be: that is the question\n",
-        10,
-        FIRST,
-        "To be, or\nnot to be:\nthat is\nthe\nquestion\n",
-    ),
-    (
-        "To be, or not to be: that is the question",
-        10,
-        OPTIMAL,
-        "To be,\nor not to\nbe: that\nis the\nquestion",
-    ),
-    (
-        "To be, or not to be: that is the question\n",
-        10,
-        OPTIMAL,
-        "To be,\nor not to\nbe: that\nis the\nquestion\n",
-    ),
+    ("To be, or not to be: that is the question", 10, FIRST, "To be, or\nnot to be:\nthat is\nthe\nquestion"),
+    ("To be, or not to be: that is the question\n", 10, FIRST, "To be, or\nnot to be:\nthat is\nthe\nquestion\n"),
+    ("To be, or not to be: that is the question", 10, OPTIMAL, "To be,\nor not to\nbe: that\nis the\nquestion"),
+    ("To be, or not to be: that is the question\n", 10, OPTIMAL, "To be,\nor not to\nbe: that\nis the\nquestion\n"),
     // Words are split and broken.
     ("foo-bar", 5, OPTIMAL, "foo-\nbar"),
     ("abcdefgh\nijkl", 5, FIRST, "abcde\nfgh\nijkl"),
@@ -185,158 +166,31 @@ const HAMLET: &[u8] = b"To be, or not to be: that is the question";
 
 const FILLED: &[u8] = b"To be, or\nnot to be:\nthat is\nthe\nquestion";
 
+#[rattlefmt::skip]
 const RUNS: &[StreamRun] = &[
     // A text may come in pieces, which may cut a character, and be taken in pieces.
-    (
-        "byte by byte",
-        HAMLET,
-        (1, READS),
-        (1, WRITES),
-        Ok(()),
-        FILLED,
-    ),
-    (
-        "seven and three",
-        HAMLET,
-        (7, READS),
-        (3, WRITES),
-        Ok(()),
-        FILLED,
-    ),
-    (
-        "a character that is cut",
-        &[0xE3, 0x81, 0x82],
-        (2, READS),
-        (2, WRITES),
-        Ok(()),
-        &[0xE3, 0x81, 0x82],
-    ),
+    ("byte by byte", HAMLET, (1, READS), (1, WRITES), Ok(()), FILLED),
+    ("seven and three", HAMLET, (7, READS), (3, WRITES), Ok(()), FILLED),
+    ("a character that is cut", &[0xE3, 0x81, 0x82], (2, READS), (2, WRITES), Ok(()), &[0xE3, 0x81, 0x82]),
     // What cannot be read whole, or is no text, leaves the writer untouched.
-    (
-        "a read that fails after some bytes",
-        b"To be",
-        (5, FeedFault::Fails(5, ErrorKind::BrokenPipe)),
-        (5, WRITES),
-        Err(RunError::Read),
-        b"",
-    ),
-    (
-        "a read that is interrupted",
-        b"To be",
-        (5, FeedFault::Fails(5, ErrorKind::Interrupted)),
-        (5, WRITES),
-        Err(RunError::Read),
-        b"",
-    ),
-    (
-        "a first read that fails",
-        b"",
-        (5, FeedFault::Fails(0, ErrorKind::BrokenPipe)),
-        (5, WRITES),
-        Err(RunError::Read),
-        b"",
-    ),
-    (
-        "a read that fails after what is no text",
-        &[0x61, 0xFF],
-        (5, FeedFault::Fails(2, ErrorKind::BrokenPipe)),
-        (5, WRITES),
-        Err(RunError::Read),
-        b"",
-    ),
-    (
-        "no text",
-        &[0xFF],
-        (5, READS),
-        (5, WRITES),
-        Err(RunError::NotUtf8),
-        b"",
-    ),
-    (
-        "a text that ends in none",
-        &[0x61, 0xFF],
-        (5, READS),
-        (5, WRITES),
-        Err(RunError::NotUtf8),
-        b"",
-    ),
-    (
-        "a character that is cut off",
-        &[0xE3, 0x81],
-        (5, READS),
-        (5, WRITES),
-        Err(RunError::NotUtf8),
-        b"",
-    ),
+    ("a read that fails after some bytes", b"To be", (5, FeedFault::Fails(5, ErrorKind::BrokenPipe)), (5, WRITES), Err(RunError::Read), b""),
+    ("a read that is interrupted", b"To be", (5, FeedFault::Fails(5, ErrorKind::Interrupted)), (5, WRITES), Err(RunError::Read), b""),
+    ("a first read that fails", b"", (5, FeedFault::Fails(0, ErrorKind::BrokenPipe)), (5, WRITES), Err(RunError::Read), b""),
+    ("a read that fails after what is no text", &[0x61, 0xFF], (5, FeedFault::Fails(2, ErrorKind::BrokenPipe)), (5, WRITES), Err(RunError::Read), b""),
+    ("no text", &[0xFF], (5, READS), (5, WRITES), Err(RunError::NotUtf8), b""),
+    ("a text that ends in none", &[0x61, 0xFF], (5, READS), (5, WRITES), Err(RunError::NotUtf8), b""),
+    ("a character that is cut off", &[0xE3, 0x81], (5, READS), (5, WRITES), Err(RunError::NotUtf8), b""),
     // A write that fails or takes nothing ends the run, with what was written before it, and so does a
     // flush that fails.
-    (
-        "a first write that takes nothing",
-        HAMLET,
-        (50, READS),
-        (5, SinkFault::TakesNothing(0)),
-        Err(RunError::Write),
-        b"",
-    ),
-    (
-        "a first write that fails",
-        HAMLET,
-        (50, READS),
-        (5, SinkFault::Fails(0, ErrorKind::BrokenPipe)),
-        Err(RunError::Write),
-        b"",
-    ),
-    (
-        "a first write that is interrupted",
-        HAMLET,
-        (50, READS),
-        (5, SinkFault::Fails(0, ErrorKind::Interrupted)),
-        Err(RunError::Write),
-        b"",
-    ),
-    (
-        "a write that fails in mid-stream",
-        HAMLET,
-        (50, READS),
-        (5, SinkFault::Fails(4, ErrorKind::BrokenPipe)),
-        Err(RunError::Write),
-        b"To b",
-    ),
-    (
-        "a write that takes nothing in mid-stream",
-        HAMLET,
-        (50, READS),
-        (5, SinkFault::TakesNothing(4)),
-        Err(RunError::Write),
-        b"To b",
-    ),
-    (
-        "a last write that is interrupted",
-        HAMLET,
-        (50, READS),
-        (
-            5,
-            SinkFault::Fails(FILLED.len() - 1, ErrorKind::Interrupted),
-        ),
-        Err(RunError::Write),
-        b"To be, or\nnot to be:\nthat is\nthe\nquestio",
-    ),
-    (
-        "a flush that fails",
-        HAMLET,
-        (50, READS),
-        (5, SinkFault::FlushFails),
-        Err(RunError::Write),
-        FILLED,
-    ),
-    (
-        "a flush that fails where nothing is written",
-        b"",
-        (50, READS),
-        (5, SinkFault::FlushFails),
-        Err(RunError::Write),
-        b"",
-    ),
+    ("a first write that takes nothing", HAMLET, (50, READS), (5, SinkFault::TakesNothing(0)), Err(RunError::Write), b""),
+    ("a first write that fails", HAMLET, (50, READS), (5, SinkFault::Fails(0, ErrorKind::BrokenPipe)), Err(RunError::Write), b""),
+    ("a first write that is interrupted", HAMLET, (50, READS), (5, SinkFault::Fails(0, ErrorKind::Interrupted)), Err(RunError::Write), b""),
+    ("a write that fails in mid-stream", HAMLET, (50, READS), (5, SinkFault::Fails(4, ErrorKind::BrokenPipe)), Err(RunError::Write), b"To b"),
+    ("a write that takes nothing in mid-stream", HAMLET, (50, READS), (5, SinkFault::TakesNothing(4)), Err(RunError::Write), b"To b"),
+    ("a last write that is interrupted", HAMLET, (50, READS), (5, SinkFault::Fails(FILLED.len() - 1, ErrorKind::Interrupted)),
+        Err(RunError::Write), b"To be, or\nnot to be:\nthat is\nthe\nquestio"),
+    ("a flush that fails", HAMLET, (50, READS), (5, SinkFault::FlushFails), Err(RunError::Write), FILLED),
+    ("a flush that fails where nothing is written", b"", (50, READS), (5, SinkFault::FlushFails), Err(RunError::Write), b""),
 ];
 
 /// A run ends at the first read, write or flush that fails, and returns that.
@@ -372,13 +226,10 @@ fn assert_run_over(
 }
 
 /// An algorithm, how many allocations its run takes, and the output.
+#[rattlefmt::skip]
 const REFUSALS: &[(Algorithm, usize, &[u8])] = &[
     (FIRST, 5, FILLED),
-    (
-        OPTIMAL,
-        12,
-        b"To be,\nor not to\nbe: that\nis the\nquestion",
-    ),
+    (OPTIMAL, 12, b"To be,\nor not to\nbe: that\nis the\nquestion"),
 ];
 
 /// What a run returns and writes.

@@ -3,13 +3,11 @@ use super::super::plain::assert_holds;
 use textwrap_unicode::inner::is_cut_at_blanks;
 
 /// A text, and whether its words at Unicode line breaks are those between its blanks.
+#[rattlefmt::skip]
 const TEXTS: &[(&str, bool)] = &[
     ("", true),
     ("  ", true),
-    (
-        "foo (bar) baz, \"foo (bar)\" don't well-known 3.5 foo!  ",
-        true,
-    ),
+    ("foo (bar) baz, \"foo (bar)\" don't well-known 3.5 foo!  ", true),
     // LB14: no line ends behind a bracket that opens, but blanks at the end part no words.
     ("foo ( bar", false),
     ("foo (  ", true),

@@ -16,17 +16,14 @@ fn filled(alloc: Global, text: &str, width: usize) -> Result<String, WrapError> 
 }
 
 /// A text, a width, and the text filled.
+#[rattlefmt::skip]
 const FILLED: &[(&str, usize, &str)] = &[
     // Chinese and Japanese: between any two characters, but not before a full stop or a small
     // character, nor after an opening bracket.
     ("不要担心，你会没事的。", 10, "不要担心，\n你会没事\n的。"),
     ("これは「ペン」です。", 8, "これは\n「ペン」\nです。"),
     ("ちょっとまって", 6, "ちょっ\nとまっ\nて"),
-    (
-        "これはペンです。とても「よい」ペンでしたので、三本買いました。",
-        14,
-        "これはペンで\nす。とても「よ\nい」ペンでした\nので、三本買い\nました。",
-    ),
+    ("これはペンです。とても「よい」ペンでしたので、三本買いました。", 14, "これはペンで\nす。とても「よ\nい」ペンでした\nので、三本買い\nました。"),
     // Korean: between syllables too.
     ("한국어는 띄어쓰기를 한다", 10, "한국어는\n띄어쓰기를\n한다"),
     ("한국어는 띄어쓰기를", 12, "한국어는 띄\n어쓰기를"),
@@ -39,11 +36,7 @@ const FILLED: &[(&str, usize, &str)] = &[
     ("👨\u{200d}👩\u{200d}👧👍🏽", 7, "👨\u{200d}👩\u{200d}👧\n👍🏽"),
     ("🇩🇪🇫🇷🇯🇵", 4, "🇩🇪🇫🇷\n🇯🇵"),
     // Addresses, quotations and prices.
-    (
-        "http://example.com/foo/bar",
-        12,
-        "http://\nexample.com/\nfoo/bar",
-    ),
+    ("http://example.com/foo/bar", 12, "http://\nexample.com/\nfoo/bar"),
     ("foo “bar” baz", 9, "foo “bar”\nbaz"),
     ("$10.00 or 25% off", 9, "$10.00 or\n25% off"),
     // What closes stays with what it closes, and what opens with what it opens, whatever blanks are

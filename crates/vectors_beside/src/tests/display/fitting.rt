@@ -115,8 +115,7 @@ type NeedRow = (
 
 #[rattlefmt::skip]
 const NEEDS: &[NeedRow] = &[
-    ("the widest word and the widest line of each column", 2,
-        &["-h", "Print this help.", "--width N", "Wrap at N columns."], &[(7, 9), (8, 18)]),
+    ("the widest word and the widest line of each column", 2, &["-h", "Print this help.", "--width N", "Wrap at N columns."], &[(7, 9), (8, 18)]),
     ("a line is what stands between line feeds", 1, &["one\ntwo words\n"], &[(5, 9)]),
     ("blanks around a word are none of it", 1, &["  a  bc  "], &[(2, 9)]),
     ("a hyphen ends no word", 1, &["well-known fact"], &[(10, 15)]),

@@ -4,24 +4,13 @@ use crate::uses::hyphens::{DictionaryEntry, HyphenError, hyphenated_lines};
 use std::alloc::{AllocError, Global};
 use textwrap_lines::placed::Place;
 
+#[rattlefmt::skip]
 const DICTIONARY: &[DictionaryEntry<'static>] = &[
-    DictionaryEntry {
-        word: "typesetting",
-        points: &[4, 7],
-    },
-    DictionaryEntry {
-        word: "machines",
-        points: &[2],
-    },
-    DictionaryEntry {
-        word: "größte",
-        points: &[4, 6],
-    },
+    DictionaryEntry { word: "typesetting", points: &[4, 7] },
+    DictionaryEntry { word: "machines", points: &[2] },
+    DictionaryEntry { word: "größte", points: &[4, 6] },
     // This entry is not the first with its text, and is not used.
-    DictionaryEntry {
-        word: "machines",
-        points: &[0],
-    },
+    DictionaryEntry { word: "machines", points: &[0] },
 ];
 
 /// A paragraph, the columns, and its lines.

@@ -26,9 +26,8 @@ fn divides(
     Ok(have_lens(&lines, lens))
 }
 
-const HAMLET: &[&str] = &[
-    "To ", "be, ", "or ", "not ", "to ", "be: ", "that ", "is ", "the ", "question",
-];
+#[rattlefmt::skip]
+const HAMLET: &[&str] = &["To ", "be, ", "or ", "not ", "to ", "be: ", "that ", "is ", "the ", "question"];
 
 /// Texts of words, the widths of their lines, and how many each line has: at the least cost, and by
 /// first fit.
@@ -165,13 +164,8 @@ fn divides_at_widths(
 
 const NUMBERS: &[&str] = &["one ", "two ", "three ", "four ", "five ", "six"];
 
-const LINES_AT_ENDS: &[(&[usize], &[usize])] = &[
-    (&[1, 3, 6], &[1, 2, 3]),
-    (&[2, 2], &[2, 0]),
-    (&[], &[]),
-    (&[0, 6], &[0, 6]),
-    (&[4, 3, 7, 5], &[4, 1]),
-];
+#[rattlefmt::skip]
+const LINES_AT_ENDS: &[(&[usize], &[usize])] = &[(&[1, 3, 6], &[1, 2, 3]), (&[2, 2], &[2, 0]), (&[], &[]), (&[0, 6], &[0, 6]), (&[4, 3, 7, 5], &[4, 1])];
 
 /// A function of the caller gets the words and the line widths, and its lines lie between its ends;
 /// where it refuses, so does the call.

@@ -101,20 +101,12 @@ impl Fragment for Verse {
 }
 
 /// The penalty of a line, how many of three verses each line has, and what they cost.
-const VERSES_BY_PENALTY: &[(usize, [usize; 2], u128)] = &[
-    (0, [2, 1], 0),
-    (24, [2, 1], 72),
-    (25, [1, 2], 75),
-    (26, [1, 2], 77),
-];
+#[rattlefmt::skip]
+const VERSES_BY_PENALTY: &[(usize, [usize; 2], u128)] = &[(0, [2, 1], 0), (24, [2, 1], 72), (25, [1, 2], 75), (26, [1, 2], 77)];
 
 /// Three verses, of which the second leads on.
 #[rattlefmt::skip]
-const POEM: [Verse; 3] = [
-    Verse { width: 4, leads_on: false },
-    Verse { width: 4, leads_on: true },
-    Verse { width: 4, leads_on: false },
-];
+const POEM: [Verse; 3] = [Verse { width: 4, leads_on: false }, Verse { width: 4, leads_on: true }, Verse { width: 4, leads_on: false }];
 
 /// A break penalty may depend on the penalties. The usual hyphen penalty counts for none of these,
 /// though each has a penalty width.

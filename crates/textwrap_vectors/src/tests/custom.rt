@@ -63,10 +63,8 @@ fn wraps(
 /// A text, a width and the lines.
 type Rows<'a> = &'a [(&'a str, usize, &'a str)];
 
-const CUT_IN_MIDDLE: Rows<'_> = &[
-    ("foobar", 5, "foo|bar|"),
-    ("foobar\nfoobaz", 5, "foo|bar|fooba|z|"),
-];
+#[rattlefmt::skip]
+const CUT_IN_MIDDLE: Rows<'_> = &[("foobar", 5, "foo|bar|"), ("foobar\nfoobaz", 5, "foo|bar|fooba|z|")];
 
 const CUT_NOWHERE: Rows<'_> = &[("foo bar", 5, "foo b|ar|")];
 
@@ -118,11 +116,8 @@ fn a_word_is_split_where_the_function_says(rt: HostRuntime) {
     assert_row(&rt, "foobar", are_pieces(&pieces, SPLIT_IN_MIDDLE));
 }
 
-const HYPHENED: Rows<'_> = &[
-    ("foobar", 4, "+foo-|bar|"),
-    ("fo-bar", 4, "fo-|bar|"),
-    ("foobar", 6, "foobar|"),
-];
+#[rattlefmt::skip]
+const HYPHENED: Rows<'_> = &[("foobar", 4, "+foo-|bar|"), ("fo-bar", 4, "fo-|bar|"), ("foobar", 6, "foobar|")];
 
 /// A line that ends at a point of the caller shows the hyphen, and is no slice of the text then.
 #[test]

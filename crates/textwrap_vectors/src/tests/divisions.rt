@@ -34,13 +34,8 @@ impl Fragment for Block {
 }
 
 /// Fragments whose closed width falls: the fourth has none, and the third a penalty.
-pub(super) const FALLING: &[Block] = &[
-    Block(10, 0, 0),
-    Block(5, 0, 0),
-    Block(5, 0, 5),
-    Block(0, 0, 0),
-    Block(10, 0, 0),
-];
+#[rattlefmt::skip]
+pub(super) const FALLING: &[Block] = &[Block(10, 0, 0), Block(5, 0, 0), Block(5, 0, 5), Block(0, 0, 0), Block(10, 0, 0)];
 
 /// Four fragments of five columns.
 #[rattlefmt::skip]

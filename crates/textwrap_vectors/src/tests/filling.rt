@@ -63,9 +63,7 @@ const GREAT: Penalties = Penalties {
 };
 
 #[rattlefmt::skip]
-const WIDTHS: &[usize] = &[
-    0, 1, 2, 3, 4, 5, 6, 7, 8, 9, 10, 11, 12, 13, 20, 31, 50, 80, usize::MAX,
-];
+const WIDTHS: &[usize] = &[0, 1, 2, 3, 4, 5, 6, 7, 8, 9, 10, 11, 12, 13, 20, 31, 50, 80, usize::MAX];
 
 const ALL_PENALTIES: &[Option<Penalties>] = &[None, Some(PENALTIES), Some(ODD), Some(GREAT)];
 

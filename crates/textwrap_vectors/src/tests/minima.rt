@@ -271,13 +271,8 @@ pub(super) fn all_penalties(each: usize) -> Penalties {
     penalties_of([each; 5])
 }
 
-const MASKS: &[([usize; 3], usize)] = &[
-    ([7, 1, 1], 1),
-    ([15, 0, 1], 1),
-    ([0, 0, 0], 3),
-    ([0, 0, 0], 0),
-    ([3, 1, 0], 0),
-];
+#[rattlefmt::skip]
+const MASKS: &[([usize; 3], usize)] = &[([7, 1, 1], 1), ([15, 0, 1], 1), ([0, 0, 0], 3), ([0, 0, 0], 0), ([3, 1, 0], 0)];
 
 const WIDTHS: &[&[usize]] = &[&[80], &[20], &[5, 20], &[20, 5], &[0, 9], &[], &[7, 7, 7]];
 
@@ -429,11 +424,8 @@ fn the_search_asks_for_few_line_costs(rt: HostRuntime) {
     assert_row(&rt, by_division, by_division == steps);
 }
 
-const STEPS: &[(&[Block], u128, u128)] = &[
-    (FALLING, 15, 15),
-    (&[], 0, 0),
-    (&[Block(3, 1, 0)], 1, 12),
-];
+#[rattlefmt::skip]
+const STEPS: &[(&[Block], u128, u128)] = &[(FALLING, 15, 15), (&[], 0, 0), (&[Block(3, 1, 0)], 1, 12)];
 
 /// Outside the queue case the table is asked: 15 line costs of five fragments. No fragments need
 /// none, and one needs at most 12.

@@ -154,12 +154,7 @@ const THREE: Word<'_> = Word {
 
 /// The pieces at the hyphens.
 #[rattlefmt::skip]
-const AT_HYPHENS: &[Word<'_>] = &[
-    TWO,
-    Word { word: "b-", ..TWO },
-    Word { word: "c", whitespace: " ", width: 1, ..FOOBAR },
-    FOOBAR,
-];
+const AT_HYPHENS: &[Word<'_>] = &[TWO, Word { word: "b-", ..TWO }, Word { word: "c", whitespace: " ", width: 1, ..FOOBAR }, FOOBAR];
 
 /// The pieces at the points of a caller: there `foo` gets a hyphen if it ends its line.
 #[rattlefmt::skip]
@@ -267,32 +262,12 @@ const WIDTHS: &[usize] = &[7, 3, 7];
 const TWO_ON_EACH: &[usize] = &[2, 2, 2, 2, 1];
 
 /// The least costs of these words on lines of 7, 3 and again 7 columns.
-const BY_TABLE: &[(usize, u128)] = &[
-    (0, 0),
-    (0, 1016),
-    (0, 1000),
-    (2, 2000),
-    (3, 3016),
-    (3, 3000),
-    (4, 4016),
-    (5, 4000),
-    (6, 5016),
-    (7, 5000),
-];
+#[rattlefmt::skip]
+const BY_TABLE: &[(usize, u128)] = &[(0, 0), (0, 1016), (0, 1000), (2, 2000), (3, 3016), (3, 3000), (4, 4016), (5, 4000), (6, 5016), (7, 5000)];
 
 /// Those on lines of 7 columns.
-const BY_QUEUE: &[(usize, u128)] = &[
-    (0, 0),
-    (0, 1016),
-    (0, 1000),
-    (1, 2016),
-    (2, 2000),
-    (3, 3016),
-    (4, 3000),
-    (5, 4016),
-    (6, 4000),
-    (8, 5000),
-];
+#[rattlefmt::skip]
+const BY_QUEUE: &[(usize, u128)] = &[(0, 0), (0, 1016), (0, 1000), (1, 2016), (2, 2000), (3, 3016), (4, 3000), (5, 4016), (6, 4000), (8, 5000)];
 
 impl Refusable for OnLines {
     fn is_right<R: Abort + AllocGlobal>(&self, rt: &R, heap: &Heap) -> Result<bool, WrapError> {
@@ -409,11 +384,8 @@ fn appends(heap: &Heap, slowly: bool) -> Result<bool, WrapError> {
     Ok(is_right)
 }
 
-const ON_OTHERS: &[(OnOthers, usize)] = &[
-    (OnOthers::WrapAtPoints, 26),
-    (OnOthers::Append { slowly: false }, 17),
-    (OnOthers::Append { slowly: true }, 21),
-];
+#[rattlefmt::skip]
+const ON_OTHERS: &[(OnOthers, usize)] = &[(OnOthers::WrapAtPoints, 26), (OnOthers::Append { slowly: false }, 17), (OnOthers::Append { slowly: true }, 21)];
 
 /// What gives lines otherwise is out of memory too wherever one of its lists or texts cannot grow.
 #[test]

@@ -105,11 +105,8 @@ fn a_word_is_a_text_without_its_final_blanks(rt: HostRuntime) {
 }
 
 /// Blanks, a penalty and a width.
-const THREE_WIDTHS: &[(&str, &str, usize)] = &[
-    ("", "", 0),
-    ("  ", "-", 3),
-    (" ", "->", usize::MAX),
-];
+#[rattlefmt::skip]
+const THREE_WIDTHS: &[(&str, &str, usize)] = &[("", "", 0), ("  ", "-", 3), (" ", "->", usize::MAX)];
 
 /// As a fragment a word has its field `width`, and the bytes of its whitespace and of its penalty.
 #[test]

@@ -306,9 +306,7 @@ fn only_hyphenated_lines_are_copied(rt: HostRuntime) -> Result<(), AllocError> {
 
 /// The text in two narrow columns.
 #[rattlefmt::skip]
-const ROWS: &[&str] = &[
-    "Zeilenum- |in schma- ", "bruch und |len Spal- ", "Silben-   |ten       ", "trennung  |          ",
-];
+const ROWS: &[&str] = &["Zeilenum- |in schma- ", "bruch und |len Spal- ", "Silben-   |ten       ", "trennung  |          "];
 
 #[test]
 fn columns_are_hyphenated(rt: HostRuntime) -> Result<(), AllocError> {

@@ -227,9 +227,8 @@ const SAME_LETTERS: &[(&str, &[&str], &str, &[usize])] = &[
 ];
 
 /// The letters of the patterns that are counted.
-const LETTERS: [char; 18] = [
-    'a', 'b', 'c', 'd', 'e', 'f', 'g', 'h', 'i', 'j', 'k', 'l', 'm', 'n', 'o', 'p', 'q', 'r',
-];
+#[rattlefmt::skip]
+const LETTERS: [char; 18] = ['a', 'b', 'c', 'd', 'e', 'f', 'g', 'h', 'i', 'j', 'k', 'l', 'm', 'n', 'o', 'p', 'q', 'r'];
 
 /// How many words have three such letters.
 const NUMBERS: usize = 5832;

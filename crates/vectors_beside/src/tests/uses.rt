@@ -22,11 +22,8 @@ use textwrap::{Options, WrapError};
 use textwrap_display::Gaps;
 use textwrap_vectors::functions::are_borrowed;
 
-const HELP_ROWS: &[&str] = &[
-    "  -h      Print this help.",
-    "  -w N    Wrap at N       ",
-    "          columns.        ",
-];
+#[rattlefmt::skip]
+const HELP_ROWS: &[&str] = &["  -h      Print this help.", "  -w N    Wrap at N       ", "          columns.        "];
 
 #[test]
 fn help_has_flags_and_texts(rt: HostRuntime) {
@@ -74,11 +71,8 @@ fn flags_are_as_wide_as_they_need(rt: HostRuntime) {
     }
 }
 
-const STYLED_ROWS: &[&str] = &[
-    "\x1b[1mone\x1b[0m|\x1b[31ma b\x1b[0m|",
-    "\x1b[1mtwo\x1b[0m|\x1b[31mc\x1b[0m  |",
-    "\x1b[1msix\x1b[0m|   |",
-];
+#[rattlefmt::skip]
+const STYLED_ROWS: &[&str] = &["\x1b[1mone\x1b[0m|\x1b[31ma b\x1b[0m|", "\x1b[1mtwo\x1b[0m|\x1b[31mc\x1b[0m  |", "\x1b[1msix\x1b[0m|   |"];
 
 const STYLED_GAPS: Gaps<'static> = Gaps {
     left: "",
@@ -147,12 +141,8 @@ fn notes_and_scripts_are_laid_out(rt: HostRuntime) {
 }
 
 /// A text, the columns, and whether it is filled already.
-const ARE_FILLED: &[(&str, usize, bool)] = &[
-    ("foo bar\nbaz", 7, true),
-    ("foo bar baz", 7, false),
-    ("foo ", 7, false),
-    ("", 0, true),
-];
+#[rattlefmt::skip]
+const ARE_FILLED: &[(&str, usize, bool)] = &[("foo bar\nbaz", 7, true), ("foo bar baz", 7, false), ("foo ", 7, false), ("", 0, true)];
 
 #[test]
 fn a_filled_text_is_filled_already(rt: HostRuntime) {

@@ -116,10 +116,8 @@ fn bounds_count_rows_and_gaps(rt: HostRuntime) {
 }
 
 /// Lengths of texts, and the bounds of these filled. One that no number holds is the greatest.
-const GREATEST: &[(usize, usize)] = &[
-    (usize::MAX / 2 + 1, usize::MAX),
-    (usize::MAX / 2, usize::MAX - 1),
-];
+#[rattlefmt::skip]
+const GREATEST: &[(usize, usize)] = &[(usize::MAX / 2 + 1, usize::MAX), (usize::MAX / 2, usize::MAX - 1)];
 
 /// Calls, and the bounds of the lines and of the room of the greatest text.
 const GREATEST_LINES: &[(LinesCall<'_>, (usize, usize))] = &[

@@ -59,11 +59,7 @@ const BALANCED: &[LinesRow] = &[
 
 /// Lines of which the first leaves two attributes open, and the second ends one of them.
 #[rattlefmt::skip]
-const COLOURED: &[TextwrapText<'_>] = &[
-    TextwrapText { bytes: b"a \x1b[1;31mb" },
-    TextwrapText { bytes: b"c\x1b[39md" },
-    TextwrapText { bytes: b"e" },
-];
+const COLOURED: &[TextwrapText<'_>] = &[TextwrapText { bytes: b"a \x1b[1;31mb" }, TextwrapText { bytes: b"c\x1b[39md" }, TextwrapText { bytes: b"e" }];
 
 /// A line that is no text.
 const NO_TEXT: &[TextwrapText<'_>] = &[TextwrapText { bytes: b"\xff" }];

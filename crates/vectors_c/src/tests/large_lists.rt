@@ -72,10 +72,7 @@ const LEFT: TextwrapColumn<'_> = TextwrapColumn {
 
 /// The same, and one whose lines stand at the right.
 #[rattlefmt::skip]
-const COLUMNS: &[TextwrapColumn<'_>] = &[
-    LEFT,
-    TextwrapColumn { options: AT_11, alignment: 1, reserved: 0 },
-];
+const COLUMNS: &[TextwrapColumn<'_>] = &[LEFT, TextwrapColumn { options: AT_11, alignment: 1, reserved: 0 }];
 
 /// The lines in two columns, with a bar beside each.
 fn table(alloc: Global) -> Result<Told, AllocError> {

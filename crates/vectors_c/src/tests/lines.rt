@@ -58,18 +58,11 @@ const IN_COLUMNS: &[LinesRow] = &[
 
 /// Lines of which the first leaves a style open.
 #[rattlefmt::skip]
-const STYLED: &[TextwrapText<'_>] = &[
-    TextwrapText { bytes: b"\x1b[1mone" },
-    TextwrapText { bytes: b"two" },
-];
+const STYLED: &[TextwrapText<'_>] = &[TextwrapText { bytes: b"\x1b[1mone" }, TextwrapText { bytes: b"two" }];
 
 /// The same, with one line more.
 #[rattlefmt::skip]
-const STYLED_AND_ONE: &[TextwrapText<'_>] = &[
-    TextwrapText { bytes: b"\x1b[1mone" },
-    TextwrapText { bytes: b"two" },
-    TextwrapText { bytes: b"three" },
-];
+const STYLED_AND_ONE: &[TextwrapText<'_>] = &[TextwrapText { bytes: b"\x1b[1mone" }, TextwrapText { bytes: b"two" }, TextwrapText { bytes: b"three" }];
 
 /// Lines are left out, and styles carried.
 #[rattlefmt::skip]
@@ -103,17 +96,11 @@ const RESERVED: TextwrapColumn<'_> = TextwrapColumn {
 
 /// Columns of 4 and 5, whose lines stand at the left and at the right.
 #[rattlefmt::skip]
-const COLUMNS: &[TextwrapColumn<'_>] = &[
-    LEFT,
-    TextwrapColumn { options: AT_5, alignment: 1, reserved: 0 },
-];
+const COLUMNS: &[TextwrapColumn<'_>] = &[LEFT, TextwrapColumn { options: AT_5, alignment: 1, reserved: 0 }];
 
 /// Texts in two columns, the last of them alone.
-const CELLS: &[TextwrapText<'_>] = &[
-    TextwrapText { bytes: b"foo bar" },
-    TextwrapText { bytes: b"1.5" },
-    TextwrapText { bytes: b"baz" },
-];
+#[rattlefmt::skip]
+const CELLS: &[TextwrapText<'_>] = &[TextwrapText { bytes: b"foo bar" }, TextwrapText { bytes: b"1.5" }, TextwrapText { bytes: b"baz" }];
 
 /// A cell that is no text.
 const NO_TEXT: &[TextwrapText<'_>] = &[TextwrapText { bytes: b"\xff" }];
@@ -126,11 +113,8 @@ const TABLES: &[LinesRow] = &[
 ];
 
 /// Lines of which the last column has fewer.
-const FEW_LINES: &[TextwrapText<'_>] = &[
-    TextwrapText { bytes: b"Foo" },
-    TextwrapText { bytes: b"Bar" },
-    TextwrapText { bytes: b"Baz" },
-];
+#[rattlefmt::skip]
+const FEW_LINES: &[TextwrapText<'_>] = &[TextwrapText { bytes: b"Foo" }, TextwrapText { bytes: b"Bar" }, TextwrapText { bytes: b"Baz" }];
 
 /// Gaps of which one is no text.
 pub(super) const NO_TEXT_GAPS: TextwrapGaps<'_> = TextwrapGaps {

@@ -37,17 +37,11 @@ const STEPS: &[TextwrapSteps<'_>] = &[
 
 /// One piece in one line, for each of two paragraphs.
 #[rattlefmt::skip]
-const EACH_ONE: &[TextwrapSteps<'_>] = &[
-    TextwrapSteps { cuts: &[], points: &[], ends: &[1] },
-    TextwrapSteps { cuts: &[], points: &[], ends: &[1] },
-];
+const EACH_ONE: &[TextwrapSteps<'_>] = &[TextwrapSteps { cuts: &[], points: &[], ends: &[1] }, TextwrapSteps { cuts: &[], points: &[], ends: &[1] }];
 
 /// No line in the first paragraph. In the second the empty piece of the indent, and its word.
 #[rattlefmt::skip]
-const LATE: &[TextwrapSteps<'_>] = &[
-    NO_STEPS,
-    TextwrapSteps { cuts: &[], points: &[], ends: &[2] },
-];
+const LATE: &[TextwrapSteps<'_>] = &[NO_STEPS, TextwrapSteps { cuts: &[], points: &[], ends: &[2] }];
 
 /// An end past the pieces.
 #[rattlefmt::skip]
@@ -126,10 +120,7 @@ const AT_8: TextwrapOptions<'_> = TextwrapOptions {
 /// Three lines of a paragraph, before one that is a line as a whole. The empty piece of the indent stands
 /// in the first line.
 #[rattlefmt::skip]
-const WORDS: &[TextwrapSteps<'_>] = &[
-    TextwrapSteps { cuts: &[2, 4, 7, 9], points: &[], ends: &[3, 5, 6] },
-    NO_STEPS,
-];
+const WORDS: &[TextwrapSteps<'_>] = &[TextwrapSteps { cuts: &[2, 4, 7, 9], points: &[], ends: &[3, 5, 6] }, NO_STEPS];
 
 /// All lines but the last of each paragraph are justified, the first of them after its indent.
 #[rattlefmt::skip]

@@ -227,10 +227,7 @@ fn assert_run_over(
 
 /// An algorithm, how many allocations its run takes, and the output.
 #[rattlefmt::skip]
-const REFUSALS: &[(Algorithm, usize, &[u8])] = &[
-    (FIRST, 5, FILLED),
-    (OPTIMAL, 12, b"To be,\nor not to\nbe: that\nis the\nquestion"),
-];
+const REFUSALS: &[(Algorithm, usize, &[u8])] = &[(FIRST, 5, FILLED), (OPTIMAL, 12, b"To be,\nor not to\nbe: that\nis the\nquestion")];
 
 /// What a run returns and writes.
 type Ended = (Result<(), RunError>, &'static [u8]);

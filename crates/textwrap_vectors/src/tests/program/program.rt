@@ -22,29 +22,17 @@ type Run = (
 
 /// Nothing goes wrong, the input cannot be read, the output cannot be written, no message can be
 /// written.
-const SOUND: (FeedFault, SinkFault, SinkFault) = (
-    FeedFault::Nothing,
-    SinkFault::Nothing,
-    SinkFault::Nothing,
-);
+#[rattlefmt::skip]
+const SOUND: (FeedFault, SinkFault, SinkFault) = (FeedFault::Nothing, SinkFault::Nothing, SinkFault::Nothing);
 
-const NO_INPUT: (FeedFault, SinkFault, SinkFault) = (
-    FeedFault::Fails(0, ErrorKind::BrokenPipe),
-    SinkFault::Nothing,
-    SinkFault::Nothing,
-);
+#[rattlefmt::skip]
+const NO_INPUT: (FeedFault, SinkFault, SinkFault) = (FeedFault::Fails(0, ErrorKind::BrokenPipe), SinkFault::Nothing, SinkFault::Nothing);
 
-const NO_OUTPUT: (FeedFault, SinkFault, SinkFault) = (
-    FeedFault::Nothing,
-    SinkFault::Fails(0, ErrorKind::BrokenPipe),
-    SinkFault::Nothing,
-);
+#[rattlefmt::skip]
+const NO_OUTPUT: (FeedFault, SinkFault, SinkFault) = (FeedFault::Nothing, SinkFault::Fails(0, ErrorKind::BrokenPipe), SinkFault::Nothing);
 
-const NO_MESSAGES: (FeedFault, SinkFault, SinkFault) = (
-    FeedFault::Nothing,
-    SinkFault::Nothing,
-    SinkFault::Fails(0, ErrorKind::BrokenPipe),
-);
+#[rattlefmt::skip]
+const NO_MESSAGES: (FeedFault, SinkFault, SinkFault) = (FeedFault::Nothing, SinkFault::Nothing, SinkFault::Fails(0, ErrorKind::BrokenPipe));
 
 const USAGE: &str = "usage: textwrap_cli WIDTH [first|optimal]\n";
 
@@ -97,25 +85,11 @@ fn words_and_input_give_output_messages_and_status(rt: HostRuntime) -> Result<()
 const REFUSALS: usize = 9;
 
 /// The run over a heap that allows them, and over one that refuses any.
-const ALLOWED: Run = (
-    "over a heap",
-    &["10"],
-    HAMLET,
-    SOUND,
-    "To be,\nor not to\nbe: that\nis the\nquestion",
-    "",
-    0,
-);
+#[rattlefmt::skip]
+const ALLOWED: Run = ("over a heap", &["10"], HAMLET, SOUND, "To be,\nor not to\nbe: that\nis the\nquestion", "", 0);
 
-const REFUSED: Run = (
-    "over a heap that refuses",
-    &["10"],
-    HAMLET,
-    SOUND,
-    "",
-    "textwrap_cli: out of memory\n",
-    1,
-);
+#[rattlefmt::skip]
+const REFUSED: Run = ("over a heap that refuses", &["10"], HAMLET, SOUND, "", "textwrap_cli: out of memory\n", 1);
 
 /// Wherever one of its allocations is refused, the program says that it is out of memory, and writes
 /// nothing.

@@ -60,9 +60,7 @@ const PRESERVED: &[Row] = &[
 
 /// The same, with CRLF between lines.
 #[rattlefmt::skip]
-const IN_CRLF: &[Row] = &[
-    ("paragraphs end in CRLF too", "a b c\r\nd e f\r\n", 4, "", "", "a  b\r\nc\r\nd  e\r\nf\r\n"),
-];
+const IN_CRLF: &[Row] = &[("paragraphs end in CRLF too", "a b c\r\nd e f\r\n", 4, "", "", "a  b\r\nc\r\nd  e\r\nf\r\n")];
 
 /// Asserts what becomes of a row's text by first fit.
 fn assert_filled(

@@ -1,9 +1,8 @@
 //! The program that is installed as `textwrap`.
-use super::plain::assert_holds;
 use super::program::folder::{FileFault, Given};
 use super::program::plain::{
-    Program, SOUND, Start, assert_bytes, assert_ending, assert_rendered, assert_run, repeated,
-    run_of,
+    Program, Start, assert_bytes, assert_ending, assert_no_request, assert_rendered, assert_run,
+    repeated, run_of, sound_start,
 };
 use filter_programs::fill::arguments::{HELP, VERSION};
 use filter_programs::fill::program::Fill;
@@ -34,12 +33,7 @@ fn assert_writes(
     input: &[u8],
     wanted: (&str, &str, u8),
 ) {
-    let start = Start {
-        words,
-        input,
-        files: FILES,
-        faults: SOUND,
-    };
+    let start = sound_start(words, input, FILES);
     assert_run(rt, rule, Program::Fill, start, wanted);
 }
 
@@ -90,26 +84,13 @@ fn faults_are_named(rt: HostRuntime) {
 }
 
 /// Words that are not those of the program.
-const NO_REQUESTS: &[&[&str]] = &[
-    &["--bogus"],
-    &["10", "--width"],
-    &["--in-place", "one"],
-    &["-x"],
-];
+#[rattlefmt::skip]
+const NO_REQUESTS: &[&[&str]] = &[&["--bogus"], &["10", "--width"], &["--in-place", "one"], &["-x"]];
 
 #[test]
 fn other_words_are_no_request(rt: HostRuntime) {
     for words in NO_REQUESTS {
-        let start = Start {
-            words,
-            input: b"one two",
-            files: FILES,
-            faults: SOUND,
-        };
-        let left = run_of(&rt, "no request", Program::Fill, start);
-        assert_ending(&rt, "no request", left.ending, 2, true);
-        assert_bytes(&rt, "no request", &left.output.taken, b"");
-        assert_holds(&rt, "it is said why", !left.messages.taken.is_empty());
+        assert_no_request(&rt, Program::Fill, words, FILES);
     }
 }
 
@@ -141,15 +122,10 @@ const OUTPUTS: &[(ErrorKind, &str, u8)] = &[
 fn faults_of_the_output_are_told(rt: HostRuntime) {
     for &(kind, said, status) in OUTPUTS {
         for words in [&["10"][..], &["--help"]] {
+            let fault = SinkFault::Fails(4, kind);
             let start = Start {
-                words,
-                input: HAMLET.as_bytes(),
-                files: FILES,
-                faults: (
-                    FeedFault::Nothing,
-                    SinkFault::Fails(4, kind),
-                    SinkFault::Nothing,
-                ),
+                faults: (FeedFault::Nothing, fault, SinkFault::Nothing),
+                ..sound_start(words, HAMLET.as_bytes(), FILES)
             };
             let left = run_of(&rt, said, Program::Fill, start);
             assert_ending(&rt, said, left.ending, status, true);
@@ -163,12 +139,7 @@ fn a_large_text_is_filled(rt: HostRuntime) {
     let text = repeated(&rt, HAMLET, 2000);
     for (algorithm, line) in [("first", BY_FIRST_FIT), ("optimal", BY_LEAST_COST)] {
         let wanted = repeated(&rt, line, 2000);
-        assert_writes(
-            &rt,
-            "2,000 lines",
-            &["10", algorithm],
-            text.as_bytes(),
-            (&wanted, "", 0),
-        );
+        let words = ["10", algorithm];
+        assert_writes(&rt, algorithm, &words, text.as_bytes(), (&wanted, "", 0));
     }
 }

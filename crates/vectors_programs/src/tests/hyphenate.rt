@@ -1,9 +1,7 @@
 //! The program `hyphenate`.
-use super::plain::assert_holds;
 use super::program::folder::{FileFault, Given};
 use super::program::plain::{
-    Program, SOUND, Start, assert_bytes, assert_ending, assert_rendered, assert_run, repeated,
-    run_of,
+    Program, assert_no_request, assert_rendered, assert_run, repeated, sound_start,
 };
 use filter_programs::hyphenate::arguments::{HELP, VERSION};
 use filter_programs::hyphenate::program::Hyphenate;
@@ -57,12 +55,7 @@ fn assert_writes(
         ("one", b"table\n", FileFault::Nothing),
         ("two", b"hyphenation", FileFault::Nothing),
     ];
-    let start = Start {
-        words,
-        input,
-        files: &files,
-        faults: SOUND,
-    };
+    let start = sound_start(words, input, &files);
     assert_run(rt, rule, Program::Hyphenate, start, wanted);
 }
 
@@ -119,16 +112,7 @@ fn other_words_are_no_request(rt: HostRuntime) {
         assert_writes(&rt, said, words, b"hyphen\n", ("", said, 2));
     }
     for words in [&[][..], &["--bogus"], &["words.dic", "--width"]] {
-        let start = Start {
-            words,
-            input: b"",
-            files: &[DICTIONARY],
-            faults: SOUND,
-        };
-        let left = run_of(&rt, "no request", Program::Hyphenate, start);
-        assert_ending(&rt, "no request", left.ending, 2, true);
-        assert_bytes(&rt, "no request", &left.output.taken, b"");
-        assert_holds(&rt, "it is said why", !left.messages.taken.is_empty());
+        assert_no_request(&rt, Program::Hyphenate, words, &[DICTIONARY]);
     }
 }
 
@@ -137,13 +121,8 @@ fn many_words_get_their_hyphens(rt: HostRuntime) {
     let text = repeated(&rt, "hyphenation\ntable\n", 5000);
     let wanted = repeated(&rt, "hy-phen-ation\nta-ble\n", 5000);
     let words = ["words.dic"];
-    assert_writes(
-        &rt,
-        "10,000 words",
-        &words,
-        text.as_bytes(),
-        (&wanted, "", 0),
-    );
+    let wanted = (wanted.as_str(), "", 0);
+    assert_writes(&rt, "10,000 words", &words, text.as_bytes(), wanted);
 }
 
 /// What a row shows, a dictionary and what goes wrong with it, and what is said.
@@ -163,12 +142,12 @@ const FAILURES: &[Failing] = &[
 
 #[test]
 fn a_dictionary_is_read_in_its_charset(rt: HostRuntime) {
-    let start = Start {
-        words: &["words.dic"],
-        input: "gr\u{f6}\u{df}er\n".as_bytes(),
-        files: &[("words.dic", b"ISO8859-1\n\xf61\xdf\n", FileFault::Nothing)],
-        faults: SOUND,
-    };
+    let files = [(
+        "words.dic",
+        b"ISO8859-1\n\xf61\xdf\n" as &[u8],
+        FileFault::Nothing,
+    )];
+    let start = sound_start(&["words.dic"], "gr\u{f6}\u{df}er\n".as_bytes(), &files);
     let wanted = ("gr\u{f6}-\u{df}er\n", "", 0);
     assert_run(&rt, "a charset", Program::Hyphenate, start, wanted);
 }
@@ -188,12 +167,8 @@ const CHANGES: &[(&str, &[&str], &[u8], &str)] = &[
 #[test]
 fn changes_of_letters_are_told(rt: HostRuntime) {
     for &(rule, words, dictionary, said) in CHANGES {
-        let start = Start {
-            words,
-            input: b"zucker\n",
-            files: &[("words.dic", dictionary, FileFault::Nothing)],
-            faults: SOUND,
-        };
+        let files = [("words.dic", dictionary, FileFault::Nothing)];
+        let start = sound_start(words, b"zucker\n", &files);
         let wanted = ("zu-cker\n", said, 0);
         assert_run(&rt, rule, Program::Hyphenate, start, wanted);
     }
@@ -202,12 +177,8 @@ fn changes_of_letters_are_told(rt: HostRuntime) {
 #[test]
 fn failures_are_explained(rt: HostRuntime) {
     for &(rule, bytes, fault, said) in FAILURES {
-        let start = Start {
-            words: &["words.dic"],
-            input: b"hyphen\n",
-            files: &[("words.dic", bytes, fault)],
-            faults: SOUND,
-        };
+        let files = [("words.dic", bytes, fault)];
+        let start = sound_start(&["words.dic"], b"hyphen\n", &files);
         assert_run(&rt, rule, Program::Hyphenate, start, ("", said, 2));
     }
 }
@@ -225,9 +196,6 @@ fn help_and_version_are_shown(rt: HostRuntime) {
 #[test]
 fn what_is_shown_is_as_clap_makes_it(rt: HostRuntime) {
     assert_rendered(&rt, matches_in(rt.alloc(), &Hyphenate, &["--help"]), HELP);
-    assert_rendered(
-        &rt,
-        matches_in(rt.alloc(), &Hyphenate, &["--version"]),
-        VERSION,
-    );
+    let parse = matches_in(rt.alloc(), &Hyphenate, &["--version"]);
+    assert_rendered(&rt, parse, VERSION);
 }

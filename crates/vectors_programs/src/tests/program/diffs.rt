@@ -3,7 +3,8 @@
 use super::super::plain::assert_holds;
 use super::folder::{FileFault, Given};
 use super::plain::{
-    Start, assert_bytes, assert_number, assert_reflowed, assert_spans, assert_whole_run, run,
+    Start, assert_bytes, assert_number, assert_reflowed, assert_spans, assert_whole_run, repeated,
+    run, sound_start,
 };
 use std::io::ErrorKind;
 use std::process::Abort;
@@ -86,10 +87,8 @@ fn names_are_quoted_as_in_c(rt: HostRuntime) {
 /// A diff of lines of which no two are the same is one hunk, however many they are.
 #[test]
 fn a_large_text_without_a_common_line(rt: HostRuntime) {
-    let old = "one two three four\n"
-        .repeat(rt.alloc(), 600)
-        .expect(&rt, "old");
-    let new = "one two\n".repeat(rt.alloc(), 700).expect(&rt, "new");
+    let old = repeated(&rt, "one two three four\n", 600);
+    let new = repeated(&rt, "one two\n", 700);
     let found = diff_text(rt.alloc(), "a", old.as_bytes(), new.as_bytes()).expect(&rt, "a diff");
     let first = "--- a\n+++ a\n@@ -1,600 +1,700 @@\n-one two three four\n";
     assert_spans(&rt, "a diff", &found, first, "+one two\n");
@@ -128,17 +127,8 @@ const DIFF_OF_B: &str =
 
 /// A rule, the words, what goes wrong with the output, the output in two parts, the messages, and the
 /// status.
-type Run = (
-    &'static str,
-    &'static [&'static str],
-    SinkFault,
-    (&'static str, &'static str),
-    &'static str,
-    u8,
-);
-
 #[rattlefmt::skip]
-const RUNS: &[Run] = &[
+const RUNS: &[(&str, &[&str], SinkFault, (&str, &str), &str, u8)] = &[
     ("files are told one after another", &["-10", "--diff", "a", "c", "my b"], SinkFault::Nothing, (DIFF_OF_A, DIFF_OF_B), "", 0),
     ("none that does not change", &["-10", "--diff", "c", "c"], SinkFault::Nothing, ("", ""), "", 0),
     ("beside a check it counts", &["-10", "--diff", "a", "--check", "c"], SinkFault::Nothing, (DIFF_OF_A, ""), "", 1),
@@ -150,24 +140,17 @@ const RUNS: &[Run] = &[
     ("nobody reads the output any more", &["-10", "--diff", "--check", "a", "my b"], SinkFault::Fails(7, ErrorKind::BrokenPipe), ("--- a\n+", ""), "", 0),
 ];
 
-/// Asserts what comes of a run, and that no file is replaced.
-fn assert_run(rt: &(impl Abort + AllocGlobal), row: &Run) {
-    let &(rule, words, fault, (first, second), messages, status) = row;
-    let start = Start {
-        words,
-        input: b"",
-        files: FILES,
-        faults: (FeedFault::Nothing, fault, SinkFault::Nothing),
-    };
-    let output = format!(in rt.alloc(); "{first}{second}").expect(rt, rule);
-    let written = (output.as_bytes(), messages.as_bytes());
-    assert_whole_run(rt, rule, &run(rt, rule, start), written, (status, true));
-}
-
+/// No file is replaced.
 #[test]
 fn diffs_of_files(rt: HostRuntime) {
-    for row in RUNS {
-        assert_run(&rt, row);
+    for &(rule, words, fault, (first, second), messages, status) in RUNS {
+        let start = Start {
+            faults: (FeedFault::Nothing, fault, SinkFault::Nothing),
+            ..sound_start(words, b"", FILES)
+        };
+        let output = format!(in rt.alloc(); "{first}{second}").expect(&rt, rule);
+        let written = (output.as_bytes(), messages.as_bytes());
+        assert_whole_run(&rt, rule, &run(&rt, rule, start), written, (status, true));
     }
 }
 

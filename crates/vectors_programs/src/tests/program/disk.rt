@@ -71,12 +71,8 @@ fn rights(
 }
 
 /// A name, a text and a mode.
-const BEFORE: &[(&str, &str, u32)] = &[
-    ("a", COUNT, 0o640),
-    ("b", COUNT, 0o644),
-    (".reflow-draft-0", "old", 0o600),
-    ("closed", COUNT, 0o444),
-];
+#[rattlefmt::skip]
+const BEFORE: &[(&str, &str, u32)] = &[("a", COUNT, 0o640), ("b", COUNT, 0o644), (".reflow-draft-0", "old", 0o600), ("closed", COUNT, 0o444)];
 
 /// Makes the files.
 fn make_files(rt: &(impl rt::Files<File = File> + AllocGlobal + Abort), folder: &str) {
@@ -201,13 +197,8 @@ fn may_write(rt: &(impl rt::Files<File = File> + AllocGlobal + Abort), folder: &
 }
 
 /// A run on a file that may not be written, though its folder may be.
-const OF_CLOSED: Run<'_> = (
-    "--in-place",
-    "closed",
-    "",
-    "/closed: may not be written\n",
-    2,
-);
+#[rattlefmt::skip]
+const OF_CLOSED: Run<'_> = ("--in-place", "closed", "", "/closed: may not be written\n", 2);
 
 /// Asserts that such a file is left alone.
 fn assert_closed_kept(rt: &(impl rt::Files<File = File> + AllocGlobal + Abort), folder: &str) {

@@ -1,8 +1,9 @@
 //! Reads and writes of the standard streams that fail, and texts that come and go in pieces.
 use super::folder::{FileFault, Given};
-use super::plain::{Faults, SOUND, Start, assert_reflowed, assert_whole_run, run};
+use super::plain::{
+    Faults, SOUND, Start, assert_reflowed, assert_whole_run, repeated, run, sound_start,
+};
 use std::io::ErrorKind;
-use std::process::Abort;
 use textwrap_vectors::streams::{FeedFault, SinkFault};
 
 const FILES: &[Given] = &[
@@ -13,18 +14,8 @@ const FILES: &[Given] = &[
 
 /// What a row shows, its words, the standard input, what goes wrong with that, with the output and
 /// with the messages, and the output, the messages and the status.
-type FaultRun = (
-    &'static str,
-    &'static [&'static str],
-    &'static [u8],
-    Faults,
-    &'static str,
-    &'static str,
-    u8,
-);
-
 #[rattlefmt::skip]
-const FAULT_RUNS: &[FaultRun] = &[
+const FAULT_RUNS: &[(&str, &[&str], &[u8], Faults, &str, &str, u8)] = &[
     ("nothing is printed of an input whose read fails", &["-w", "10"], b"one two three four\n",
         (FeedFault::Fails(6, ErrorKind::Other), SinkFault::Nothing, SinkFault::Nothing), "", "reflow: standard input: cannot read\n", 2),
     ("the same at the first read", &["-w", "10", "--check"], b"one two three four\n",
@@ -62,37 +53,25 @@ reflow: empty: no line begins with what --prefix says\n", 0),
         (FeedFault::Nothing, SinkFault::Nothing, SinkFault::Fails(0, ErrorKind::Other)), "", "", 2),
 ];
 
-/// Asserts what comes of a run, and that no file is replaced. It ends with whether each message was
-/// written whole.
-fn assert_fault_run(rt: &(impl Abort + AllocGlobal), row: &FaultRun) {
-    let &(rule, words, input, faults, output, messages, status) = row;
-    let start = Start {
-        words,
-        input,
-        files: FILES,
-        faults,
-    };
-    let said = matches!(faults.2, SinkFault::Nothing);
-    let written = (output.as_bytes(), messages.as_bytes());
-    assert_whole_run(rt, rule, &run(rt, rule, start), written, (status, said));
-}
-
+/// No file is replaced. A run ends with whether each message was written whole.
 #[test]
 fn faults_of_the_streams_are_reported(rt: HostRuntime) {
-    for row in FAULT_RUNS {
-        assert_fault_run(&rt, row);
+    for &(rule, words, input, faults, output, messages, status) in FAULT_RUNS {
+        let start = Start {
+            faults,
+            ..sound_start(words, input, FILES)
+        };
+        let said = matches!(faults.2, SinkFault::Nothing);
+        let written = (output.as_bytes(), messages.as_bytes());
+        assert_whole_run(&rt, rule, &run(&rt, rule, start), written, (status, said));
     }
 }
 
 /// A megabyte of paragraphs.
 #[test]
 fn a_large_text_is_reflowed_whole(rt: HostRuntime) {
-    let input = "- foo\n  bar\n  baz\n\n"
-        .repeat(rt.alloc(), 70_000)
-        .expect(&rt, "input");
-    let output = "- foo bar\n  baz\n\n"
-        .repeat(rt.alloc(), 70_000)
-        .expect(&rt, "output");
+    let input = repeated(&rt, "- foo\n  bar\n  baz\n\n", 70_000);
+    let output = repeated(&rt, "- foo bar\n  baz\n\n", 70_000);
     let words = ["-w", "9", "--first-fit"];
     assert_reflowed(&rt, "a large text", &words, &input, &output);
 }

@@ -1,7 +1,7 @@
 //! What becomes of files, one after another.
 use super::folder::{FileFault, Folder, Given};
 use super::plain::{
-    Left, SOUND, Start, assert_bytes, assert_left, assert_number, assert_unread, run,
+    Left, assert_bytes, assert_left, assert_number, assert_unread, run, sound_start,
 };
 use std::io::ErrorKind;
 use std::process::Abort;
@@ -18,18 +18,12 @@ const EIGHT: &[u8] = b"eight\n";
 const NO_TEXT: &[u8] = b"one \xFF\n";
 
 /// Two files that change at 10 columns, and one that does not.
-const SOUND_FILES: &[Given] = &[
-    ("a", COUNT, FileFault::Nothing),
-    ("b", FIVE, FileFault::Nothing),
-    ("c", EIGHT, FileFault::Nothing),
-];
+#[rattlefmt::skip]
+const SOUND_FILES: &[Given] = &[("a", COUNT, FileFault::Nothing), ("b", FIVE, FileFault::Nothing), ("c", EIGHT, FileFault::Nothing)];
 
 /// The second of three files goes wrong.
-const CLOSED: &[Given] = &[
-    ("a", COUNT, FileFault::Nothing),
-    ("b", FIVE, FileFault::Open),
-    ("c", EIGHT, FileFault::Nothing),
-];
+#[rattlefmt::skip]
+const CLOSED: &[Given] = &[("a", COUNT, FileFault::Nothing), ("b", FIVE, FileFault::Open), ("c", EIGHT, FileFault::Nothing)];
 
 #[rattlefmt::skip]
 const CUT_OFF: &[Given] = &[
@@ -38,33 +32,21 @@ const CUT_OFF: &[Given] = &[
     ("c", EIGHT, FileFault::Nothing),
 ];
 
-const NO_UTF8: &[Given] = &[
-    ("a", COUNT, FileFault::Nothing),
-    ("b", NO_TEXT, FileFault::Nothing),
-    ("c", EIGHT, FileFault::Nothing),
-];
+#[rattlefmt::skip]
+const NO_UTF8: &[Given] = &[("a", COUNT, FileFault::Nothing), ("b", NO_TEXT, FileFault::Nothing), ("c", EIGHT, FileFault::Nothing)];
 
 /// The first of two files goes wrong when it is replaced.
-const NO_DRAFT: &[Given] = &[
-    ("a", COUNT, FileFault::Draft(ErrorKind::StorageFull)),
-    ("b", FIVE, FileFault::Nothing),
-];
+#[rattlefmt::skip]
+const NO_DRAFT: &[Given] = &[("a", COUNT, FileFault::Draft(ErrorKind::StorageFull)), ("b", FIVE, FileFault::Nothing)];
 
 #[rattlefmt::skip]
-const DRAFT_CUT_OFF: &[Given] = &[
-    ("a", COUNT, FileFault::Write(SinkFault::Fails(7, ErrorKind::BrokenPipe))),
-    ("b", FIVE, FileFault::Nothing),
-];
+const DRAFT_CUT_OFF: &[Given] = &[("a", COUNT, FileFault::Write(SinkFault::Fails(7, ErrorKind::BrokenPipe))), ("b", FIVE, FileFault::Nothing)];
 
-const DRAFT_FULL: &[Given] = &[
-    ("a", COUNT, FileFault::Write(SinkFault::TakesNothing(0))),
-    ("b", FIVE, FileFault::Nothing),
-];
+#[rattlefmt::skip]
+const DRAFT_FULL: &[Given] = &[("a", COUNT, FileFault::Write(SinkFault::TakesNothing(0))), ("b", FIVE, FileFault::Nothing)];
 
-const DRAFT_NOT_FLUSHED: &[Given] = &[
-    ("a", COUNT, FileFault::Write(SinkFault::FlushFails)),
-    ("b", FIVE, FileFault::Nothing),
-];
+#[rattlefmt::skip]
+const DRAFT_NOT_FLUSHED: &[Given] = &[("a", COUNT, FileFault::Write(SinkFault::FlushFails)), ("b", FIVE, FileFault::Nothing)];
 
 #[rattlefmt::skip]
 const NOT_RENAMED: &[Given] = &[("a", COUNT, FileFault::Rename), ("b", FIVE, FileFault::Nothing)];
@@ -161,22 +143,13 @@ const FILE_RUNS: &[FileRun] = &[
         messages: "reflow: a: cannot write\nreflow: 1 of 2 files changed\n", status: 2, after: &[COUNT, b"five six\nseven\n"], replaced: 1 },
     FileRun { rule: "each step that fails has its message, and leaves the file as it was",
         words: &["-w", "10", "--in-place", "pipe", "device", "folder", "closed", "drafts", "changed", "mode", "sync", "memory", "long", "fixed", "last"],
-        files: NOT_REPLACED, output: "", messages: "reflow: pipe: is a pipe or a socket\n\
-reflow: device: is a device\n\
-reflow: folder: is a folder\n\
-reflow: closed: may not be written\n\
-reflow: drafts: 100 drafts are there already\n\
-reflow: changed: has changed while it was read\n\
-reflow: mode: cannot write\n\
-reflow: sync: cannot write\n\
-reflow: memory: out of memory\n\
-reflow: long: its name is too long\n\
-reflow: fixed: stands on a file system that may only be read\n\
-reflow: 1 of 12 files changed\n", status: 2, after: &[COUNT, COUNT, COUNT, COUNT, COUNT, COUNT, COUNT, COUNT, COUNT, COUNT, COUNT, b"one two\nthree four\n"],
+        files: NOT_REPLACED, output: "", messages: "reflow: pipe: is a pipe or a socket\nreflow: device: is a device\n\
+reflow: folder: is a folder\nreflow: closed: may not be written\nreflow: drafts: 100 drafts are there already\n\
+reflow: changed: has changed while it was read\nreflow: mode: cannot write\nreflow: sync: cannot write\nreflow: memory: out of memory\n\
+reflow: long: its name is too long\nreflow: fixed: stands on a file system that may only be read\nreflow: 1 of 12 files changed\n", status: 2, after: &[COUNT, COUNT, COUNT, COUNT, COUNT, COUNT, COUNT, COUNT, COUNT, COUNT, COUNT, b"one two\nthree four\n"],
         replaced: 1 },
     FileRun { rule: "no line has the marks that are filled", words: &["-w", "10", "--in-place", "--prefix", "//", "a", "c"], files: SOUND_FILES, output: "",
-        messages: "reflow: a: no line begins with what --prefix says\n\
-reflow: c: no line begins with what --prefix says\n\
+        messages: "reflow: a: no line begins with what --prefix says\nreflow: c: no line begins with what --prefix says\n\
 reflow: 0 of 2 files changed\n", status: 0, after: &[COUNT, FIVE, EIGHT], replaced: 0 },
 ];
 
@@ -198,21 +171,12 @@ fn assert_row_left(rt: &impl Abort, row: &FileRun, left: &Left) {
     assert_folder(rt, row, &left.folder);
 }
 
-/// Asserts what comes of a run over files, and that it does not read the standard input.
-fn assert_file_run(rt: &(impl Abort + AllocGlobal), row: &FileRun) {
-    let start = Start {
-        words: row.words,
-        input: b"one two",
-        files: row.files,
-        faults: SOUND,
-    };
-    assert_row_left(rt, row, &run(rt, row.rule, start));
-}
-
+/// No run over files reads the standard input.
 #[test]
 fn files_are_treated_one_after_another(rt: HostRuntime) {
     for row in FILE_RUNS {
-        assert_file_run(&rt, row);
+        let start = sound_start(row.words, b"one two", row.files);
+        assert_row_left(&rt, row, &run(&rt, row.rule, start));
     }
 }
 
@@ -220,12 +184,7 @@ fn files_are_treated_one_after_another(rt: HostRuntime) {
 /// more than these.
 #[test]
 fn rights_are_no_wider_for_another_owner(rt: HostRuntime) {
-    let start = Start {
-        words: &["-w", "10", "--in-place", "a"],
-        input: b"",
-        files: OF_NOBODY,
-        faults: SOUND,
-    };
+    let start = sound_start(&["-w", "10", "--in-place", "a"], b"", OF_NOBODY);
     let left = run(&rt, "a file of nobody", start);
     assert!(&rt; left.folder.mode == 0o644);
 }

@@ -35,6 +35,16 @@ pub struct Start<'a> {
     pub faults: Faults,
 }
 
+/// A start with streams at which nothing goes wrong.
+pub fn sound_start<'a>(words: &'a [&'a str], input: &'a [u8], files: &'a [Given]) -> Start<'a> {
+    Start {
+        words,
+        input,
+        files,
+        faults: SOUND,
+    }
+}
+
 /// What a run left behind.
 #[derive(Drop)]
 pub struct Left {
@@ -111,13 +121,23 @@ pub fn assert_run(
     assert_bytes(rt, rule, &left.messages.taken, said.as_bytes());
 }
 
+/// Asserts that words are no request: nothing is written, and it is said why.
+pub fn assert_no_request(
+    rt: &(impl Abort + AllocGlobal),
+    program: Program,
+    words: &[&str],
+    files: &[Given],
+) {
+    let start = sound_start(words, b"one two", files);
+    let left = run_of(rt, "no request", program, start);
+    assert_ending(rt, "no request", left.ending, 2, true);
+    assert_bytes(rt, "no request", &left.output.taken, b"");
+    assert!(rt; !left.messages.taken.is_empty(), "it is said why");
+}
+
 /// A text, so many times.
 pub fn repeated(rt: &(impl Abort + AllocGlobal), part: &str, times: usize) -> String {
-    let mut text = String::new(rt.alloc());
-    for _ in 0..times {
-        text.push_str(part).expect(rt, part);
-    }
-    text
+    part.repeat(rt.alloc(), times).expect(rt, part)
 }
 
 /// Asserts that words mean no request, and that `clap` displays this text of them.
@@ -190,12 +210,6 @@ pub fn assert_reflowed(
     input: &str,
     output: &str,
 ) {
-    let start = Start {
-        words,
-        input: input.as_bytes(),
-        files: &[],
-        faults: SOUND,
-    };
-    let left = run(rt, rule, start);
+    let left = run(rt, rule, sound_start(words, input.as_bytes(), &[]));
     assert_whole_run(rt, rule, &left, (output.as_bytes(), b""), (0, true));
 }

@@ -1,11 +1,10 @@
 //! What the words after the program's name mean, seen by what is done with the standard input.
 use super::plain::{
-    Left, SOUND, Start, assert_bytes, assert_reflowed, assert_rendered, assert_spans,
-    assert_unread, run,
+    Left, Start, assert_bytes, assert_reflowed, assert_rendered, assert_spans, assert_unread, run,
+    sound_start,
 };
 use filter_programs::reflow::arguments::{HELP, VERSION};
 use filter_programs::reflow::program::Reflow;
-use std::alloc::{AllocError, Global};
 use std::io::ErrorKind;
 use std::process::Abort;
 use text_filters::tool::matches_in;
@@ -107,15 +106,8 @@ fn options_lay_out_the_standard_input(rt: HostRuntime) {
 const NO_NUMBER: &str = "' is not a number of 64 bits\n";
 
 /// What a row shows, its words, how the messages begin, and how they end.
-type Refused = (
-    &'static str,
-    &'static [&'static str],
-    &'static str,
-    &'static str,
-);
-
 #[rattlefmt::skip]
-const REFUSED: &[Refused] = &[
+const REFUSED: &[(&str, &[&str], &str, &str)] = &[
     ("a width with a letter", &["-w", "1O"], "reflow: --width: '1O' is", NO_NUMBER),
     ("no width", &["-w="], "reflow: --width: '' is", NO_NUMBER),
     ("a width with a sign", &["--width", "+5"], "reflow: --width: '+5' is", NO_NUMBER),
@@ -136,32 +128,17 @@ fn assert_no_request(rt: &impl Abort, rule: &str, left: &Left, (first, last): (&
     assert_bytes(rt, rule, &left.output.taken, b"");
 }
 
-/// Asserts that words are no request, and how the message begins and ends.
-fn assert_refused(rt: &(impl Abort + AllocGlobal), row: &Refused) {
-    let &(rule, words, first, last) = row;
-    let start = Start {
-        words,
-        input: b"one two",
-        files: &[],
-        faults: SOUND,
-    };
-    assert_no_request(rt, rule, &run(rt, rule, start), (first, last));
-}
-
 #[test]
 fn other_words_are_no_request(rt: HostRuntime) {
-    for row in REFUSED {
-        assert_refused(&rt, row);
+    for &(rule, words, first, last) in REFUSED {
+        let start = sound_start(words, b"one two", &[]);
+        assert_no_request(&rt, rule, &run(&rt, rule, start), (first, last));
     }
 }
 
 /// Words that ask for help or the version, and the answer.
-const SHOWN: &[(&[&str], &str)] = &[
-    (&["--help"], HELP),
-    (&["-w", "x", "-h"], HELP),
-    (&["--check", "a", "--version"], VERSION),
-    (&["-V"], VERSION),
-];
+#[rattlefmt::skip]
+const SHOWN: &[(&[&str], &str)] = &[(&["--help"], HELP), (&["-w", "x", "-h"], HELP), (&["--check", "a", "--version"], VERSION), (&["-V"], VERSION)];
 
 /// What goes wrong with the output, and the message and the status then.
 #[rattlefmt::skip]
@@ -180,38 +157,23 @@ fn assert_answer(rt: &impl Abort, answer: &str, left: &Left, (message, status): 
     }
 }
 
-/// Asserts what the answer is, and what is said where it cannot be written.
-fn assert_shown(
-    rt: &(impl Abort + AllocGlobal),
-    (words, answer): (&[&str], &str),
-    &(fault, message, status): &(SinkFault, &[u8], u8),
-) {
-    let start = Start {
-        words,
-        input: b"one two",
-        files: &[],
-        faults: (FeedFault::Nothing, fault, SinkFault::Nothing),
-    };
-    assert_answer(rt, answer, &run(rt, answer, start), (message, status));
-}
-
 /// The answer goes to the output, and if that fails, a message says so.
 #[test]
 fn help_and_version_are_shown(rt: HostRuntime) {
-    for &shown in SHOWN {
-        for faulty in SHOWING_FAULTS {
-            assert_shown(&rt, shown, faulty);
+    for &(words, answer) in SHOWN {
+        for &(fault, message, status) in SHOWING_FAULTS {
+            let start = Start {
+                faults: (FeedFault::Nothing, fault, SinkFault::Nothing),
+                ..sound_start(words, b"one two", &[])
+            };
+            assert_answer(&rt, answer, &run(&rt, answer, start), (message, status));
         }
     }
 }
 
 /// Words that ask for help or the version, and all that is shown.
-const RENDERED: &[(&[&str], &str)] = &[
-    (&["--help"], HELP),
-    (&["-h"], HELP),
-    (&["--version"], VERSION),
-    (&["-V"], VERSION),
-];
+#[rattlefmt::skip]
+const RENDERED: &[(&[&str], &str)] = &[(&["--help"], HELP), (&["-h"], HELP), (&["--version"], VERSION), (&["-V"], VERSION)];
 
 /// The texts that are shown are those that `clap` makes of the command line.
 #[test]

@@ -3,7 +3,7 @@ ghost use Rattle.std.specs.Prelude.{IfOk};
 ghost use Rattle.textwrap.specs.LineEnds.{AreEnds};
 
 use super::divisions::STRICT;
-use super::given::{assert_found, assert_out_of_memory, has_lens, have_lens};
+use super::given::{Found, assert_found, assert_out_of_memory, has_lens, have_lens};
 use super::plain::{plain_divide, plain_words};
 use std::alloc::{AllocError, Global};
 use std::process::Abort;
@@ -20,7 +20,7 @@ fn divides(
     texts: &[&str],
     line_widths: &[usize],
     lens: &[usize],
-) -> Result<bool, WrapError> {
+) -> Found {
     let words = plain_words(alloc, texts)?;
     let lines = plain_divide(alloc, algorithm, &words, line_widths)?;
     Ok(have_lens(&lines, lens))
@@ -63,18 +63,14 @@ const WORD: Word<'_> = Word {
 
 /// The same with a blank after it.
 const BLANK: Word<'_> = Word {
-    word: "x",
     whitespace: " ",
-    penalty: "",
-    width: 1,
+    ..WORD
 };
 
 /// The same with a hyphen, if it ends its line.
 const HYPHENED: Word<'_> = Word {
-    word: "x",
-    whitespace: "",
     penalty: "-",
-    width: 1,
+    ..WORD
 };
 
 /// Two words, each with the width that it is given, the width of the lines, and how many words each
@@ -112,17 +108,10 @@ fn assert_divided(
 /// Words of any field `width` are divided on lines of any width. In these rows both algorithms agree.
 #[test]
 fn words_of_any_width_are_divided(rt: HostRuntime) {
-    for &(first, first_width, second, second_width, line_width, lens) in DIVIDED_WORDS {
-        let words = [
-            Word {
-                width: first_width,
-                ..first
-            },
-            Word {
-                width: second_width,
-                ..second
-            },
-        ];
+    for &(first, width, second, second_width, line_width, lens) in DIVIDED_WORDS {
+        let first = Word { width, ..first };
+        let width = second_width;
+        let words = [first, Word { width, ..second }];
         assert_divided(&rt, WrapAlgorithm::FirstFit, words, line_width, lens);
         assert_divided(&rt, WrapAlgorithm::new(), words, line_width, lens);
     }
@@ -157,7 +146,7 @@ fn divides_at_widths(
     texts: &[&str],
     line_widths: &[usize],
     lens: &[usize],
-) -> Result<bool, WrapError> {
+) -> Found {
     let algorithm = WrapAlgorithm::Custom(LineEnds::new(alloc, widths_as_ends));
     divides(alloc, algorithm, texts, line_widths, lens)
 }
@@ -180,12 +169,7 @@ fn lines_lie_between_the_ends_of_the_caller(rt: HostRuntime) {
 }
 
 /// A word of the greatest width.
-const WIDEST: Word<'_> = Word {
-    word: "x",
-    whitespace: "",
-    penalty: "",
-    width: MAX,
-};
+const WIDEST: Word<'_> = Word { width: MAX, ..WORD };
 
 const TWO_WIDEST: [Word<'_>; 2] = [WIDEST; 2];
 
@@ -193,11 +177,8 @@ const TWO_WIDEST: [Word<'_>; 2] = [WIDEST; 2];
 #[test]
 fn words_too_wide_for_128_bits_are_refused_by_cost_alone(rt: HostRuntime) {
     let strict = WrapAlgorithm::OptimalFit(STRICT);
-    let refused = matches!(
-        plain_divide(rt.alloc(), strict, &TWO_WIDEST, &[0]),
-        Err(WrapError::Overflow(_))
-    );
-    assert!(rt; refused);
+    let refused = plain_divide(rt.alloc(), strict, &TWO_WIDEST, &[0]);
+    assert!(rt; matches!(refused, Err(WrapError::Overflow(_))));
     assert_divided(&rt, WrapAlgorithm::FirstFit, TWO_WIDEST, 0, &[1, 1]);
 }
 

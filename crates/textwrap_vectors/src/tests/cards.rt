@@ -18,14 +18,10 @@ const FREE: Card = Card {
     keep: 0,
 };
 
+#[rattlefmt::skip]
 const VERSES: &[(usize, &[usize], u128, bool)] = &[
-    (0, &[2, 1], 2000, true),
-    (24, &[2, 1], 2024, true),
-    (25, &[1, 2], 2025, true),
-    (30, &[1, 2], 2025, true),
-    (LIMIT, &[1, 2], 2025, true),
-    (LIMIT + 1, &[1, 2], 2025, false),
-    (usize::MAX, &[1, 2], 2025, false),
+    (0, &[2, 1], 2000, true), (24, &[2, 1], 2024, true), (25, &[1, 2], 2025, true), (30, &[1, 2], 2025, true),
+    (LIMIT, &[1, 2], 2025, true), (LIMIT + 1, &[1, 2], 2025, false), (usize::MAX, &[1, 2], 2025, false),
 ];
 
 /// The second of three cards stays at the end of a row until that costs as much as the other

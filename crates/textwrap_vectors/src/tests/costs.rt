@@ -47,13 +47,8 @@ fn candidates_reach_the_end_of_128_bits(rt: HostRuntime) {
     let blocks = [Block(MAX, 0, 1), Block(0, 0, 0), Block(MAX, MAX, MAX)];
     let penalties = all_penalties(MAX);
     let widths = [1, MAX, MAX - 1];
-    let holds = has_candidates(
-        rt.alloc(),
-        &blocks,
-        &widths,
-        &penalties,
-        GREATEST_CANDIDATES,
-    );
+    let alloc = rt.alloc();
+    let holds = has_candidates(alloc, &blocks, &widths, &penalties, GREATEST_CANDIDATES);
     assert_found(&rt, "candidates", holds);
 }
 
@@ -102,14 +97,8 @@ const TABLES_OF_ANY_NUMBERS: &[(&[Block], &[usize], usize, &[(usize, u128)], &[u
         &[(0, 0), (0, 21_267_647_932_558_653_961_849_226_946_058_125_312), (0, 21_267_647_932_558_653_966_460_912_964_485_513_216)], &[2]),
     // The greatest line width.
     (&[Block(0, 0, 0)], &[MAX], MAX, &[(0, 0), (0, 2 * WIDEST)], &[1]),
-    (
-        &[Block(0, 0, 0); 2],
-        &[MAX],
-        MAX,
-        // The second as a line of its own would cost more than 2^128 - 1.
-        &[(0, 0), (0, 340_282_366_920_938_463_444_927_863_358_058_659_840), (0, WIDEST)],
-        &[2],
-    ),
+    // The second as a line of its own would cost more than 2^128 - 1.
+    (&[Block(0, 0, 0); 2], &[MAX], MAX, &[(0, 0), (0, 340_282_366_920_938_463_444_927_863_358_058_659_840), (0, WIDEST)], &[2]),
     (&[Block(0, 0, 0); 2], &[MAX - 1], MAX - 1, &[(0, 0), (0, 340_282_366_920_938_463_408_034_375_210_639_556_610), (0, WIDEST - 1)], &[2]),
     (&[Block(1, 0, 0); 2], &[MAX], 0, &[(0, 0), (0, 340_282_366_920_938_463_389_587_631_136_930_004_996), (0, 0)], &[2]),
     // The greatest widths, beside one another and past the line.

@@ -2,7 +2,7 @@
 ghost use Rattle.std.specs.Prelude.{IfOk};
 ghost use Rattle.textwrap.specs.Cuts.{AreInnerCuts};
 
-use super::given::{assert_found, assert_out_of_memory, assert_row, has_lines};
+use super::given::{Found, assert_found, assert_out_of_memory, assert_row, has_lines};
 use super::plain::{plain_append, plain_split, plain_wrap};
 use super::texts::{Layout, OPTIMAL_FIT, options_of};
 use crate::functions::{
@@ -51,12 +51,7 @@ fn ended_at<'a>(width: usize, layout: &Layout<'a>, line_ends: LineEnds) -> Optio
 }
 
 /// Whether a text has these lines, as `given::are_lines` has them.
-fn wraps(
-    alloc: Global,
-    text: &str,
-    options: Options<'_>,
-    expected: &str,
-) -> Result<bool, WrapError> {
+fn wraps(alloc: Global, text: &str, options: Options<'_>, expected: &str) -> Found {
     has_lines(plain_wrap(alloc, text, options), expected)
 }
 
@@ -156,7 +151,7 @@ fn lines_end_where_the_function_says(rt: HostRuntime) {
 }
 
 /// Whether a list of the line `x` is as it was after `baz` has been refused.
-fn keeps_lines(alloc: Global, options: &Options<'_>) -> Result<bool, WrapError> {
+fn keeps_lines(alloc: Global, options: &Options<'_>) -> Found {
     let mut lines = Vec::new(alloc);
     lines.push(CowStr::Borrowed("x"))?;
     let refused = plain_append(alloc, "baz", options, true, &mut lines);
@@ -245,15 +240,12 @@ fn only_built_in_parts_are_equal(rt: HostRuntime) {
     let ends = WrapAlgorithm::Custom(LineEnds::new(alloc, end_all));
     let first_fit = WrapAlgorithm::FirstFit;
     let least_cost = WrapAlgorithm::new();
-    assert_row(
-        &rt,
-        "algorithms",
-        equals_nothing(&ends, &first_fit, &least_cost),
-    );
+    let holds = equals_nothing(&ends, &first_fit, &least_cost);
+    assert_row(&rt, "algorithms", holds);
 }
 
 /// Whether the debug text of a value is this one.
-fn is_shown(alloc: Global, value: &impl Debug, expected: &str) -> Result<bool, WrapError> {
+fn is_shown(alloc: Global, value: &impl Debug, expected: &str) -> Found {
     let shown = format!(in alloc; "{value:?}")?;
     Ok(shown.as_str() == expected)
 }

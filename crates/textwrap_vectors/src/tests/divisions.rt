@@ -1,6 +1,6 @@
 //! The division of fragments into lines.
 
-use super::given::{assert_found, assert_row, has_lens, have_lens};
+use super::given::{Found, assert_found, assert_row, has_lens, have_lens};
 use super::plain::{plain_first_fit, plain_optimal_fit, plain_optimal_fit_counted};
 use super::texts::PENALTIES;
 use std::alloc::{AllocError, AllocFailed, Global};
@@ -48,11 +48,8 @@ const WIDEST: Block = Block(MAX, 0, 0);
 
 /// The default penalties, but for the largest one on each column past the width.
 pub(super) const STRICT: Penalties = Penalties {
-    nline_penalty: 1000,
     overflow_penalty: MAX,
-    short_last_line_fraction: 4,
-    short_last_line_penalty: 25,
-    hyphen_penalty: 25,
+    ..PENALTIES
 };
 
 /// The largest penalty on columns past the width, and no other.
@@ -232,7 +229,7 @@ fn the_default_penalties_are_the_new_ones(rt: HostRuntime) {
 }
 
 /// Whether this is what an error says.
-fn is_shown(alloc: Global, error: &impl Display, text: &str) -> Result<bool, WrapError> {
+fn is_shown(alloc: Global, error: &impl Display, text: &str) -> Found {
     let shown = format!(in alloc; "{error}")?;
     Ok(shown.as_str() == text)
 }

@@ -121,11 +121,8 @@ const REFILLED_AT_ENDS: &[(&str, &str, &str, &str)] = &[
 fn texts_are_refilled_at_the_ends_of_widths(rt: HostRuntime) {
     for &(text, least, first, wide) in REFILLED_AT_ENDS {
         for width in END_WIDTHS {
-            let (least, first) = if width <= 1 {
-                (least, first)
-            } else {
-                (wide, wide)
-            };
+            let least = if width <= 1 { least } else { wide };
+            let first = if width <= 1 { first } else { wide };
             assert_gives(&rt, Refill(width, OPTIMAL_FIT), text, least);
             assert_gives(&rt, Refill(width, FIRST_FIT), text, first);
         }

@@ -1,11 +1,10 @@
 //! Texts with escape sequences that are cut short.
-use super::given::{assert_found, assert_row, has_words};
+use super::given::{Found, assert_found, assert_row, has_words};
 use super::plain::{plain_break, plain_width, plain_wrap};
 use super::texts::Call::Strip;
 use super::texts::{OPTIMAL_FIT, assert_gives, options_of};
 use crate::functions::are_borrowed;
 use std::alloc::Global;
-use textwrap::WrapError;
 use textwrap::words::Word;
 
 #[rattlefmt::skip]
@@ -53,7 +52,7 @@ const CUT_SEQUENCES: &[(&str, &str, usize, &[&str])] = &[
 ];
 
 /// Whether these parts of a text are its lines at 1 column.
-fn are_lines(alloc: Global, text: &str, lines: &[&str]) -> Result<bool, WrapError> {
+fn are_lines(alloc: Global, text: &str, lines: &[&str]) -> Found {
     let wrapped = plain_wrap(alloc, text, options_of(1, &OPTIMAL_FIT))?;
     Ok(are_borrowed(&wrapped, lines))
 }

@@ -1,5 +1,5 @@
 //! The texts of `fill`.
-use super::given::{are_joined, assert_found};
+use super::given::{Found, are_joined, assert_found};
 use super::plain::{plain_append, plain_fill, plain_wrap};
 use super::texts::Call::{Fill, FillSlowly};
 use super::texts::{FIRST_FIT, Layout, OPTIMAL_FIT, PENALTIES, assert_gives, options_of};
@@ -107,15 +107,10 @@ fn indents_make_no_difference_to_that(rt: HostRuntime) {
 }
 
 /// Whether words are broken, whether blanks are kept, and whether paragraphs are even.
+#[rattlefmt::skip]
 const SETTINGS: &[(bool, bool, bool)] = &[
-    (false, false, false),
-    (false, false, true),
-    (false, true, false),
-    (false, true, true),
-    (true, false, false),
-    (true, false, true),
-    (true, true, false),
-    (true, true, true),
+    (false, false, false), (false, false, true), (false, true, false), (false, true, true), (true, false, false),
+    (true, false, true), (true, true, false), (true, true, true),
 ];
 
 /// Asserts the same for words that are broken or whole, blanks that are preserved or left off, and
@@ -171,11 +166,8 @@ fn assert_same_lines(rt: &(impl Abort + AllocGlobal), width: usize, layout: Layo
 
 /// Asserts that a text has the lines of the lists of words, in a list and in one text.
 fn assert_listed(rt: &(impl Abort + AllocGlobal), text: &str, options: &Options<'_>) {
-    assert_found(
-        rt,
-        (text, options.width),
-        is_listed(rt.alloc(), text, options),
-    );
+    let holds = is_listed(rt.alloc(), text, options);
+    assert_found(rt, (text, options.width), holds);
 }
 
 /// Whether the lines have the same texts.
@@ -189,7 +181,7 @@ fn are_same(lines: &[CowStr<'_>], listed: &[CowStr<'_>]) -> bool {
 }
 
 /// Whether a text is wrapped and filled to the lines by way of lists of words.
-fn is_listed(alloc: Global, text: &str, options: &Options<'_>) -> Result<bool, WrapError> {
+fn is_listed(alloc: Global, text: &str, options: &Options<'_>) -> Found {
     let listed = listed_lines(alloc, text, options)?;
     let lines = plain_wrap(alloc, text, Options::from(options))?;
     let filled = plain_fill(alloc, text, Options::from(options))?;

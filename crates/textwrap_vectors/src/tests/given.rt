@@ -13,26 +13,21 @@ use textwrap::WrapError;
 use textwrap::minima::Minimum;
 use textwrap::words::Word;
 
+/// Whether something was found to hold, if there was memory for it.
+pub(super) type Found = Result<bool, WrapError>;
+
 /// Asserts that what a row says holds.
 pub(super) fn assert_row<R: Copy + Debug>(rt: &impl Abort, row: R, holds: bool) {
     assert!(rt; holds, "{row:?}");
 }
 
 /// Asserts that what a row says was found to hold.
-pub(super) fn assert_found<R: Copy + Debug>(
-    rt: &impl Abort,
-    row: R,
-    holds: Result<bool, WrapError>,
-) {
+pub(super) fn assert_found<R: Copy + Debug>(rt: &impl Abort, row: R, holds: Found) {
     assert!(rt; holds.expect(rt, "memory"), "{row:?}");
 }
 
 /// Asserts that the call of a row was out of memory.
-pub(super) fn assert_out_of_memory<R: Copy + Debug>(
-    rt: &impl Abort,
-    row: R,
-    given: Result<bool, WrapError>,
-) {
+pub(super) fn assert_out_of_memory<R: Copy + Debug>(rt: &impl Abort, row: R, given: Found) {
     assert!(rt; matches!(given, Err(WrapError::Memory(_))), "{row:?}");
 }
 
@@ -40,7 +35,7 @@ pub(super) fn assert_out_of_memory<R: Copy + Debug>(
 pub(super) fn is_text<A: Allocator + Copy>(
     given: Result<String<A>, WrapError>,
     expected: &str,
-) -> Result<bool, WrapError> {
+) -> Found {
     let text = given?;
     Ok(text.as_str() == expected)
 }
@@ -58,11 +53,8 @@ fn after<'t>(text: Option<&'t str>, before: &str, line: &str, end: &str) -> Opti
 pub(super) fn are_lines<A: Allocator>(lines: &[CowStr<'_, A>], expected: &str) -> bool {
     let mut rest = Some(expected);
     for line in lines {
-        let mark = if matches!(line, CowStr::Borrowed(_)) {
-            ""
-        } else {
-            "+"
-        };
+        let is_part = matches!(line, CowStr::Borrowed(_));
+        let mark = if is_part { "" } else { "+" };
         rest = after(rest, mark, line.as_str(), "|");
     }
     rest == Some("")
@@ -72,7 +64,7 @@ pub(super) fn are_lines<A: Allocator>(lines: &[CowStr<'_, A>], expected: &str) -
 pub(super) fn has_lines<A: Allocator + Copy>(
     given: Result<Vec<CowStr<'_, A>, A>, WrapError>,
     expected: &str,
-) -> Result<bool, WrapError> {
+) -> Found {
     let lines = given?;
     Ok(are_lines(&lines, expected))
 }
@@ -88,10 +80,7 @@ pub(super) fn are_joined(lines: &[CowStr<'_>], ending: &str, text: &str) -> bool
 }
 
 /// Whether a call gave the lines of this text, by line feeds.
-pub(super) fn has_lines_of(
-    given: Result<Vec<CowStr<'_>>, WrapError>,
-    text: &str,
-) -> Result<bool, WrapError> {
+pub(super) fn has_lines_of(given: Result<Vec<CowStr<'_>>, WrapError>, text: &str) -> Found {
     let lines = given?;
     Ok(are_joined(&lines, "\n", text))
 }
@@ -109,7 +98,7 @@ fn are_rows<A: Allocator>(rows: &[String<A>], expected: &str) -> bool {
 pub(super) fn has_rows<A: Allocator + Copy>(
     given: Result<Vec<String<A>, A>, WrapError>,
     expected: &str,
-) -> Result<bool, WrapError> {
+) -> Found {
     let rows = given?;
     Ok(are_rows(&rows, expected))
 }
@@ -128,7 +117,7 @@ fn are_words(words: &[Word<'_>], texts: &[&str]) -> bool {
 pub(super) fn has_words<A: Allocator + Copy>(
     given: Result<Vec<Word<'_>, A>, WrapError>,
     texts: &[&str],
-) -> Result<bool, WrapError> {
+) -> Found {
     let words = given?;
     Ok(are_words(&words, texts))
 }
@@ -137,7 +126,7 @@ pub(super) fn has_words<A: Allocator + Copy>(
 pub(super) fn has_numbers<A: Allocator + Copy>(
     given: Result<Vec<usize, A>, WrapError>,
     expected: &[usize],
-) -> Result<bool, WrapError> {
+) -> Found {
     let numbers = given?;
     Ok(numbers.as_slice() == expected)
 }
@@ -156,7 +145,7 @@ pub(super) fn have_lens<T>(lines: &[&[T]], lens: &[usize]) -> bool {
 pub(super) fn has_lens<T, A: Allocator + Copy>(
     given: Result<Vec<&[T], A>, WrapError>,
     lens: &[usize],
-) -> Result<bool, WrapError> {
+) -> Found {
     let lines = given?;
     Ok(have_lens(&lines, lens))
 }
@@ -175,7 +164,7 @@ pub(super) fn are_minima(minima: &[Minimum], expected: &[(usize, u128)]) -> bool
 pub(super) fn has_minima<A: Allocator + Copy>(
     given: Result<Vec<Minimum, A>, WrapError>,
     expected: &[(usize, u128)],
-) -> Result<bool, WrapError> {
+) -> Found {
     let minima = given?;
     Ok(are_minima(&minima, expected))
 }

@@ -1,11 +1,11 @@
 //! The text that `fill_inplace` leaves, also where memory is refused.
-use super::given::assert_row;
+use super::given::{Found, assert_row};
 use super::refusals::{Refusable, refusals_of};
 use super::texts::Call::FillInplace;
 use super::texts::assert_gives;
 use crate::heap::Heap;
 use std::process::Abort;
-use textwrap::{WrapError, fill_inplace};
+use textwrap::fill_inplace;
 
 #[rattlefmt::skip]
 const FILLED: &[(&str, usize, &str)] = &[
@@ -32,7 +32,7 @@ struct InPlace<'a>(&'a str, usize, &'a str);
 
 impl Refusable for InPlace<'_> {
     /// A refused call has to leave the text as it was. What this test itself allocates does not count.
-    fn is_right<R: Abort + AllocGlobal>(&self, _rt: &R, heap: &Heap) -> Result<bool, WrapError> {
+    fn is_right<R: Abort + AllocGlobal>(&self, _rt: &R, heap: &Heap) -> Found {
         let allowed = heap.left();
         heap.allow(1);
         let mut text = String::from_str(heap, self.0)?;

@@ -1,6 +1,6 @@
 //! One large row for each call on words and lines that allocates. A body that gave up on what is
 //! longer than the rows of the other tables would pass those.
-use super::given::assert_found;
+use super::given::{Found, assert_found};
 use super::plain::{
     plain_break, plain_divide, plain_find_words, plain_find_words_at, plain_first_fit,
     plain_optimal_fit, plain_points, plain_split,
@@ -36,11 +36,7 @@ fn are_many(words: &[Word<'_>], text: &str, blanks: &str) -> bool {
 }
 
 /// Whether a call gave so many words, each with this text and these blanks.
-fn has_many(
-    given: Result<Vec<Word<'_>>, WrapError>,
-    text: &str,
-    blanks: &str,
-) -> Result<bool, WrapError> {
+fn has_many(given: Result<Vec<Word<'_>>, WrapError>, text: &str, blanks: &str) -> Found {
     let words = given?;
     Ok(are_many(&words, text, blanks))
 }
@@ -56,7 +52,7 @@ fn are_single(lines: &[&[Word<'_>]], count: usize) -> bool {
 }
 
 /// Whether a call gave so many lines of one word each.
-fn has_single(given: Result<Vec<&[Word<'_>]>, WrapError>, count: usize) -> Result<bool, WrapError> {
+fn has_single(given: Result<Vec<&[Word<'_>]>, WrapError>, count: usize) -> Found {
     let lines = given?;
     Ok(are_single(&lines, count))
 }
@@ -100,12 +96,7 @@ fn many_words_are_split_and_broken(rt: HostRuntime) {
 }
 
 /// Whether a word may be split between so many pieces, and is split into them, with this text each.
-fn is_split(
-    alloc: Global,
-    word: &str,
-    splitter: WordSplitter,
-    piece: &str,
-) -> Result<bool, WrapError> {
+fn is_split(alloc: Global, word: &str, splitter: WordSplitter, piece: &str) -> Found {
     let points = plain_points(alloc, &splitter, word)?.len();
     let pieces = plain_split(alloc, &[Word::from(word)], &splitter);
     Ok(has_many(pieces, piece, "")? && points == MANY - 1)

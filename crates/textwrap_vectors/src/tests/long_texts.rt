@@ -1,6 +1,6 @@
 //! Long texts: of nothing but line endings, of nothing but blanks, and of many words. A body that
 //! gave up on what is longer than the rows of the other tables would pass those.
-use super::given::{assert_found, has_words};
+use super::given::{Found, assert_found, has_words};
 use super::plain::{plain_fill, plain_find_words};
 use super::texts::Call::{
     Append, Columns, Dedent, Fill, FillInplace, Indent, Refill, Strip, Unfill, Wrap,
@@ -9,7 +9,7 @@ use super::texts::{Call, FIRST_FIT, Layout, OPTIMAL_FIT, gives, options_of};
 use LineEnding::LF;
 use std::alloc::{AllocError, Global};
 use textwrap::words::Word;
-use textwrap::{LineEnding, WordSeparator, WrapError};
+use textwrap::{LineEnding, WordSeparator};
 
 /// A text: a beginning; a part that is repeated so many times, with what follows it; how many times
 /// that stands; an end.
@@ -138,7 +138,7 @@ fn with_indent<'a>(call: Call<'a>, indent: &'a str) -> Call<'a> {
 
 /// Whether the call of a row gives this. Where the text ends in no line feed, what is filled does not
 /// either.
-fn gives_by(alloc: Global, row: &Row<'_>, expected: &str) -> Result<bool, WrapError> {
+fn gives_by(alloc: Global, row: &Row<'_>, expected: &str) -> Found {
     let &(_, call, indent, text, _) = row;
     let indent = whole(alloc, indent)?;
     let text = whole(alloc, text)?;
@@ -149,7 +149,7 @@ fn gives_by(alloc: Global, row: &Row<'_>, expected: &str) -> Result<bool, WrapEr
 }
 
 /// Whether the call of a row gives what the row says.
-fn is_right(alloc: Global, row: &Row<'_>) -> Result<bool, WrapError> {
+fn is_right(alloc: Global, row: &Row<'_>) -> Found {
     let expected = whole(alloc, row.4)?;
     gives_by(alloc, row, &expected)
 }
@@ -163,7 +163,7 @@ fn long_texts_are_laid_out(rt: HostRuntime) {
 }
 
 /// Whether the text is one word, of which so many bytes are whitespace.
-fn is_one_word(alloc: Global, text: Long<'_>, blanks: usize) -> Result<bool, WrapError> {
+fn is_one_word(alloc: Global, text: Long<'_>, blanks: usize) -> Found {
     let text = whole(alloc, text)?;
     let has_blanks = Word::from(text.as_str()).whitespace.len() == blanks;
     let words = plain_find_words(alloc, alloc, WordSeparator::new(), &text);
@@ -179,7 +179,7 @@ fn long_texts_are_one_word(rt: HostRuntime) {
 }
 
 /// Whether the text is filled in place to the lines of first fit.
-fn is_filled_alike(alloc: Global, text: &str, width: usize) -> Result<bool, WrapError> {
+fn is_filled_alike(alloc: Global, text: &str, width: usize) -> Found {
     let filled = plain_fill(alloc, text, options_of(width, &FIRST_FIT))?;
     gives(alloc, FillInplace(width), text, &filled)
 }

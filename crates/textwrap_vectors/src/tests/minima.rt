@@ -1,7 +1,7 @@
 //! The table of least costs, the search for the same by a queue, the line costs that they ask for,
 //! and the queue case.
 use super::divisions::{Block, FALLING};
-use super::given::{assert_found, assert_out_of_memory, assert_row, has_minima};
+use super::given::{Found, assert_found, assert_out_of_memory, assert_row, has_minima};
 use super::plain::{plain_is_queue_case, plain_optimal_fit_counted, plain_queue, plain_table};
 use crate::heap::Heap;
 use std::alloc::{AllocError, Allocator, Global};
@@ -72,25 +72,17 @@ pub(super) fn has_candidates(
     line_widths: &[usize],
     penalties: &Penalties,
     candidates: &[Candidate],
-) -> Result<bool, WrapError> {
+) -> Found {
     let mut costs = LineCosts::new(alloc, blocks, line_widths, penalties)?;
     let is_new = costs.steps() == 0 && costs.ends() == blocks.len();
     Ok(is_new && are_candidates(&mut costs, candidates))
 }
 
+#[rattlefmt::skip]
 const CANDIDATES: &[Candidate] = &[
-    (0, 1, 0, 0, Some(1000)),
-    (0, 2, 0, 0, Some(13500)),
-    (1, 2, 1, 1000, Some(2025)),
-    (0, 3, 0, 0, Some(38525)),
-    (1, 3, 1, 1000, Some(14525)),
-    (2, 3, 2, 2025, Some(3050)),
-    (0, 4, 0, 0, Some(26000)),
-    (1, 4, 1, 1000, Some(2000)),
-    (2, 4, 2, 2025, Some(3050)),
-    (3, 4, 3, 3050, Some(4150)),
-    (3, 5, 3, 3050, Some(4050)),
-    (4, 5, 2, 2000, Some(3000)),
+    (0, 1, 0, 0, Some(1000)), (0, 2, 0, 0, Some(13500)), (1, 2, 1, 1000, Some(2025)), (0, 3, 0, 0, Some(38525)),
+    (1, 3, 1, 1000, Some(14525)), (2, 3, 2, 2025, Some(3050)), (0, 4, 0, 0, Some(26000)), (1, 4, 1, 1000, Some(2000)),
+    (2, 4, 2, 2025, Some(3050)), (3, 4, 3, 3050, Some(4150)), (3, 5, 3, 3050, Some(4050)), (4, 5, 2, 2000, Some(3000)),
     (1, 3, 1, u128::MAX, None),
 ];
 
@@ -102,19 +94,13 @@ fn a_source_counts_what_it_is_asked(rt: HostRuntime) {
     assert_found(&rt, "candidates", holds);
 }
 
+#[rattlefmt::skip]
 const COUNTS: &[(u128, u128, u128, u128)] = &[
-    (0, 0, 0, 3),
-    (0, 1, 1, 4),
-    (1, 0, 1, 4),
-    (0, u128::MAX, u128::MAX, u128::MAX),
-    (1, u128::MAX - 1, u128::MAX, u128::MAX),
-    (1, u128::MAX, u128::MAX, u128::MAX),
-    (u128::MAX - 4, 0, u128::MAX - 4, u128::MAX - 1),
-    (u128::MAX - 1, 0, u128::MAX - 1, u128::MAX),
-    (u128::MAX - 1, 1, u128::MAX, u128::MAX),
-    (u128::MAX - 1, 2, u128::MAX, u128::MAX),
-    (u128::MAX, 0, u128::MAX, u128::MAX),
-    (u128::MAX, u128::MAX, u128::MAX, u128::MAX),
+    (0, 0, 0, 3), (0, 1, 1, 4), (1, 0, 1, 4), (0, u128::MAX, u128::MAX, u128::MAX),
+    (1, u128::MAX - 1, u128::MAX, u128::MAX), (1, u128::MAX, u128::MAX, u128::MAX),
+    (u128::MAX - 4, 0, u128::MAX - 4, u128::MAX - 1), (u128::MAX - 1, 0, u128::MAX - 1, u128::MAX),
+    (u128::MAX - 1, 1, u128::MAX, u128::MAX), (u128::MAX - 1, 2, u128::MAX, u128::MAX),
+    (u128::MAX, 0, u128::MAX, u128::MAX), (u128::MAX, u128::MAX, u128::MAX, u128::MAX),
 ];
 
 /// The count to which this much and more was added, and the count after a table that went on with it.
@@ -184,16 +170,12 @@ pub(super) fn penalties_of(numbers: [usize; 5]) -> Penalties {
     }
 }
 
+#[rattlefmt::skip]
 const CASES_BY_PENALTIES: &[([usize; 5], bool)] = &[
-    ([0, 0, 0, 0, 0], true),
-    ([1, 1, 1, 1, 1], true),
-    ([LIMIT, LIMIT, LIMIT, LIMIT, LIMIT], true),
-    ([LIMIT + 1, 2500, 4, 25, 25], false),
-    ([1000, LIMIT + 1, 4, 25, 25], false),
-    ([1000, 2500, LIMIT + 1, 25, 25], false),
-    ([1000, 2500, 4, LIMIT + 1, 25], false),
-    ([1000, 2500, 4, 25, LIMIT + 1], false),
-    ([usize::MAX, 2500, 4, 25, 25], false),
+    ([0, 0, 0, 0, 0], true), ([1, 1, 1, 1, 1], true), ([LIMIT, LIMIT, LIMIT, LIMIT, LIMIT], true),
+    ([LIMIT + 1, 2500, 4, 25, 25], false), ([1000, LIMIT + 1, 4, 25, 25], false),
+    ([1000, 2500, LIMIT + 1, 25, 25], false), ([1000, 2500, 4, LIMIT + 1, 25], false),
+    ([1000, 2500, 4, 25, LIMIT + 1], false), ([usize::MAX, 2500, 4, 25, 25], false),
     ([1000, 2500, 4, 25, usize::MAX - 1], false),
 ];
 
@@ -216,7 +198,7 @@ fn queue_cases_are_told_by_their_numbers(rt: HostRuntime) {
 fn are_same(
     first: Result<Vec<Minimum>, WrapError>,
     second: Result<Vec<Minimum>, WrapError>,
-) -> Result<bool, WrapError> {
+) -> Found {
     let first = first?;
     let second = second?;
     Ok(first.as_slice() == second.as_slice())
@@ -326,7 +308,7 @@ pub(super) fn searched<A: Allocator + Copy>(
 const NINE: [Block; 9] = [Block(3, 1, 0); 9];
 
 /// Whether the search finds ten minima for nine fragments.
-fn finds_ten(rt: &(impl Abort + AllocGlobal), heap: &Heap) -> Result<bool, WrapError> {
+fn finds_ten(rt: &(impl Abort + AllocGlobal), heap: &Heap) -> Found {
     let (minima, _steps) = searched(rt, heap, &NINE, &[7], &Penalties::new())?;
     Ok(minima.len() == 10)
 }
@@ -347,21 +329,10 @@ fn a_refused_search_finds_nothing_else(rt: HostRuntime) {
 
 /// Whether the search is asked, or the table, how many allocations are allowed, and the line costs that
 /// were asked for when the next was refused. The first are made before any is asked for.
+#[rattlefmt::skip]
 const STEPS_UNTIL_REFUSED: &[(bool, usize, u128)] = &[
-    (false, 0, 0),
-    (false, 1, 0),
-    (false, 2, 0),
-    (false, 3, 0),
-    (false, 4, 0),
-    (false, 5, 10),
-    (false, 6, 36),
-    (false, 7, 45),
-    (true, 0, 0),
-    (true, 1, 0),
-    (true, 2, 0),
-    (true, 3, 0),
-    (true, 4, 0),
-    (true, 5, 1),
+    (false, 0, 0), (false, 1, 0), (false, 2, 0), (false, 3, 0), (false, 4, 0), (false, 5, 10), (false, 6, 36),
+    (false, 7, 45), (true, 0, 0), (true, 1, 0), (true, 2, 0), (true, 3, 0), (true, 4, 0), (true, 5, 1),
 ];
 
 /// The line costs that the search or the table asked for until it was refused.

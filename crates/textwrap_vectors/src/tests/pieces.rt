@@ -1,5 +1,5 @@
 //! The pieces that words are split and broken into.
-use super::given::{assert_found, has_numbers, has_words};
+use super::given::{Found, assert_found, has_numbers, has_words};
 use super::plain::{plain_break, plain_break_apart, plain_points, plain_split, plain_words};
 use std::alloc::Global;
 use textwrap::words::Word;
@@ -185,12 +185,7 @@ const WORDS_OF_ANY_WIDTH: &[(&str, usize, usize, usize)] = &[
 ];
 
 /// Whether a word of this width is broken into one piece of that width.
-fn is_one_piece(
-    alloc: Global,
-    word: Word<'_>,
-    line_width: usize,
-    width: usize,
-) -> Result<bool, WrapError> {
+fn is_one_piece(alloc: Global, word: Word<'_>, line_width: usize, width: usize) -> Found {
     let pieces = plain_break(alloc, &[word], line_width)?;
     Ok(pieces.len() == 1 && pieces[0] == Word { width, ..word })
 }
@@ -203,10 +198,7 @@ fn a_word_is_kept_by_its_width_alone(rt: HostRuntime) {
             width,
             ..Word::from(text)
         };
-        assert_found(
-            &rt,
-            word,
-            is_one_piece(rt.alloc(), word, line_width, expected),
-        );
+        let holds = is_one_piece(rt.alloc(), word, line_width, expected);
+        assert_found(&rt, word, holds);
     }
 }

@@ -1,5 +1,5 @@
 //! Texts by `unfill` and `refill`.
-use super::given::{assert_found, is_text};
+use super::given::{Found, assert_found, is_text};
 use super::plain::{plain_fill, plain_refill};
 use super::texts::Call::{Refill, Unfill};
 use super::texts::{Call, FIRST_FIT, Layout, OPTIMAL_FIT, assert_gives, options_of};
@@ -57,12 +57,7 @@ fn filled_twice(
 
 /// Whether the text, filled at the first width and refilled at the second, is the text filled at the
 /// second.
-fn is_filled_once(
-    alloc: Global,
-    text: &str,
-    first: usize,
-    second: usize,
-) -> Result<bool, WrapError> {
+fn is_filled_once(alloc: Global, text: &str, first: usize, second: usize) -> Found {
     let once = plain_fill(alloc, text, options_of(second, &OPTIMAL_FIT))?;
     is_text(filled_twice(alloc, text, first, second), &once)
 }

@@ -1,5 +1,5 @@
 //! Each call with each of its allocations refused in turn.
-use super::given::{assert_found, has_lens, has_lines, has_minima, has_numbers, has_words};
+use super::given::{Found, assert_found, has_lens, has_lines, has_minima, has_numbers, has_words};
 use super::plain::{
     plain_append, plain_break, plain_divide, plain_find_words, plain_find_words_at,
     plain_first_fit, plain_optimal_fit, plain_optimal_fit_counted, plain_points, plain_queue,
@@ -24,7 +24,7 @@ use textwrap::{LineEnding, Options, WordSeparator, WordSplitter, WrapAlgorithm, 
 /// A call on an input of its own.
 pub(super) trait Refusable {
     /// Whether the call gives what it should. All that it allocates by itself comes from `heap`.
-    fn is_right<R: Abort + AllocGlobal>(&self, rt: &R, heap: &Heap) -> Result<bool, WrapError>;
+    fn is_right<R: Abort + AllocGlobal>(&self, rt: &R, heap: &Heap) -> Found;
 }
 
 /// Calls with no allocation allowed, then with one more each time, until none is refused. Every
@@ -61,7 +61,7 @@ fn assert_refused<C: Refusable>(rt: &(impl Abort + AllocGlobal), call: &C, refus
 struct Given<'a>(Call<'a>, &'a str, &'a str);
 
 impl Refusable for Given<'_> {
-    fn is_right<R: Abort + AllocGlobal>(&self, _rt: &R, heap: &Heap) -> Result<bool, WrapError> {
+    fn is_right<R: Abort + AllocGlobal>(&self, _rt: &R, heap: &Heap) -> Found {
         gives(heap, self.0, self.1, self.2)
     }
 }
@@ -112,14 +112,6 @@ const ON_TEXTS: &[(Given<'_>, usize)] = &[
     (Given(Columns(2, 24, OPTIMAL_FIT, "|", "|", "|"), TEXT, "|To be,    |is the     |\n|or not to |question   |\n|be: that  |Hamlet     |\n"), 13),
     (Given(Strip, "To be, \x1b[1mor not to be", "To be, or not to be"), 3),
 ];
-
-/// What gives a text, lines or rows is out of memory wherever one of its lists or texts cannot grow.
-#[test]
-fn refused_texts_are_no_other_texts(rt: HostRuntime) {
-    for (call, refusals) in ON_TEXTS {
-        assert_refused(&rt, call, *refusals);
-    }
-}
 
 /// The words of `a-b-c foobar`.
 const WORDS: [Word<'_>; 2] = [LETTERS, FOOBAR];
@@ -172,7 +164,7 @@ enum OnWords {
 }
 
 impl Refusable for OnWords {
-    fn is_right<R: Abort + AllocGlobal>(&self, rt: &R, heap: &Heap) -> Result<bool, WrapError> {
+    fn is_right<R: Abort + AllocGlobal>(&self, rt: &R, heap: &Heap) -> Found {
         let alloc = rt.alloc();
         match self {
             OnWords::Break => has_words(plain_break(heap, &WORDS, 1), BROKEN),
@@ -212,31 +204,16 @@ const FIVE: &[&str] = &["a", "b", "c", "d", "e"];
 const SIX: &[&str] = &["a", "b", "c", "d", "e", "f"];
 
 /// Whether the pieces are these, also their penalties.
-fn are_pieces(
-    given: Result<Vec<Word<'_>, &Heap>, WrapError>,
-    expected: &[Word<'_>],
-) -> Result<bool, WrapError> {
+fn are_pieces(given: Result<Vec<Word<'_>, &Heap>, WrapError>, expected: &[Word<'_>]) -> Found {
     let pieces = given?;
     Ok(pieces.as_slice() == expected)
 }
 
+#[rattlefmt::skip]
 const ON_WORDS: &[(OnWords, usize)] = &[
-    (OnWords::Break, 3),
-    (OnWords::FindAtCuts, 2),
-    (OnWords::FindAtOffsets, 4),
-    (OnWords::Hyphens, 2),
-    (OnWords::Points, 1),
-    (OnWords::SplitAtHyphens, 2),
-    (OnWords::SplitAtPoints, 2),
+    (OnWords::Break, 3), (OnWords::FindAtCuts, 2), (OnWords::FindAtOffsets, 4), (OnWords::Hyphens, 2),
+    (OnWords::Points, 1), (OnWords::SplitAtHyphens, 2), (OnWords::SplitAtPoints, 2),
 ];
-
-/// What finds, splits and breaks words is out of memory wherever one of its lists cannot grow.
-#[test]
-fn refused_words_are_no_other_words(rt: HostRuntime) {
-    for (call, refusals) in ON_WORDS {
-        assert_refused(&rt, call, *refusals);
-    }
-}
 
 /// A call that divides, or one that finds least costs.
 enum OnLines {
@@ -270,7 +247,7 @@ const BY_TABLE: &[(usize, u128)] = &[(0, 0), (0, 1016), (0, 1000), (2, 2000), (3
 const BY_QUEUE: &[(usize, u128)] = &[(0, 0), (0, 1016), (0, 1000), (1, 2016), (2, 2000), (3, 3016), (4, 3000), (5, 4016), (6, 4000), (8, 5000)];
 
 impl Refusable for OnLines {
-    fn is_right<R: Abort + AllocGlobal>(&self, rt: &R, heap: &Heap) -> Result<bool, WrapError> {
+    fn is_right<R: Abort + AllocGlobal>(&self, rt: &R, heap: &Heap) -> Found {
         match self {
             OnLines::FirstFit => has_lens(plain_first_fit(heap, &NINE, &[7]), TWO_ON_EACH),
             OnLines::OptimalFitByQueue => {
@@ -300,25 +277,24 @@ impl Refusable for OnLines {
 }
 
 /// Whether six words are divided into lines of so many each by this algorithm.
-fn divides(heap: &Heap, algorithm: WrapAlgorithm, lens: &[usize]) -> Result<bool, WrapError> {
+fn divides(heap: &Heap, algorithm: WrapAlgorithm, lens: &[usize]) -> Found {
     has_lens(plain_divide(heap, algorithm, &NINE[..6], &[3]), lens)
 }
 
+#[rattlefmt::skip]
 const ON_LINES: &[(OnLines, usize)] = &[
-    (OnLines::FirstFit, 2),
-    (OnLines::OptimalFitByQueue, 8),
-    (OnLines::OptimalFitByTable, 10),
-    (OnLines::By(None), 2),
-    (OnLines::By(Some(PENALTIES)), 7),
-    (OnLines::ByEnds, 1),
-    (OnLines::NewCosts, 4),
-    (OnLines::Table, 8),
+    (OnLines::FirstFit, 2), (OnLines::OptimalFitByQueue, 8), (OnLines::OptimalFitByTable, 10), (OnLines::By(None), 2),
+    (OnLines::By(Some(PENALTIES)), 7), (OnLines::ByEnds, 1), (OnLines::NewCosts, 4), (OnLines::Table, 8),
     (OnLines::Queue, 6),
 ];
 
-/// What divides or finds least costs is out of memory wherever one of its lists cannot grow.
+/// What finds, splits, breaks and divides words, or finds least costs, is out of memory wherever one of its
+/// lists cannot grow.
 #[test]
-fn a_refused_division_is_no_other_division(rt: HostRuntime) {
+fn refused_words_and_divisions_are_no_others(rt: HostRuntime) {
+    for (call, refusals) in ON_WORDS {
+        assert_refused(&rt, call, *refusals);
+    }
     for (call, refusals) in ON_LINES {
         assert_refused(&rt, call, *refusals);
     }
@@ -333,7 +309,7 @@ enum OnOthers {
 }
 
 impl Refusable for OnOthers {
-    fn is_right<R: Abort + AllocGlobal>(&self, rt: &R, heap: &Heap) -> Result<bool, WrapError> {
+    fn is_right<R: Abort + AllocGlobal>(&self, rt: &R, heap: &Heap) -> Found {
         match self {
             OnOthers::WrapAtPoints => {
                 let points = WordCuts::new(rt.alloc(), split_in_middle);
@@ -367,15 +343,10 @@ const APPENDED: &str = "x|+  To be,|+  or not|+  to be:|+  that|+  is the|+  que
 
 /// Whether the lines of a paragraph are appended to a list that holds a line. A refused call has to
 /// leave that list as it was.
-fn appends(heap: &Heap, slowly: bool) -> Result<bool, WrapError> {
+fn appends(heap: &Heap, slowly: bool) -> Found {
     let mut lines = list_of_one(heap)?;
-    let appended = plain_append(
-        heap,
-        PARAGRAPH,
-        &options_of(10, &INDENTED),
-        slowly,
-        &mut lines,
-    );
+    let options = options_of(10, &INDENTED);
+    let appended = plain_append(heap, PARAGRAPH, &options, slowly, &mut lines);
     let expected = if appended.is_ok() { APPENDED } else { "x|" };
     let is_right = has_lines(Ok(lines), expected)?;
     if is_right {
@@ -387,16 +358,19 @@ fn appends(heap: &Heap, slowly: bool) -> Result<bool, WrapError> {
 #[rattlefmt::skip]
 const ON_OTHERS: &[(OnOthers, usize)] = &[(OnOthers::WrapAtPoints, 26), (OnOthers::Append { slowly: false }, 17), (OnOthers::Append { slowly: true }, 21)];
 
-/// What gives lines otherwise is out of memory too wherever one of its lists or texts cannot grow.
+/// What gives a text, lines or rows is out of memory wherever one of its lists or texts cannot grow.
 #[test]
-fn refused_lines_are_no_other_lines(rt: HostRuntime) {
+fn refused_texts_and_lines_are_no_others(rt: HostRuntime) {
+    for (call, refusals) in ON_TEXTS {
+        assert_refused(&rt, call, *refusals);
+    }
     for (call, refusals) in ON_OTHERS {
         assert_refused(&rt, call, *refusals);
     }
 }
 
 /// Whether the list can grow no more once it is full.
-fn is_full_at_its_end(mut lines: Vec<CowStr<'_, &Heap>, &Heap>) -> Result<bool, WrapError> {
+fn is_full_at_its_end(mut lines: Vec<CowStr<'_, &Heap>, &Heap>) -> Found {
     for _ in 0..lines.capacity().saturating_sub(lines.len()) {
         lines.push(CowStr::Borrowed("x"))?;
     }
@@ -405,15 +379,10 @@ fn is_full_at_its_end(mut lines: Vec<CowStr<'_, &Heap>, &Heap>) -> Result<bool, 
 
 /// Appends the lines of a text to a list of a heap that allows one allocation. Whether it was made,
 /// each line was allocated by the heap that was passed, and the list can grow no more.
-fn is_lent(of_lines: &Heap, of_list: &Heap, slowly: bool) -> Result<bool, WrapError> {
+fn is_lent(of_lines: &Heap, of_list: &Heap, slowly: bool) -> Found {
     let mut lines = Vec::new(of_list);
-    plain_append(
-        of_lines,
-        TEXT,
-        &options_of(10, &INDENTED),
-        slowly,
-        &mut lines,
-    )?;
+    let options = options_of(10, &INDENTED);
+    plain_append(of_lines, TEXT, &options, slowly, &mut lines)?;
     let is_made = of_list.left() == 0;
     let are_allocated = of_lines.left() < 100_usize.saturating_sub(lines.len());
     Ok(is_full_at_its_end(lines)? && is_made && are_allocated)

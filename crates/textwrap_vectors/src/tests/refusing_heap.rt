@@ -15,12 +15,10 @@ fn made_of_four(heap: &Heap, allowed: usize) -> ([bool; 4], bool) {
 
 /// The allocation after those that are allowed is refused, and no other: what comes after it is
 /// allowed again. Only where none was refused, no allocation is left.
+#[rattlefmt::skip]
 const MADE: &[([bool; 4], bool)] = &[
-    ([false, true, true, true], false),
-    ([true, false, true, true], false),
-    ([true, true, false, true], false),
-    ([true, true, true, false], false),
-    ([true, true, true, true], true),
+    ([false, true, true, true], false), ([true, false, true, true], false), ([true, true, false, true], false),
+    ([true, true, true, false], false), ([true, true, true, true], true),
 ];
 
 #[test]

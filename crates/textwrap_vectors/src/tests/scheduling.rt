@@ -1,10 +1,9 @@
 //! The days that tasks are assigned to.
-use super::given::{assert_found, assert_row};
+use super::given::{Found, assert_found, assert_row};
 use crate::heap::Heap;
 use crate::{Day, Task, assign_days};
 use std::alloc::{AllocError, Allocator, Global};
 use std::process::Abort;
-use textwrap::WrapError;
 
 /// A task: its name, and its hours of work, of sweeping and of cleanup.
 type Row<'a> = (&'a str, usize, usize, usize);
@@ -62,15 +61,10 @@ fn assert_days(
 }
 
 /// The tasks of building a house.
+#[rattlefmt::skip]
 const HOUSE: &[Row<'_>] = &[
-    ("Foundation", 4, 2, 3),
-    ("Framing", 3, 1, 2),
-    ("Plumbing", 2, 2, 2),
-    ("Electrical", 2, 1, 2),
-    ("Insulation", 2, 1, 2),
-    ("Drywall", 3, 1, 2),
-    ("Floors", 3, 1, 2),
-    ("Countertops", 1, 1, 2),
+    ("Foundation", 4, 2, 3), ("Framing", 3, 1, 2), ("Plumbing", 2, 2, 2), ("Electrical", 2, 1, 2),
+    ("Insulation", 2, 1, 2), ("Drywall", 3, 1, 2), ("Floors", 3, 1, 2), ("Countertops", 1, 1, 2),
     ("Bathrooms", 2, 1, 2),
 ];
 
@@ -141,7 +135,7 @@ fn are_names(names: &[&str], rows: &[Row<'_>]) -> bool {
 }
 
 /// Whether the names of the days that the house takes are those of its tasks.
-fn keeps_all(alloc: Global, day_length: usize) -> Result<bool, WrapError> {
+fn keeps_all(alloc: Global, day_length: usize) -> Found {
     let days = plain_days(alloc, alloc, HOUSE, day_length)?;
     let names = names_of(alloc, &days)?;
     Ok(are_names(&names, HOUSE))

@@ -1,6 +1,6 @@
 //! What the tests on texts share: options that a constant can hold, and the calls that give a text,
 //! lines or rows, each with what it takes beside its text.
-use super::given::{assert_found, has_lines, has_rows, is_text};
+use super::given::{Found, assert_found, has_lines, has_rows, is_text};
 use super::plain::{
     plain_append, plain_columns, plain_dedent, plain_fill, plain_fill_inplace, plain_fill_slowly,
     plain_indent, plain_refill, plain_strip, plain_wrap,
@@ -110,7 +110,7 @@ fn is_unfilled<A: Allocator + Copy>(
     width: usize,
     indents: [&str; 2],
     ending: LineEnding,
-) -> Result<bool, WrapError> {
+) -> Found {
     let (given, options) = unfill(alloc, text)?;
     Ok(given.as_str() == unfilled && have_layout(&options, width, indents, ending))
 }
@@ -163,39 +163,29 @@ pub(super) fn gives<A: Allocator + Copy>(
     call: Call<'_>,
     text: &str,
     expected: &str,
-) -> Result<bool, WrapError> {
+) -> Found {
     match call {
         Wrap(width, layout) => {
-            has_lines(
-                plain_wrap(alloc, text, options_of(width, &layout)),
-                expected,
-            )
+            let options = options_of(width, &layout);
+            has_lines(plain_wrap(alloc, text, options), expected)
         }
         Append(width, layout) | AppendSlowly(width, layout) => {
             let slowly = matches!(call, AppendSlowly(_, _));
-            has_lines(
-                appended(alloc, text, &options_of(width, &layout), slowly),
-                expected,
-            )
+            let lines = appended(alloc, text, &options_of(width, &layout), slowly);
+            has_lines(lines, expected)
         }
         Fill(width, layout) => {
-            is_text(
-                plain_fill(alloc, text, options_of(width, &layout)),
-                expected,
-            )
+            let options = options_of(width, &layout);
+            is_text(plain_fill(alloc, text, options), expected)
         }
         FillSlowly(width, layout) => {
-            is_text(
-                plain_fill_slowly(alloc, text, options_of(width, &layout)),
-                expected,
-            )
+            let options = options_of(width, &layout);
+            is_text(plain_fill_slowly(alloc, text, options), expected)
         }
         FillInplace(width) => is_text(plain_fill_inplace(alloc, text, width), expected),
         Refill(width, layout) => {
-            is_text(
-                plain_refill(alloc, text, options_of(width, &layout)),
-                expected,
-            )
+            let options = options_of(width, &layout);
+            is_text(plain_refill(alloc, text, options), expected)
         }
         Columns(columns, width, layout, left, middle, right) => {
             let options = options_of(width, &layout);

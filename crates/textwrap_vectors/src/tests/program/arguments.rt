@@ -6,13 +6,10 @@ use std::test::Fail;
 use textwrap_program::arguments::{Algorithm, arguments, words_after_name};
 
 /// Arguments, and how many words come after the name.
+#[rattlefmt::skip]
 const AFTER_NAME: &[(&[&str], &[&str])] = &[
-    (&["textwrap"], &[]),
-    (&["textwrap", "10"], &["10"]),
-    (&["textwrap", "10", "first", "x"], &["10", "first", "x"]),
-    (&["textwrap", "", "10"], &["", "10"]),
-    (&[""], &[]),
-    (&[], &[]),
+    (&["textwrap"], &[]), (&["textwrap", "10"], &["10"]), (&["textwrap", "10", "first", "x"], &["10", "first", "x"]),
+    (&["textwrap", "", "10"], &["", "10"]), (&[""], &[]), (&[], &[]),
 ];
 
 /// Whether these are the words after the name.

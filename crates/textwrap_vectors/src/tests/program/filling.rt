@@ -150,24 +150,15 @@ fn the_end_is_read_once_and_the_output_flushed_once(rt: HostRuntime) -> Result<(
     Ok(())
 }
 
-/// What a row shows, the input, how the reader gives and the writer takes, and what the run returns
-/// and writes at 10 columns by first fit.
-type StreamRun = (
-    &'static str,
-    &'static [u8],
-    (usize, FeedFault),
-    (usize, SinkFault),
-    Result<(), RunError>,
-    &'static [u8],
-);
-
 /// A text, and the lines of it at 10 columns by first fit.
 const HAMLET: &[u8] = b"To be, or not to be: that is the question";
 
 const FILLED: &[u8] = b"To be, or\nnot to be:\nthat is\nthe\nquestion";
 
+/// What a row shows, the input, how the reader gives and the writer takes, and what the run returns
+/// and writes at 10 columns by first fit.
 #[rattlefmt::skip]
-const RUNS: &[StreamRun] = &[
+const RUNS: &[(&str, &[u8], (usize, FeedFault), (usize, SinkFault), Result<(), RunError>, &[u8])] = &[
     // A text may come in pieces, which may cut a character, and be taken in pieces.
     ("byte by byte", HAMLET, (1, READS), (1, WRITES), Ok(()), FILLED),
     ("seven and three", HAMLET, (7, READS), (3, WRITES), Ok(()), FILLED),

@@ -56,14 +56,8 @@ fn a_text_is_no_longer_than_its_bound(rt: HostRuntime) {
         let mut room = [BLANK; MOST];
         let mut told = BEFORE;
         let room = &mut room[..bound.min(MOST)];
-        let status = write_text(
-            rt.alloc(),
-            false,
-            TextCall::Fill(options),
-            text,
-            room,
-            &mut told,
-        );
+        let call = TextCall::Fill(options);
+        let status = write_text(rt.alloc(), false, call, text, room, &mut told);
         assert_told(&rt, row, (status, told), (DONE, len));
     }
 }
@@ -91,16 +85,8 @@ fn lines_and_their_room_keep_to_their_bounds(rt: HostRuntime) {
         let mut room = [BLANK; MOST];
         let room = &mut room[..bound.min(MOST)];
         let (mut found, mut told) = (BEFORE, BEFORE);
-        let status = write_lines(
-            rt.alloc(),
-            false,
-            call,
-            text,
-            lines,
-            &mut found,
-            room,
-            &mut told,
-        );
+        let alloc = rt.alloc();
+        let status = write_lines(alloc, false, call, text, lines, &mut found, room, &mut told);
         assert_told(&rt, row, (status, found), (DONE, count));
         assert_told(&rt, row, (status, told), (DONE, len));
     }

@@ -32,19 +32,6 @@ const NO_TEXT_INDENT: TextwrapOptions<'_> = TextwrapOptions {
     ..AT_40
 };
 
-/// Words that end where Unicode lets a line end.
-const AT_BREAKS: TextwrapOptions<'_> = TextwrapOptions {
-    unicode_breaks: 1,
-    width: 12,
-    ..DEFAULTS
-};
-
-/// Options of another version.
-const UNKNOWN: TextwrapOptions<'_> = TextwrapOptions {
-    version: 1,
-    ..AT_40
-};
-
 /// Balanced lines are reported as those of a text are.
 #[rattlefmt::skip]
 const BALANCED: &[LinesRow] = &[
@@ -52,7 +39,7 @@ const BALANCED: &[LinesRow] = &[
     ((LinesCall::WrapBalanced(AT_40), TITLE), (TOO_SMALL, 2, 0), (&[(0, 18, 0)], b"")),
     ((LinesCall::WrapBalanced(QUOTED), TITLE), (DONE, 2, 18), (&[(0, 25, 0), (0, 18, 1), NONE], b"> it was the worst____")),
     ((LinesCall::WrapBalanced(QUOTED), TITLE), (TOO_SMALL, 2, 18), (&[(0, 25, 0), (0, 18, 1)], b"> it was t")),
-    ((LinesCall::WrapBalanced(AT_BREAKS), b"either/or not"), (DONE, 2, 0), (&[(0, 7, 0), (7, 6, 0), NONE], b"")),
+    ((LinesCall::WrapBalanced(TextwrapOptions { unicode_breaks: 1, width: 12, ..DEFAULTS }), b"either/or not"), (DONE, 2, 0), (&[(0, 7, 0), (7, 6, 0), NONE], b"")),
     // A word that is wider than a line is broken at the width of the options.
     ((LinesCall::WrapBalanced(AT_6), b"a wonderful word"), (DONE, 4, 0), (&[(0, 1, 0), (2, 6, 0), (8, 3, 0), (12, 4, 0), NONE], b"")),
 ];
@@ -95,7 +82,8 @@ const WIDTHS: &[OffsetsRow] = &[
 /// What is not known is refused before what is no text.
 #[rattlefmt::skip]
 const REFUSED_LINES: &[RefusedLines] = &[
-    (UNKNOWN_OPTIONS, &[(LinesCall::WrapBalanced(UNKNOWN), b"\xff"), (LinesCall::CarryAttributes(NO_TEXT, UNKNOWN), b"")]),
+    (UNKNOWN_OPTIONS, &[(LinesCall::WrapBalanced(TextwrapOptions { version: 1, ..AT_40 }), b"\xff"),
+        (LinesCall::CarryAttributes(NO_TEXT, TextwrapOptions { version: 1, ..AT_40 }), b"")]),
     (NOT_UTF8, &[
         (LinesCall::WrapBalanced(AT_40), b"a \xff"),
         (LinesCall::WrapBalanced(NO_TEXT_INDENT), b"a"),
@@ -120,18 +108,18 @@ fn told_balanced_width(alloc: Global, text: &[u8], options: &TextwrapOptions<'_>
 }
 
 /// A text, options, and the status and the width that are told.
-type BalancedRow<'a> = (&'a [u8], TextwrapOptions<'a>, (u32, usize));
-
+///
 /// The least width that takes no more lines, or that of the options where some piece has no room at it.
-const BALANCED_WIDTHS: &[BalancedRow<'_>] = &[
+#[rattlefmt::skip]
+const BALANCED_WIDTHS: &[(&[u8], TextwrapOptions<'_>, (u32, usize))] = &[
     (TITLE, AT_40, (DONE, 23)),
     (TITLE, QUOTED, (DONE, 25)),
-    (b"either/or not", AT_BREAKS, (DONE, 7)),
+    (b"either/or not", TextwrapOptions { unicode_breaks: 1, width: 12, ..DEFAULTS }, (DONE, 7)),
     (b"a wonderful word", AT_6, (DONE, 6)),
     // By a dictionary: `the hy-` and `phenation`.
     (b"the hyphenation", AT_11, (DONE, 9)),
     (b"", AT_40, (DONE, 0)),
-    (b"\xff", UNKNOWN, (UNKNOWN_OPTIONS, BEFORE)),
+    (b"\xff", TextwrapOptions { version: 1, ..AT_40 }, (UNKNOWN_OPTIONS, BEFORE)),
     (b"\xff", AT_40, (NOT_UTF8, BEFORE)),
     (b"a", NO_TEXT_INDENT, (NOT_UTF8, BEFORE)),
 ];

@@ -16,8 +16,7 @@ const FIVE: TextwrapFragment = TextwrapFragment {
 const CARD: TextwrapFragment = TextwrapFragment {
     width: 4,
     whitespace_width: 1,
-    penalty_width: 0,
-    break_penalty: 0,
+    ..FIVE
 };
 
 /// As wide as may be.

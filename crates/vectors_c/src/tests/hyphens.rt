@@ -78,21 +78,6 @@ const UNKNOWN: TextwrapDictionary<'_> = TextwrapDictionary {
     ..WHOLE
 };
 
-const UNKNOWN_CHECK: TextwrapDictionary<'_> = TextwrapDictionary {
-    is_checked: 2,
-    ..WHOLE
-};
-
-const UNKNOWN_SOFT: TextwrapDictionary<'_> = TextwrapDictionary {
-    soft_hyphens: 2,
-    ..WHOLE
-};
-
-const RESERVED: TextwrapDictionary<'_> = TextwrapDictionary {
-    reserved: 1,
-    ..NO_DICTIONARY
-};
-
 /// With more letters before a point than the numbers say.
 const FAR: TextwrapDictionary<'_> = TextwrapDictionary { left: 3, ..WHOLE };
 
@@ -209,7 +194,7 @@ const POINTS: &[OffsetsRow] = &[
     (OffsetsCall::HyphenPoints(b"re-hyphenation", CHECKED), (DONE, 2), &[5, 9]),
     (OffsetsCall::HyphenPoints(b"", WHOLE), (DONE, 0), &[]),
     (OffsetsCall::HyphenPoints(b"\xff", UNKNOWN), (UNKNOWN_OPTIONS, BEFORE), &[NO_OFFSET]),
-    (OffsetsCall::HyphenPoints(b"\xff", UNKNOWN_CHECK), (UNKNOWN_OPTIONS, BEFORE), &[NO_OFFSET]),
+    (OffsetsCall::HyphenPoints(b"\xff", TextwrapDictionary { is_checked: 2, ..WHOLE }), (UNKNOWN_OPTIONS, BEFORE), &[NO_OFFSET]),
     (OffsetsCall::HyphenPoints(b"hyphenation", FAR), (DONE, 1), &[6]),
     (OffsetsCall::HyphenPoints(b"hyphenation", TextwrapDictionary { right: 6, ..CHECKED }), (DONE, 1), &[2]),
     (OffsetsCall::HyphenPoints(b"\xff", SHORT), (NOT_UTF8, BEFORE), &[NO_OFFSET]),
@@ -223,8 +208,8 @@ const POINTS: &[OffsetsRow] = &[
     (OffsetsCall::HyphenPoints(b"hy\xc2\xadphenation", WHOLE), (DONE, 2), &[4, 8, NO_OFFSET]),
     (OffsetsCall::HyphenPoints(b"hy\xc2\xadphenation", SOFT), (DONE, 1), &[4, NO_OFFSET]),
     (OffsetsCall::HyphenPoints(b"hyphenation", SOFT), (DONE, 2), &[2, 6, NO_OFFSET]),
-    (OffsetsCall::HyphenPoints(b"\xff", UNKNOWN_SOFT), (UNKNOWN_OPTIONS, BEFORE), &[NO_OFFSET]),
-    (OffsetsCall::HyphenPoints(b"\xff", RESERVED), (UNKNOWN_OPTIONS, BEFORE), &[NO_OFFSET]),
+    (OffsetsCall::HyphenPoints(b"\xff", TextwrapDictionary { soft_hyphens: 2, ..WHOLE }), (UNKNOWN_OPTIONS, BEFORE), &[NO_OFFSET]),
+    (OffsetsCall::HyphenPoints(b"\xff", TextwrapDictionary { reserved: 1, ..NO_DICTIONARY }), (UNKNOWN_OPTIONS, BEFORE), &[NO_OFFSET]),
 ];
 
 #[test]
@@ -249,7 +234,7 @@ const AT_6: TextwrapOptions<'_> = TextwrapOptions {
 
 /// A hyphen is written at a point of the patterns, and none behind a hyphen of the word.
 #[rattlefmt::skip]
-const FILLED: &[TextRow] = &[
+const FILLED: &[TextRow<'_>] = &[
     ((TextCall::Fill(AT_11), b"the hyphenation"), (DONE, 17, b"the hyphen-\nation__")),
     ((TextCall::Fill(AT_6), b"hyphenation"), (DONE, 15, b"hy-\nphen-\nation__")),
     ((TextCall::Fill(TextwrapOptions { dictionary: FAR, ..AT_6 }), b"hyphenation"), (DONE, 13, b"hyphen-\nation__")),
@@ -260,8 +245,9 @@ const FILLED: &[TextRow] = &[
     ((TextCall::Fill(AT_BREAKS), b"\xe4\xbd\xa0\xe5\xa5\xbdhyphenation"), (DONE, 22, b"\xe4\xbd\xa0\xe5\xa5\xbd\nhy-\nphen-\nation__")),
     // By pairs no line ends between `%` and `(`; by the expression it may, as no digit stands there.
     ((TextCall::Fill(AT_BREAKS), b"ab%(cdef)"), (DONE, 10, b"ab%(cd\nef)__")),
-    ((TextCall::Fill(AT_BREAKS_BY_EXPRESSION), b"ab%(cdef)"), (DONE, 10, b"ab%\n(cdef)__")),
-    ((TextCall::Fill(AT_BREAKS_BY_EXPRESSION), b"\xe4\xbd\xa0\xe5\xa5\xbdhyphenation"), (DONE, 22, b"\xe4\xbd\xa0\xe5\xa5\xbd\nhy-\nphen-\nation__")),
+    ((TextCall::Fill(TextwrapOptions { unicode_breaks: 2, ..AT_6 }), b"ab%(cdef)"), (DONE, 10, b"ab%\n(cdef)__")),
+    ((TextCall::Fill(TextwrapOptions { unicode_breaks: 2, ..AT_6 }), b"\xe4\xbd\xa0\xe5\xa5\xbdhyphenation"),
+        (DONE, 22, b"\xe4\xbd\xa0\xe5\xa5\xbd\nhy-\nphen-\nation__")),
     ((TextCall::Fill(AT_11), b"the hy\xc2\xadphenation"), (DONE, 19, b"the hy\xc2\xadphen-\nation__")),
     ((TextCall::Fill(TextwrapOptions { dictionary: SOFT, ..AT_11 }), b"the hy\xc2\xadphenation"), (DONE, 19, b"the hy\xc2\xad-\nphenation__")),
     ((TextCall::Fill(TextwrapOptions { split_at_hyphens: 0, ..AT_11 }), b"the re-hyphenation"), (DONE, 19, b"the re-\nhyphenation__")),
@@ -285,12 +271,6 @@ const AT_BREAKS: TextwrapOptions<'_> = TextwrapOptions {
     ..AT_6
 };
 
-/// The same, with numbers kept together by the expression.
-const AT_BREAKS_BY_EXPRESSION: TextwrapOptions<'_> = TextwrapOptions {
-    unicode_breaks: 2,
-    ..AT_6
-};
-
 /// An indent that is no text.
 const WRONG_INDENT: TextwrapOptions<'_> = TextwrapOptions {
     subsequent_indent: b"\xff",
@@ -303,11 +283,11 @@ const REFUSED_TEXTS: &[RefusedTexts] = &[
     (UNKNOWN_OPTIONS, &[
         (TextCall::Fill(TextwrapOptions { dictionary: UNKNOWN, ..AT_11 }), b"\xff"),
         (TextCall::Fill(AT_UNKNOWN), b"a"),
-        (TextCall::Fill(TextwrapOptions { dictionary: UNKNOWN_CHECK, ..AT_11 }), b"a"),
-        (TextCall::Fill(TextwrapOptions { dictionary: UNKNOWN_SOFT, ..AT_11 }), b"a"),
-        (TextCall::Fill(TextwrapOptions { dictionary: RESERVED, ..AT_11 }), b"a"),
+        (TextCall::Fill(TextwrapOptions { dictionary: TextwrapDictionary { is_checked: 2, ..WHOLE }, ..AT_11 }), b"a"),
+        (TextCall::Fill(TextwrapOptions { dictionary: TextwrapDictionary { soft_hyphens: 2, ..WHOLE }, ..AT_11 }), b"a"),
+        (TextCall::Fill(TextwrapOptions { dictionary: TextwrapDictionary { reserved: 1, ..NO_DICTIONARY }, ..AT_11 }), b"a"),
         (TextCall::Refill(AT_UNKNOWN), b"\xff"),
-        (TextCall::Refill(TextwrapOptions { dictionary: UNKNOWN_CHECK, ..AT_11 }), b"a"),
+        (TextCall::Refill(TextwrapOptions { dictionary: TextwrapDictionary { is_checked: 2, ..WHOLE }, ..AT_11 }), b"a"),
         (TextCall::Refill(TextwrapOptions { dictionary: SHORT, ..WRONG_INDENT }), b"a"),
         (TextCall::Fill(TextwrapOptions { dictionary: SHORT, ..AT_11 }), b"\xff"),
         (TextCall::Fill(TextwrapOptions { dictionary: SHORT, ..WRONG_INDENT }), b"a"),
@@ -345,18 +325,12 @@ fn texts_are_filled_with_hyphens(rt: HostRuntime) {
     assert_beginnings(&rt, FILLED);
 }
 
-/// First fit at 14 columns, with an indent that no text has.
-const AT_14: TextwrapOptions<'_> = TextwrapOptions {
-    width: 14,
-    initial_indent: b"> ",
-    ..AT_11
-};
-
-/// A text is filled again with its own indents. A hyphen that was added before stays.
+/// A text is filled again with its own indents, and not with that of the options. A hyphen that was added
+/// before stays.
 #[rattlefmt::skip]
-const REFILLED: &[TextRow] = &[
-    ((TextCall::Refill(AT_14), b"// the\n// hyphenation\n"), (DONE, 24, b"// the hyphen-\n// ation\n__")),
-    ((TextCall::Refill(TextwrapOptions { width: 20, ..AT_14 }), b"// the hyphen-\n// ation\n"), (DONE, 21, b"// the hyphen- ation\n__")),
+const REFILLED: &[TextRow<'_>] = &[
+    ((TextCall::Refill(TextwrapOptions { width: 14, initial_indent: b"> ", ..AT_11 }), b"// the\n// hyphenation\n"), (DONE, 24, b"// the hyphen-\n// ation\n__")),
+    ((TextCall::Refill(TextwrapOptions { width: 20, initial_indent: b"> ", ..AT_11 }), b"// the hyphen-\n// ation\n"), (DONE, 21, b"// the hyphen- ation\n__")),
     ((TextCall::Refill(TextwrapOptions { dictionary: CHECKED, ..AT_6 }), b"re-hyphenation"), (DONE, 18, b"re-hy-\nphen-\nation__")),
     // At blanks this is one word.
     ((TextCall::Refill(AT_BREAKS), b"> \xe4\xbd\xa0\xe5\xa5\xbdhyphenation\n"), (DONE, 25, b"> \xe4\xbd\xa0\n\xe5\xa5\xbdhy-\nphen-\nation\n__")),
@@ -407,20 +381,13 @@ pub(super) const BAR: TextwrapGaps<'_> = TextwrapGaps {
 /// Rows of 15 columns, by first fit.
 pub(super) const AT_15: TextwrapOptions<'_> = TextwrapOptions { width: 15, ..AT_11 };
 
-/// Words that end where Unicode lets a line end, in columns of 6.
-const AT_BREAKS_IN_COLUMNS: TextwrapOptions<'_> = TextwrapOptions {
-    width: 13,
-    unicode_breaks: 1,
-    ..AT_11
-};
-
 /// The width of a column is that of the lines.
 #[rattlefmt::skip]
 const IN_COLUMNS: &[LinesRow] = &[
     ((LinesCall::Columns(2, AT_15, BAR), b"the hyphenation"), (DONE, 2, 30), (&[(0, 15, 1), (15, 15, 1), NONE], b"the hy-|ation  phen-  |       _")),
     ((LinesCall::Columns(2, TextwrapOptions { dictionary: CHECKED, ..AT_15 }, BAR), b"the hyphenation"),
         (TOO_SMALL, 2, 30), (&[(0, 15, 1)], b"the hy-|ation  phen")),
-    ((LinesCall::Columns(2, TextwrapOptions { dictionary: CHECKED, ..AT_BREAKS_IN_COLUMNS }, BAR), b"\xe4\xbd\xa0\xe5\xa5\xbdhyphenation"),
+    ((LinesCall::Columns(2, TextwrapOptions { width: 13, unicode_breaks: 1, dictionary: CHECKED, ..AT_11 }, BAR), b"\xe4\xbd\xa0\xe5\xa5\xbdhyphenation"),
         (DONE, 2, 28), (&[(0, 15, 1), (15, 13, 1), NONE], b"\xe4\xbd\xa0\xe5\xa5\xbd  |phen- hy-   |ation _")),
     ((LinesCall::Table(CELLS, &[RIGHT], BARS), b""), (DONE, 2, 26), (&[(0, 13, 1), (13, 13, 1), NONE], b"|the hyphen-||      ation|_")),
 ];

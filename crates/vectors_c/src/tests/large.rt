@@ -29,16 +29,12 @@ pub(super) const HALF: usize = LINES / 2;
 /// How long it is, in bytes: 1 MiB and 8.
 pub(super) const LEN: usize = LINES * 12;
 
-/// What a call tells where it has no room, and where it has just so much; and whether it then fills it.
-pub(super) type Told = ((u32, usize), (u32, usize), bool);
+/// What a call tells where it has no room, and where it has just so much; and whether it then fills it. For
+/// all that there has to be memory.
+pub(super) type Told = Result<((u32, usize), (u32, usize), bool), AllocError>;
 
 /// Asserts that there was memory for a call, and that it told this length both times.
-pub(super) fn assert_told_twice(
-    rt: &impl Abort,
-    row: usize,
-    told: Result<Told, AllocError>,
-    len: usize,
-) {
+pub(super) fn assert_told_twice(rt: &impl Abort, row: usize, told: Told, len: usize) {
     let (without, with, is_full) = told.expect(rt, "memory");
     assert_told(rt, row, without, (TOO_SMALL, len));
     assert_told(rt, row, with, (DONE, len));
@@ -46,12 +42,7 @@ pub(super) fn assert_told_twice(
 }
 
 /// Makes the call twice.
-fn write_text_twice(
-    alloc: Global,
-    is_known: bool,
-    call: TextCall<'_>,
-    text: &[u8],
-) -> Result<Told, AllocError> {
+fn write_text_twice(alloc: Global, is_known: bool, call: TextCall<'_>, text: &[u8]) -> Told {
     let mut len = BEFORE;
     let without = write_text(alloc, is_known, call, text, &mut [], &mut len);
     let reported = len;
@@ -67,18 +58,12 @@ pub(super) fn write_lines_twice(
     call: LinesCall<'_>,
     text: &[u8],
     most: usize,
-) -> Result<Told, AllocError> {
+) -> Told {
     let mut lines = vec![in alloc; NOWHERE; most]?;
     let (mut count, mut len) = (BEFORE, BEFORE);
+    let no_room: &mut [u8] = &mut [];
     let without = write_lines(
-        alloc,
-        is_known,
-        call,
-        text,
-        &mut lines,
-        &mut count,
-        &mut [],
-        &mut len,
+        alloc, is_known, call, text, &mut lines, &mut count, no_room, &mut len,
     );
     let reported = len;
     let mut room = vec![in alloc; b'.'; reported]?;
@@ -133,18 +118,14 @@ const LINES_AND_ROWS: &[LinesRow] = &[
 ];
 
 /// What the call of a row tells.
-fn told_of_text(
-    alloc: Global,
-    is_known: bool,
-    (call, part, times, _): TextRow,
-) -> Result<Told, AllocError> {
+fn told_of_text(alloc: Global, is_known: bool, (call, part, times, _): TextRow) -> Told {
     let text = part.repeat(alloc, times)?;
     write_text_twice(alloc, is_known, call, text.as_bytes())
 }
 
 /// What the calls tell with a prefix of 1,000 bytes, or with such a placeholder, which leaves ten
 /// columns.
-fn told_of_long(alloc: Global, is_placeholder: bool) -> Result<Told, AllocError> {
+fn told_of_long(alloc: Global, is_placeholder: bool) -> Told {
     let long = "+".repeat(alloc, 1_000)?;
     let text = LINE.repeat(alloc, 1_000)?;
     let call = match is_placeholder {
@@ -155,11 +136,7 @@ fn told_of_long(alloc: Global, is_placeholder: bool) -> Result<Told, AllocError>
 }
 
 /// The same of lines and rows.
-fn told_of_lines(
-    alloc: Global,
-    is_known: bool,
-    (call, part, times, most, _): LinesRow,
-) -> Result<Told, AllocError> {
+fn told_of_lines(alloc: Global, is_known: bool, (call, part, times, most, _): LinesRow) -> Told {
     let text = part.repeat(alloc, times)?;
     write_lines_twice(alloc, is_known, call, text.as_bytes(), most)
 }

@@ -18,6 +18,9 @@ use textwrap_more_calls::fragments::TextwrapFragment;
 use textwrap_more_calls::pieces::TextwrapPiece;
 use textwrap_more_calls::steps::{textwrap_lines_at, textwrap_pieces_at};
 
+/// What a call tells, its status and how many, and one of them, if there was memory for it.
+type OneTold = Result<((u32, usize), usize), AllocError>;
+
 /// A line of the large text.
 const TEXT: TextwrapText<'_> = TextwrapText {
     bytes: b"foo bar baz",
@@ -30,7 +33,7 @@ const AT_11: TextwrapOptions<'_> = TextwrapOptions {
 };
 
 /// All lines but the last one, which leaves the one before it cut.
-fn shortened_lines(alloc: Global) -> Result<Told, AllocError> {
+fn shortened_lines(alloc: Global) -> Told {
     let lines = vec![in alloc; TEXT; LINES]?;
     let call = LinesCall::ShortenLines(&lines, LINES - 1, 10, b"+++");
     write_lines_twice(alloc, false, call, b"", LINES)
@@ -47,20 +50,15 @@ const PLAIN_AGAIN: TextwrapText<'_> = TextwrapText {
 };
 
 /// Lines in pairs, with a style that is on from the start of the first to the end of the second, carried.
-fn carried(alloc: Global) -> Result<Told, AllocError> {
+fn carried(alloc: Global) -> Told {
     let mut lines = vec![in alloc; STYLED; LINES]?;
     for i in 0..HALF {
         if let Some(line) = lines.get_mut(2 * i + 1) {
             *line = PLAIN_AGAIN;
         }
     }
-    write_lines_twice(
-        alloc,
-        false,
-        LinesCall::CarryStyles(&lines, AT_11),
-        b"",
-        LINES,
-    )
+    let call = LinesCall::CarryStyles(&lines, AT_11);
+    write_lines_twice(alloc, false, call, b"", LINES)
 }
 
 /// A column of a line's width, whose lines stand at the left.
@@ -75,14 +73,14 @@ const LEFT: TextwrapColumn<'_> = TextwrapColumn {
 const COLUMNS: &[TextwrapColumn<'_>] = &[LEFT, TextwrapColumn { options: AT_11, alignment: 1, reserved: 0 }];
 
 /// The lines in two columns, with a bar beside each.
-fn table(alloc: Global) -> Result<Told, AllocError> {
+fn table(alloc: Global) -> Told {
     let cells = vec![in alloc; TEXT; LINES]?;
     let call = LinesCall::Table(&cells, COLUMNS, BARS);
     write_lines_twice(alloc, false, call, b"", HALF)
 }
 
 /// The lines in two columns of a row of 25, with a bar beside each.
-fn rows_of_lines(alloc: Global) -> Result<Told, AllocError> {
+fn rows_of_lines(alloc: Global) -> Told {
     let lines = vec![in alloc; TEXT; LINES]?;
     let call = LinesCall::RowsOfLines(&lines, 2, 25, BARS);
     write_lines_twice(alloc, false, call, b"", HALF)
@@ -93,24 +91,18 @@ fn rows_of_lines(alloc: Global) -> Result<Told, AllocError> {
 fn table_of_lines(alloc: Global) -> Result<(u32, usize, usize), AllocError> {
     let lines = vec![in alloc; TEXT; HALF]?;
     let cell = TextwrapCell { lines: &lines };
+    let cells = [cell, cell];
     let mut rows = vec![in alloc; NOWHERE; HALF]?;
     let mut room = vec![in alloc; b'.'; 25 * HALF]?;
     let (mut count, mut len) = (BEFORE, BEFORE);
     let status = textwrap_table_of_lines(
-        alloc,
-        &[cell, cell],
-        COLUMNS,
-        &BARS,
-        &mut rows,
-        &mut count,
-        &mut room,
-        &mut len,
+        alloc, &cells, COLUMNS, &BARS, &mut rows, &mut count, &mut room, &mut len,
     );
     Ok((status, count, len))
 }
 
 /// Two rows of 200 columns, with a bar beside each.
-fn wide_table(alloc: Global) -> Result<Told, AllocError> {
+fn wide_table(alloc: Global) -> Told {
     let cells = vec![in alloc; TEXT; 400]?;
     let columns = vec![in alloc; LEFT; 200]?;
     let call = LinesCall::Table(&cells, &columns, BARS);
@@ -140,7 +132,7 @@ fn multiples(alloc: Global, most: usize, step: usize) -> Result<Vec<usize>, Allo
 /// What is told of the pieces of the large text at cuts after each of its lines but the last, and at these
 /// points; and where the last piece stands. Their lists are of several lifetimes, so the call is made
 /// here.
-fn pieces_in_steps(alloc: Global, points: &[usize]) -> Result<((u32, usize), usize), AllocError> {
+fn pieces_in_steps(alloc: Global, points: &[usize]) -> OneTold {
     let text = LINE.repeat(alloc, LINES)?;
     let cuts = multiples(alloc, LINES - 1, LINE.len())?;
     let mut pieces = vec![in alloc; NO_PIECE; LINES]?;
@@ -151,12 +143,7 @@ fn pieces_in_steps(alloc: Global, points: &[usize]) -> Result<((u32, usize), usi
 }
 
 /// Asserts that there was memory for a call, how many it told, and one of them.
-fn assert_one_told(
-    rt: &impl Abort,
-    row: usize,
-    found: Result<((u32, usize), usize), AllocError>,
-    (count, one): (usize, usize),
-) {
+fn assert_one_told(rt: &impl Abort, row: usize, found: OneTold, (count, one): (usize, usize)) {
     let (told, found) = found.expect(rt, "memory");
     assert_told(rt, row, told, (DONE, count));
     assert_number(rt, row, found, one);
@@ -171,29 +158,16 @@ fn offset_of_last(pieces: &[TextwrapPiece]) -> usize {
 }
 
 /// What is told of the lines and of the room, and where the tenth line stands.
-type LinesTold = ((u32, usize, usize), (usize, usize));
+type LinesTold = Result<((u32, usize, usize), (usize, usize)), AllocError>;
 
 /// The same of the lines of a text, with a piece in each.
-fn tenth_line(
-    alloc: Global,
-    text: &[u8],
-    cuts: &[usize],
-    ends: &[usize],
-) -> Result<LinesTold, AllocError> {
+fn tenth_line(alloc: Global, text: &[u8], cuts: &[usize], ends: &[usize]) -> LinesTold {
     let mut lines = vec![in alloc; NOWHERE; LINES]?;
     let (mut count, mut len) = (BEFORE, BEFORE);
+    let points: &[usize] = &[];
+    let room: &mut [u8] = &mut [];
     let status = textwrap_lines_at(
-        alloc,
-        text,
-        cuts,
-        &[],
-        ends,
-        &AT_80,
-        1,
-        &mut lines,
-        &mut count,
-        &mut [],
-        &mut len,
+        alloc, text, cuts, points, ends, &AT_80, 1, &mut lines, &mut count, room, &mut len,
     );
     Ok(((status, count, len), place_at(&lines, 9)))
 }
@@ -207,7 +181,7 @@ fn place_at(lines: &[TextwrapLine], at: usize) -> (usize, usize) {
 }
 
 /// The lines that end after each piece.
-fn lines_in_steps(alloc: Global) -> Result<LinesTold, AllocError> {
+fn lines_in_steps(alloc: Global) -> LinesTold {
     let text = LINE.repeat(alloc, LINES)?;
     let cuts = multiples(alloc, LINES - 1, LINE.len())?;
     let ends = multiples(alloc, LINES, 1)?;
@@ -215,7 +189,7 @@ fn lines_in_steps(alloc: Global) -> Result<LinesTold, AllocError> {
 }
 
 /// What is told of the words of a line at 1,000 offsets, and where the last stands.
-fn words_at_many(alloc: Global) -> Result<((u32, usize), usize), AllocError> {
+fn words_at_many(alloc: Global) -> OneTold {
     let text = LINE.repeat(alloc, 1_001)?;
     let offsets = multiples(alloc, 1_000, LINE.len())?;
     let call = PiecesCall::WordsAt(&offsets);
@@ -241,12 +215,7 @@ fn a_large_paragraph_has_lines_in_steps(rt: HostRuntime) {
 }
 
 /// The status, how many offsets are told, and the one at a place among so many.
-fn offset_at(
-    alloc: Global,
-    call: OffsetsCall<'_>,
-    most: usize,
-    at: usize,
-) -> Result<((u32, usize), usize), AllocError> {
+fn offset_at(alloc: Global, call: OffsetsCall<'_>, most: usize, at: usize) -> OneTold {
     let mut offsets = vec![in alloc; 0; most]?;
     let mut count = BEFORE;
     let status = write_offsets(alloc, call, &mut offsets, &mut count);
@@ -258,28 +227,20 @@ fn offset_at(
 }
 
 /// The points of a word of so many hyphens.
-fn many_points(alloc: Global) -> Result<((u32, usize), usize), AllocError> {
+fn many_points(alloc: Global) -> OneTold {
     let hyphens = "a-".repeat(alloc, LINES)?;
-    offset_at(
-        alloc,
-        OffsetsCall::SplitPoints(hyphens.as_bytes()),
-        LINES,
-        9,
-    )
+    let call = OffsetsCall::SplitPoints(hyphens.as_bytes());
+    offset_at(alloc, call, LINES, 9)
 }
 
 /// The cuts of a line of 5,000 bytes, between each two of its characters.
-fn many_cuts(alloc: Global) -> Result<((u32, usize), usize), AllocError> {
+fn many_cuts(alloc: Global) -> OneTold {
     let line = "é日".repeat(alloc, 1_000)?;
     offset_at(alloc, OffsetsCall::UnicodeCuts(line.as_bytes()), 1_999, 9)
 }
 
 /// The last width of so many columns that share a total, in which the lines stand.
-fn many_widths(
-    alloc: Global,
-    columns: usize,
-    total: usize,
-) -> Result<((u32, usize), usize), AllocError> {
+fn many_widths(alloc: Global, columns: usize, total: usize) -> OneTold {
     let cells = vec![in alloc; TEXT; LINES]?;
     let call = OffsetsCall::FittingWidths(&cells, columns, total);
     offset_at(alloc, call, columns, columns.saturating_sub(1))
@@ -294,7 +255,7 @@ const ONE: TextwrapFragment = TextwrapFragment {
 };
 
 /// The last end of lines of many fragments, by least cost or by first fit.
-fn many_ends(alloc: Global, is_optimal: bool) -> Result<((u32, usize), usize), AllocError> {
+fn many_ends(alloc: Global, is_optimal: bool) -> OneTold {
     let fragments = vec![in alloc; ONE; 100_000]?;
     let call = match is_optimal {
         true => OffsetsCall::OptimalFit(&fragments, &[10], PENALTIES),

@@ -44,16 +44,10 @@ const BLANKS: &[LinesRow] = &[
         (DONE, 4, 6), (&[(0, 6, 1), (4, 5, 0), (9, 3, 0), (13, 7, 0), NONE], b"* foo __")),
 ];
 
-/// The defaults at 24 columns.
-const AT_24: TextwrapOptions<'_> = TextwrapOptions {
-    width: 24,
-    ..DEFAULTS
-};
-
 /// A text in columns.
 #[rattlefmt::skip]
 const IN_COLUMNS: &[LinesRow] = &[
-    ((LinesCall::Columns(4, AT_24, BARS), b"Foo Bar Baz Quux"), (DONE, 1, 24), (&[(0, 24, 1), NONE], b"|Foo |Bar |Baz |Quux   |________")),
+    ((LinesCall::Columns(4, TextwrapOptions { width: 24, ..DEFAULTS }, BARS), b"Foo Bar Baz Quux"), (DONE, 1, 24), (&[(0, 24, 1), NONE], b"|Foo |Bar |Baz |Quux   |________")),
 ];
 
 /// Lines of which the first leaves a style open.
@@ -80,18 +74,6 @@ const LEFT: TextwrapColumn<'_> = TextwrapColumn {
     options: AT_4,
     alignment: 0,
     reserved: 0,
-};
-
-/// One whose lines stand nobody knows where.
-const NO_ALIGNMENT: TextwrapColumn<'_> = TextwrapColumn {
-    alignment: 3,
-    ..LEFT
-};
-
-/// One with a number in reserve that is not 0.
-const RESERVED: TextwrapColumn<'_> = TextwrapColumn {
-    reserved: 1,
-    ..LEFT
 };
 
 /// Columns of 4 and 5, whose lines stand at the left and at the right.
@@ -125,9 +107,8 @@ pub(super) const NO_TEXT_GAPS: TextwrapGaps<'_> = TextwrapGaps {
 /// Lines in columns are the rows of the text that has these lines.
 #[rattlefmt::skip]
 const ROWS_OF_LINES: &[LinesRow] = &[
-    ((LinesCall::RowsOfLines(
-                &[TextwrapText { bytes: b"Foo" }, TextwrapText { bytes: b"Bar" }, TextwrapText { bytes: b"Baz" }, TextwrapText { bytes: b"Quux" }], 4, 24,
-                BARS), b""), (DONE, 1, 24), (&[(0, 24, 1), NONE], b"|Foo |Bar |Baz |Quux   |________")),
+    ((LinesCall::RowsOfLines(&[TextwrapText { bytes: b"Foo" }, TextwrapText { bytes: b"Bar" }, TextwrapText { bytes: b"Baz" }, TextwrapText { bytes: b"Quux" }],
+        4, 24, BARS), b""), (DONE, 1, 24), (&[(0, 24, 1), NONE], b"|Foo |Bar |Baz |Quux   |________")),
     // The first column is filled first, and the width that is left over stands at the end.
     ((LinesCall::RowsOfLines(FEW_LINES, 2, 12, BARS), b""), (DONE, 2, 24), (&[(0, 12, 1), (12, 12, 1)], b"|Foo |Baz  ||Bar |     |")),
     ((LinesCall::RowsOfLines(FEW_LINES, 2, 12, BARS), b""), (TOO_SMALL, 2, 24), (&[(0, 12, 1), (12, 12, 1)], b"|Foo |Baz  ||Bar |     ")),
@@ -162,18 +143,19 @@ const TABLES_OF_LINES: &[LinesRow] = &[
     ((LinesCall::TableOfLines(WRAPPED_CELLS, &[], BARS), b""), (DONE, 0, 0), (&[NONE], b"____")),
 ];
 
-/// No columns at all, columns and gaps that are not known are refused before what is no text.
+/// No columns at all, columns that have an unknown alignment or a number in reserve, and gaps that are not
+/// known are refused before what is no text.
 #[rattlefmt::skip]
 const REFUSED_LINES: &[RefusedLines] = &[
     (UNKNOWN_OPTIONS, &[
-        (LinesCall::Columns(0, AT_24, BARS), b"Foo Bar Baz Quux"),
-        (LinesCall::Columns(4, AT_24, UNKNOWN_GAPS), b"Foo Bar Baz Quux"),
-        (LinesCall::Table(NO_TEXT, &[LEFT, NO_ALIGNMENT], BARS), b""),
-        (LinesCall::Table(NO_TEXT, &[LEFT, RESERVED], BARS), b""),
+        (LinesCall::Columns(0, TextwrapOptions { width: 24, ..DEFAULTS }, BARS), b"Foo Bar Baz Quux"),
+        (LinesCall::Columns(4, TextwrapOptions { width: 24, ..DEFAULTS }, UNKNOWN_GAPS), b"Foo Bar Baz Quux"),
+        (LinesCall::Table(NO_TEXT, &[LEFT, TextwrapColumn { alignment: 3, ..LEFT }], BARS), b""),
+        (LinesCall::Table(NO_TEXT, &[LEFT, TextwrapColumn { reserved: 1, ..LEFT }], BARS), b""),
         (LinesCall::Table(NO_TEXT, &[LEFT], UNKNOWN_GAPS), b""),
         (LinesCall::RowsOfLines(NO_TEXT, 0, 24, BARS), b""),
         (LinesCall::RowsOfLines(NO_TEXT, 1, 24, UNKNOWN_GAPS), b""),
-        (LinesCall::TableOfLines(NO_TEXT_CELLS, &[NO_ALIGNMENT], BARS), b""),
+        (LinesCall::TableOfLines(NO_TEXT_CELLS, &[TextwrapColumn { alignment: 3, ..LEFT }], BARS), b""),
         (LinesCall::TableOfLines(NO_TEXT_CELLS, COLUMNS, UNKNOWN_GAPS), b""),
     ]),
     (NOT_UTF8, &[

@@ -10,7 +10,7 @@ use textwrap_calls::status::{DONE, NOT_UTF8, TOO_SMALL, UNKNOWN_OPTIONS, WRONG_P
 
 /// The pieces of a paragraph stand one after another, split and broken as the options say.
 #[rattlefmt::skip]
-const PIECES: &[PiecesRow] = &[
+const PIECES: &[PiecesRow<'_>] = &[
     ((PiecesCall::Pieces(AT_4), b"foo  ba-r"), (DONE, 3), &[(0, 3, 2, 0, 3), (5, 3, 0, 0, 3), (8, 1, 0, 0, 1), NO_PLACE]),
     ((PiecesCall::Pieces(TextwrapOptions { split_at_hyphens: 0, break_words: 0, ..AT_4 }), b"foo  ba-rr"),
         (DONE, 2), &[(0, 3, 2, 0, 3), (5, 5, 0, 0, 5), NO_PLACE, NO_PLACE]),
@@ -25,7 +25,7 @@ const PIECES: &[PiecesRow] = &[
 
 /// Words are cut at offsets of the visible text, which increase and are character boundaries.
 #[rattlefmt::skip]
-const WORDS_AT: &[PiecesRow] = &[
+const WORDS_AT: &[PiecesRow<'_>] = &[
     ((PiecesCall::WordsAt(&[4, 8, 11]), b"foo-bar baz"), (DONE, 2), &[(0, 7, 1, 0, 7), (8, 3, 0, 0, 3), NO_PLACE, NO_PLACE]),
     // Escape sequences do not count: `foo bar` is visible.
     ((PiecesCall::WordsAt(&[0, 4, 7]), b"\x1b[1mfoo\x1b[0m bar"), (DONE, 2), &[(0, 11, 1, 0, 3), (12, 3, 0, 0, 3), NO_PLACE, NO_PLACE]),
@@ -33,7 +33,7 @@ const WORDS_AT: &[PiecesRow] = &[
 
 /// A word is broken where it is too wide.
 #[rattlefmt::skip]
-const BROKEN: &[PiecesRow] = &[
+const BROKEN: &[PiecesRow<'_>] = &[
     ((PiecesCall::BreakApart(3), b"Hello!"), (DONE, 2), &[(0, 3, 0, 0, 3), (3, 3, 0, 0, 3), NO_PLACE, NO_PLACE]),
     ((PiecesCall::BreakApart(3), b""), (DONE, 0), &[NO_PLACE, NO_PLACE, NO_PLACE, NO_PLACE]),
 ];

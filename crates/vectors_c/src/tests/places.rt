@@ -48,24 +48,16 @@ pub(super) fn assert_no_lines(rt: &(impl Abort + AllocGlobal), refused: &[Refuse
 
 /// What each row says of texts that are all known or not.
 fn assert_lines_where(rt: &(impl Abort + AllocGlobal), is_known: bool, rows: &[LinesRow]) {
-    for (row, &((call, text), (status, count, len), (places, expected))) in rows
-        .iter()
-        .enumerate()
-    {
+    let alloc = rt.alloc();
+    for (row, &((call, text), (status, count, len), after)) in rows.iter().enumerate() {
+        let (places, expected) = after;
         let mut lines = [NOWHERE; MOST];
         let lines = &mut lines[..places.len().min(MOST)];
         let mut room = [BLANK; MOST_ROOM];
         let room = &mut room[..expected.len().min(MOST_ROOM)];
         let (mut found, mut told) = (BEFORE, BEFORE);
         let answer = write_lines(
-            rt.alloc(),
-            is_known,
-            call,
-            text,
-            lines,
-            &mut found,
-            room,
-            &mut told,
+            alloc, is_known, call, text, lines, &mut found, room, &mut told,
         );
         assert_told(rt, row, (answer, found), (status, count));
         assert_told(rt, row, (answer, told), (status, len));
@@ -91,14 +83,10 @@ pub(super) type PiecePlace = (usize, usize, usize, usize, usize);
 pub(super) const NO_PLACE: PiecePlace = (99, 99, 99, 99, 99);
 
 /// A call and a text; the status, and how many pieces are told; all pieces afterwards.
-pub(super) type PiecesRow = (
-    (PiecesCall<'static>, &'static [u8]),
-    (u32, usize),
-    &'static [PiecePlace],
-);
+pub(super) type PiecesRow<'a> = ((PiecesCall<'a>, &'a [u8]), (u32, usize), &'a [PiecePlace]);
 
 /// Asserts what each row says.
-pub(super) fn assert_pieces(rt: &(impl Abort + AllocGlobal), rows: &[PiecesRow]) {
+pub(super) fn assert_pieces(rt: &(impl Abort + AllocGlobal), rows: &[PiecesRow<'_>]) {
     for (row, &((call, text), expected, places)) in rows.iter().enumerate() {
         let mut pieces = [NO_PIECE; MOST];
         let pieces = &mut pieces[..places.len().min(MOST)];

@@ -1,6 +1,6 @@
 //! Texts in which marks stand before the words, filled again and written into room.
 use super::plain::{BEFORE, REFLOWED, TextCall};
-use super::texts::{RefusedTexts, assert_beginnings, assert_no_texts, assert_texts};
+use super::texts::{RefusedTexts, TextRow, assert_beginnings, assert_no_texts, assert_texts};
 use textwrap_calls::reflowing::TextwrapReflowOptions;
 use textwrap_calls::status::{DONE, NOT_UTF8, TOO_SMALL, UNKNOWN_OPTIONS};
 use textwrap_calls::texts::TextwrapText;
@@ -27,10 +27,8 @@ const ROWS: &[Reflowed] = &[
 #[test]
 fn each_option_of_texts_with_marks_reaches_the_library(rt: HostRuntime) {
     for &(options, text, reflowed) in ROWS {
-        let row = (
-            (TextCall::Reflow(options), text),
-            (DONE, reflowed.len(), reflowed),
-        );
+        let call = TextCall::Reflow(options);
+        let row = ((call, text), (DONE, reflowed.len(), reflowed));
         assert_texts(&rt, &[row]);
         assert_beginnings(&rt, &[row]);
     }
@@ -60,22 +58,17 @@ const REFUSED_TEXTS: &[RefusedTexts] = &[
     ]),
 ];
 
+/// Room that is too short holds the beginning.
+#[rattlefmt::skip]
+const SHORT: &[TextRow<'_>] = &[((TextCall::Reflow(REFLOWED), b"> one two three four\n"), (TOO_SMALL, 23, b"> one"))];
+
 #[test]
 fn texts_with_marks_are_told_apart_from_what_is_none(rt: HostRuntime) {
     assert_no_texts(&rt, REFUSED_TEXTS);
     for &options in UNKNOWN {
         let call = TextCall::Reflow(options);
-        assert_texts(
-            &rt,
-            &[((call, b"\xff"), (UNKNOWN_OPTIONS, BEFORE, b"____"))],
-        );
+        let refused = (UNKNOWN_OPTIONS, BEFORE, b"____" as &[u8]);
+        assert_texts(&rt, &[((call, b"\xff"), refused)]);
     }
-    let short = (
-        (
-            TextCall::Reflow(REFLOWED),
-            b"> one two three four\n" as &[u8],
-        ),
-        (TOO_SMALL, 23, b"> one" as &[u8]),
-    );
-    assert_texts(&rt, &[short]);
+    assert_texts(&rt, SHORT);
 }

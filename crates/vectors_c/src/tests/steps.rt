@@ -24,7 +24,7 @@ const PARAGRAPH: &[u8] = b"foo b\xc3\xa4r-baz";
 
 /// The pieces of a paragraph at cuts and points.
 #[rattlefmt::skip]
-const PIECES: &[PiecesRow] = &[
+const PIECES: &[PiecesRow<'_>] = &[
     ((PiecesCall::PiecesAt(&[], &[], AT_20), PARAGRAPH), (DONE, 1), &[(0, 12, 0, 0, 11), NO_PLACE, NO_PLACE, NO_PLACE]),
     ((PiecesCall::PiecesAt(&[4], &[], AT_20), PARAGRAPH), (DONE, 2), &[(0, 3, 1, 0, 3), (4, 8, 0, 0, 7), NO_PLACE, NO_PLACE]),
     ((PiecesCall::PiecesAt(&[4], &[], AT_20), PARAGRAPH), (TOO_SMALL, 2), &[(0, 3, 1, 0, 3)]),

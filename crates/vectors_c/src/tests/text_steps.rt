@@ -98,17 +98,11 @@ fn the_lines_of_a_text_end_where_the_caller_says(rt: HostRuntime) {
 
 /// The same lines, joined by the line ending.
 #[rattlefmt::skip]
-const FILLED: &[TextRow] = &[
+const FILLED: &[TextRow<'_>] = &[
     ((TextCall::FillAt(STEPS, AT_5), TEXT), (DONE, 18, b"foo\nbar\n\nba-\nz qux__")),
     ((TextCall::FillAt(STEPS, AT_5), TEXT), (TOO_SMALL, 18, b"foo\nbar\n\nba-\nz qu")),
     ((TextCall::FillAt(EACH_ONE, AT_3), b"foo\r\nbar"), (DONE, 8, b"foo\r\nbar")),
 ];
-
-#[test]
-fn a_text_is_filled_where_the_caller_says(rt: HostRuntime) {
-    assert_texts(&rt, FILLED);
-    assert_no_texts(&rt, REFUSED_TEXTS);
-}
 
 /// 8 columns, with an indent before the first line.
 const AT_8: TextwrapOptions<'_> = TextwrapOptions {
@@ -124,14 +118,16 @@ const WORDS: &[TextwrapSteps<'_>] = &[TextwrapSteps { cuts: &[2, 4, 7, 9], point
 
 /// All lines but the last of each paragraph are justified, the first of them after its indent.
 #[rattlefmt::skip]
-const JUSTIFIED: &[TextRow] = &[
+const JUSTIFIED: &[TextRow<'_>] = &[
     ((TextCall::JustifyAt(WORDS, AT_8), b"a b cd e f\ngh i jk"), (DONE, 27, b"> a    b\ncd     e\nf\ngh i jk__")),
     ((TextCall::JustifyAt(WORDS, AT_8), b"a b cd e f\ngh i jk"), (TOO_SMALL, 27, b"> a    b\ncd     e\nf\ngh i j")),
 ];
 
 #[test]
-fn a_text_is_justified_where_the_caller_says(rt: HostRuntime) {
+fn a_text_is_filled_and_justified_where_the_caller_says(rt: HostRuntime) {
+    assert_texts(&rt, FILLED);
     assert_texts(&rt, JUSTIFIED);
+    assert_no_texts(&rt, REFUSED_TEXTS);
 }
 
 /// First fit at 9 columns.
@@ -141,18 +137,12 @@ const FIRST_FIT: TextwrapOptions<'_> = TextwrapOptions {
     ..DEFAULTS
 };
 
-/// Least cost at 9 columns.
-const LEAST_COST: TextwrapOptions<'_> = TextwrapOptions {
-    width: 9,
-    ..DEFAULTS
-};
-
 /// Lines end by the algorithm of the options.
 #[rattlefmt::skip]
 const ENDS: &[OffsetsRow] = &[
     (OffsetsCall::EndsAt(b"foo bar baz", &[4, 8], &[], FIRST_FIT, 0), (DONE, 2), &[2, 3, NO_OFFSET]),
-    (OffsetsCall::EndsAt(b"foo bar baz", &[4, 8], &[], LEAST_COST, 1), (DONE, 2), &[2, 3, NO_OFFSET]),
-    (OffsetsCall::EndsAt(b"foo bar baz", &[4, 8], &[], LEAST_COST, 0), (TOO_SMALL, 2), &[2]),
+    (OffsetsCall::EndsAt(b"foo bar baz", &[4, 8], &[], TextwrapOptions { width: 9, ..DEFAULTS }, 1), (DONE, 2), &[2, 3, NO_OFFSET]),
+    (OffsetsCall::EndsAt(b"foo bar baz", &[4, 8], &[], TextwrapOptions { width: 9, ..DEFAULTS }, 0), (TOO_SMALL, 2), &[2]),
     (OffsetsCall::EndsAt(b"foo bar baz", &[4, 8], &[], FIRST_FIT, 2), (UNKNOWN_OPTIONS, BEFORE), &[NO_OFFSET]),
     (OffsetsCall::EndsAt(b"foo bar baz", &[8, 4], &[], FIRST_FIT, 0), (WRONG_PLACES, BEFORE), &[NO_OFFSET]),
 ];
@@ -169,17 +159,11 @@ const NO_PARAGRAPH: TextwrapParagraph = TextwrapParagraph {
 };
 
 /// Options and a text; the status and how many paragraphs are told; and where they stand.
-type ParagraphsRow = (
-    TextwrapOptions<'static>,
-    &'static [u8],
-    (u32, usize),
-    &'static [(usize, usize)],
-);
-
+///
 /// What is between the line endings. There is always a paragraph, and the first ones are written where
 /// there is no room for all.
 #[rattlefmt::skip]
-const PARAGRAPHS: &[ParagraphsRow] = &[
+const PARAGRAPHS: &[(TextwrapOptions<'_>, &[u8], (u32, usize), &[(usize, usize)])] = &[
     (DEFAULTS, b"a\n\nbc", (DONE, 3), &[(0, 1), (2, 0), (3, 2)]),
     (DEFAULTS, b"", (DONE, 1), &[(0, 0), (99, 99)]),
     (AT_3, b"a\nb\r\n", (DONE, 2), &[(0, 3), (5, 0)]),
@@ -212,11 +196,10 @@ fn paragraphs_stand_between_line_endings(rt: HostRuntime) {
 
 /// Options, and whether a line stands before the paragraph `foo`; the status; whether it is whole, and
 /// the widths.
-type WidthsRow = (TextwrapOptions<'static>, usize, u32, (usize, usize, usize));
-
+///
 /// A paragraph is whole if it has no indent and fewer bytes than columns. Indents take their columns.
 #[rattlefmt::skip]
-const WIDTHS: &[WidthsRow] = &[
+const WIDTHS: &[(TextwrapOptions<'_>, usize, u32, (usize, usize, usize))] = &[
     (DEFAULTS, 0, DONE, (1, 10, 10)),
     (AT_3, 1, DONE, (0, 3, 3)),
     (INDENTED, 0, DONE, (0, 8, 6)),
@@ -229,10 +212,8 @@ const WIDTHS: &[WidthsRow] = &[
 
 #[test]
 fn a_paragraph_has_widths(rt: HostRuntime) {
-    for (row, &(options, is_later, expected, (is_whole, first, later))) in WIDTHS
-        .iter()
-        .enumerate()
-    {
+    for (row, &(options, is_later, expected, told)) in WIDTHS.iter().enumerate() {
+        let (is_whole, first, later) = told;
         let mut widths = TextwrapWidths {
             is_whole: 99,
             first: 99,
@@ -258,15 +239,10 @@ fn many_lines(alloc: Global) -> Result<Told, AllocError> {
     let mut lines = vec![in alloc; NOWHERE; MANY]?;
     let (mut count, mut len) = (BEFORE, BEFORE);
     let wrap = LinesCall::WrapAt(&steps, DEFAULTS);
+    let text = text.as_bytes();
+    let room: &mut [u8] = &mut [];
     let status = write_lines(
-        alloc,
-        false,
-        wrap,
-        text.as_bytes(),
-        &mut lines,
-        &mut count,
-        &mut [],
-        &mut len,
+        alloc, false, wrap, text, &mut lines, &mut count, room, &mut len,
     );
     Ok((status, count, len))
 }

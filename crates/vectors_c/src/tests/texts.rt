@@ -8,16 +8,13 @@ use textwrap_calls::options::TextwrapOptions;
 use textwrap_calls::status::{DONE, NOT_UTF8, TOO_SMALL, UNKNOWN_OPTIONS};
 
 /// A call and a text; the status, the length that is told, and the room afterwards.
-pub(super) type TextRow = (
-    (TextCall<'static>, &'static [u8]),
-    (u32, usize, &'static [u8]),
-);
+pub(super) type TextRow<'a> = ((TextCall<'a>, &'a [u8]), (u32, usize, &'a [u8]));
 
 /// How much room the longest row has.
 const MOST: usize = 64;
 
 /// Asserts what each row says, also of its text where that is known.
-pub(super) fn assert_texts(rt: &(impl Abort + AllocGlobal), rows: &[TextRow]) {
+pub(super) fn assert_texts(rt: &(impl Abort + AllocGlobal), rows: &[TextRow<'_>]) {
     for is_known in [false, true] {
         for (row, &((call, text), (status, len, expected))) in rows.iter().enumerate() {
             let mut room = [BLANK; MOST];
@@ -43,14 +40,14 @@ pub(super) fn assert_no_texts(rt: &(impl Abort + AllocGlobal), refused: &[Refuse
 }
 
 /// Asserts of each row that shorter room holds the beginning of what the row's room holds.
-pub(super) fn assert_beginnings(rt: &(impl Abort + AllocGlobal), rows: &[TextRow]) {
+pub(super) fn assert_beginnings(rt: &(impl Abort + AllocGlobal), rows: &[TextRow<'_>]) {
     for is_known in [false, true] {
         assert_beginnings_where(rt, is_known, rows);
     }
 }
 
 /// The same of texts that are all known or not.
-fn assert_beginnings_where(rt: &(impl Abort + AllocGlobal), is_known: bool, rows: &[TextRow]) {
+fn assert_beginnings_where(rt: &(impl Abort + AllocGlobal), is_known: bool, rows: &[TextRow<'_>]) {
     for (row, &((call, text), (_status, len, expected))) in rows.iter().enumerate() {
         for has in 0..len.min(expected.len()).min(MOST) {
             let mut room = [BLANK; MOST];
@@ -63,18 +60,12 @@ fn assert_beginnings_where(rt: &(impl Abort + AllocGlobal), is_known: bool, rows
     }
 }
 
-/// The defaults by first fit.
-const BY_FIRST_FIT: TextwrapOptions<'_> = TextwrapOptions {
-    optimal_fit: 0,
-    ..DEFAULTS
-};
-
 /// Room that is too short holds the beginning, which may end inside a character.
 #[rattlefmt::skip]
-const ROOM: &[TextRow] = &[
+const ROOM: &[TextRow<'_>] = &[
     ((TextCall::Fill(DEFAULTS), b"foo bar baz"), (DONE, 11, b"foo bar\nbaz_____")),
     ((TextCall::Fill(DEFAULTS), b"foo bar baz"), (TOO_SMALL, 11, b"foo bar\nba")),
-    ((TextCall::Fill(BY_FIRST_FIT), b"foo bar \xc3\xa9"), (TOO_SMALL, 10, b"foo bar \xc3")),
+    ((TextCall::Fill(TextwrapOptions { optimal_fit: 0, ..DEFAULTS }), b"foo bar \xc3\xa9"), (TOO_SMALL, 10, b"foo bar \xc3")),
     // A short text is one line without its last blanks, also of characters outside ASCII.
     ((TextCall::Fill(DEFAULTS), b"\xe6\x97\xa5\xe6\x9c\xac  "), (DONE, 6, b"\xe6\x97\xa5\xe6\x9c\xac__")),
     ((TextCall::Fill(DEFAULTS), b"a\xc3\xa9\n"), (DONE, 4, b"a\xc3\xa9\n____")),
@@ -120,10 +111,8 @@ const FILLED: &[(TextwrapOptions<'_>, &[u8], &[u8])] = &[
 #[test]
 fn each_option_reaches_the_library(rt: HostRuntime) {
     for &(options, text, filled) in FILLED {
-        let row = (
-            (TextCall::Fill(options), text),
-            (DONE, filled.len(), filled),
-        );
+        let call = TextCall::Fill(options);
+        let row = ((call, text), (DONE, filled.len(), filled));
         assert_texts(&rt, &[row]);
         assert_beginnings(&rt, &[row]);
     }
@@ -131,7 +120,7 @@ fn each_option_reaches_the_library(rt: HostRuntime) {
 
 /// A filled text, joined with its indents after it, and filled again; and a text with other indents.
 #[rattlefmt::skip]
-const INDENTED: &[TextRow] = &[
+const INDENTED: &[TextRow<'_>] = &[
     ((TextCall::Unfill, b"* foo\n  bar\n"), (DONE, 12, b"foo bar\n*   ____")),
     ((TextCall::Refill(TextwrapOptions { width: 20, ..DEFAULTS }), b"* foo\n  bar\n"), (DONE, 10, b"* foo bar\n______")),
     // Each later line has the indent of the second one, and each ends in CRLF.
@@ -144,7 +133,7 @@ const INDENTED: &[TextRow] = &[
 /// The unfilled text with its indents, in twice the room of the text. In the third the second line is
 /// joined whole, as it is the first that is not empty, and is the later indent too.
 #[rattlefmt::skip]
-const UNFILLED: &[TextRow] = &[
+const UNFILLED: &[TextRow<'_>] = &[
     ((TextCall::Unfill, b""), (DONE, 0, b"")),
     ((TextCall::Unfill, b"foo\n"), (DONE, 4, b"foo\n____")),
     ((TextCall::Unfill, b"\n > "), (DONE, 6, b" >  > __")),
@@ -152,7 +141,7 @@ const UNFILLED: &[TextRow] = &[
 ];
 
 /// A line stands where the number of the alignment says.
-const ALIGNED: &[TextRow] = &[
+const ALIGNED: &[TextRow<'_>] = &[
     ((TextCall::Align(6, 0), b"ab"), (DONE, 6, b"ab    ")),
     ((TextCall::Align(6, 1), b"ab"), (DONE, 6, b"    ab")),
     ((TextCall::Align(6, 2), b"ab"), (DONE, 6, b"  ab  ")),
@@ -162,7 +151,7 @@ const ALIGNED: &[TextRow] = &[
 /// Gaps are widened up to the width, but for the last line of a paragraph; a line is cut before its
 /// placeholder; tabs become blanks.
 #[rattlefmt::skip]
-const WIDENED: &[TextRow] = &[
+const WIDENED: &[TextRow<'_>] = &[
     ((TextCall::Justify(14), b"a few words"), (DONE, 14, b"a   few  words__")),
     ((TextCall::Shorten(8, b"..."), b"a few words"), (DONE, 8, b"a few...________")),
     ((TextCall::ShortenBy(8, b"..", 1), b"a \x1b[1mverylong"), (DONE, 16, b"a \x1b[1mvery\x1b[0m..")),

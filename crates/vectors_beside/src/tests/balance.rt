@@ -13,33 +13,25 @@ use textwrap_plain::balancing::{balanced_width, wrap_balanced};
 
 /// The rule, the text, the columns, the initial and the subsequent indent, the balanced width, and the
 /// lines at it.
-type Row = (
-    &'static str,
-    &'static str,
-    usize,
-    &'static str,
-    &'static str,
-    usize,
-    &'static [&'static str],
-);
+type Row<'a> = (&'a str, &'a str, usize, [&'a str; 2], usize, &'a [&'a str]);
 
 /// Of words between blanks.
 #[rattlefmt::skip]
-const BALANCED: &[Row] = &[
-    ("two lines of about one width", "It was the best of times, it was the worst", 40, "", "", 23, &["It was the best of", "times, it was the worst"]),
-    ("one line is as wide as its text", "a title", 40, "", "", 7, &["a title"]),
-    ("an empty text", "", 10, "", "", 0, &[""]),
-    ("an indent alone", "", 10, "> ", "", 2, &["> "]),
-    ("one word", "word", 10, "", "", 4, &["word"]),
-    ("a word that is wider than a line", "a wonderful word", 5, "", "", 5, &["a", "wonde", "rful", "word"]),
-    ("the widest word bounds it", "a wonderful word", 10, "", "", 9, &["a", "wonderful", "word"]),
-    ("with the wider of the indents, which is the later one", "one two three four", 14, "- ", "    ", 14, &["- one two", "    three four"]),
-    ("or the first one", "one two three four", 14, "     ", " ", 12, &["     one two", " three four"]),
-    ("indents that are wider than a line", "one two", 3, "-----", "", 3, &["-----", "one", "two"]),
-    ("the lines of all paragraphs are counted", "a b c d e f\n\none two three four", 16, "", "", 11, &["a b c d e f", "", "one two", "three four"]),
-    ("words that are split", "well-known facts of note", 16, "", "", 13, &["well-known", "facts of note"]),
-    ("no width", "a b", 0, "", "", 0, &["a", "b"]),
-    ("escape sequences take no columns", "\x1b[1maa\x1b[0m bb cc", 6, "", "", 5, &["\x1b[1maa\x1b[0m bb", "cc"]),
+const BALANCED: &[Row<'_>] = &[
+    ("two lines of about one width", "It was the best of times, it was the worst", 40, ["", ""], 23, &["It was the best of", "times, it was the worst"]),
+    ("one line is as wide as its text", "a title", 40, ["", ""], 7, &["a title"]),
+    ("an empty text", "", 10, ["", ""], 0, &[""]),
+    ("an indent alone", "", 10, ["> ", ""], 2, &["> "]),
+    ("one word", "word", 10, ["", ""], 4, &["word"]),
+    ("a word that is wider than a line", "a wonderful word", 5, ["", ""], 5, &["a", "wonde", "rful", "word"]),
+    ("the widest word bounds it", "a wonderful word", 10, ["", ""], 9, &["a", "wonderful", "word"]),
+    ("with the wider of the indents, which is the later one", "one two three four", 14, ["- ", "    "], 14, &["- one two", "    three four"]),
+    ("or the first one", "one two three four", 14, ["     ", " "], 12, &["     one two", " three four"]),
+    ("indents that are wider than a line", "one two", 3, ["-----", ""], 3, &["-----", "one", "two"]),
+    ("the lines of all paragraphs are counted", "a b c d e f\n\none two three four", 16, ["", ""], 11, &["a b c d e f", "", "one two", "three four"]),
+    ("words that are split", "well-known facts of note", 16, ["", ""], 13, &["well-known", "facts of note"]),
+    ("no width", "a b", 0, ["", ""], 0, &["a", "b"]),
+    ("escape sequences take no columns", "\x1b[1maa\x1b[0m bb cc", 6, ["", ""], 5, &["\x1b[1maa\x1b[0m bb", "cc"]),
 ];
 
 /// Options with this width, these indents and this algorithm, and else as by default.
@@ -88,7 +80,7 @@ fn has_lines<A: Allocator + Copy>(
 }
 
 /// Whether lines are these texts.
-fn are_lines<A: Allocator>(lines: &[CowStr<'_, A>], wanted: &[&str]) -> bool {
+pub fn are_lines<A: Allocator>(lines: &[CowStr<'_, A>], wanted: &[&str]) -> bool {
     for (i, line) in lines.iter().enumerate() {
         if wanted.get(i).copied() != Some(line.as_str()) {
             return false;
@@ -116,16 +108,13 @@ pub fn has_lines_balanced<A: Allocator + Copy>(alloc: A) -> Result<bool, WrapErr
 /// Asserts what a row says of balanced lines.
 fn assert_balanced(
     rt: &(impl Abort + AllocGlobal),
-    (rule, text, width, initial, later, balanced, wanted): Row,
+    (rule, text, width, [initial, later], balanced, wanted): Row<'_>,
 ) {
     let options = options_of(width, initial, later, WrapAlgorithm::FirstFit);
     let found = plain_balanced_width(rt.alloc(), text, &options);
     assert_count(rt, rule, found, balanced);
-    assert_found(
-        rt,
-        rule,
-        has_lines(plain_wrap_balanced(rt.alloc(), text, &options), wanted),
-    );
+    let lines = plain_wrap_balanced(rt.alloc(), text, &options);
+    assert_found(rt, rule, has_lines(lines, wanted));
 }
 
 #[test]
@@ -164,14 +153,8 @@ fn assert_balanced_plainly(
 ) {
     let found = textwrap_plain::balanced_width(rt.alloc(), text, options);
     assert_found(rt, text, found.map(|width| width == balanced));
-    assert_found(
-        rt,
-        text,
-        has_lines(
-            textwrap_plain::wrap_balanced(rt.alloc(), text, options),
-            wanted,
-        ),
-    );
+    let lines = textwrap_plain::wrap_balanced(rt.alloc(), text, options);
+    assert_found(rt, text, has_lines(lines, wanted));
 }
 
 #[test]

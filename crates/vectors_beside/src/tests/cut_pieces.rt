@@ -6,17 +6,8 @@ use textwrap_words::inner::{BuiltInSplitter, CutPieces, Piece};
 
 /// A text, its cuts, the limit, the splitter, whether a piece without text stands before the words,
 /// and where the pieces stand: where the word of each ends, and its whitespace, and the columns.
-type Row = (
-    &'static str,
-    &'static [usize],
-    usize,
-    BuiltInSplitter,
-    bool,
-    &'static [(usize, usize, usize)],
-);
-
 #[rattlefmt::skip]
-const PIECES: &[Row] = &[
+const PIECES: &[(&str, &[usize], usize, BuiltInSplitter, bool, &[(usize, usize, usize)])] = &[
     // A word ends at a cut, and may have blanks inside. Those at its end are its whitespace.
     ("foo !bar", &[5], usize::MAX, HyphenSplitter, false, &[(5, 5, 5), (8, 8, 3)]),
     ("foo !  bar ", &[7], 5, HyphenSplitter, false, &[(5, 7, 5), (10, 11, 3)]),

@@ -37,13 +37,7 @@ pub enum Change<'p> {
 }
 
 /// The rule, the call, the line, the columns, and the line that it becomes.
-type LineRow = (
-    &'static str,
-    Change<'static>,
-    &'static str,
-    usize,
-    &'static str,
-);
+type LineRow<'a> = (&'a str, Change<'a>, &'a str, usize, &'a str);
 
 /// What the call makes of a line at so many columns.
 pub fn changed<'l, A: Allocator>(
@@ -66,13 +60,16 @@ pub fn changed<'l, A: Allocator>(
 }
 
 /// Asserts what a line becomes, and that it is copied only if it changes.
-fn assert_changed(rt: &(impl Abort + AllocGlobal), (rule, change, line, width, wanted): LineRow) {
+fn assert_changed(
+    rt: &(impl Abort + AllocGlobal),
+    (rule, change, line, width, wanted): LineRow<'_>,
+) {
     let found = changed(rt.alloc(), change, line, width).expect(rt, rule);
     assert_line(rt, rule, line, &found, wanted);
 }
 
 /// Asserts this of each row.
-fn assert_all_changed(rt: &(impl Abort + AllocGlobal), rows: &[LineRow]) {
+fn assert_all_changed(rt: &(impl Abort + AllocGlobal), rows: &[LineRow<'_>]) {
     for &row in rows {
         assert_changed(rt, row);
     }

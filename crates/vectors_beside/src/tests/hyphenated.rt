@@ -27,49 +27,37 @@ const GERMAN: [&str; 8] = ["i1l", "i2l1b", "n1u", "n1n2u", "m1b", "n1t", "a1l", 
 const COLUMN: &str = "Zeilenumbruch und Silbentrennung in schmalen Spalten";
 
 /// The rule, the text, the columns, the indents, and what it becomes by first fit and by least cost.
-type Row = (
-    &'static str,
-    &'static str,
-    usize,
-    (&'static str, &'static str),
-    &'static str,
-    &'static str,
-);
+type Row<'a> = (&'a str, &'a str, usize, [&'a str; 2], &'a str, &'a str);
 
 /// With these patterns.
 #[rattlefmt::skip]
-const HYPHENATED: &[Row] = &[
-    ("a narrow column", COLUMN, 10, ("", ""), "Zeilenum-\nbruch und\nSilben-\ntrennung\nin schma-\nlen Spal-\nten",
+const HYPHENATED: &[Row<'_>] = &[
+    ("a narrow column", COLUMN, 10, ["", ""], "Zeilenum-\nbruch und\nSilben-\ntrennung\nin schma-\nlen Spal-\nten",
         "Zeilen-\numbruch\nund Sil-\nbentren-\nnung in\nschmalen\nSpalten"),
-    ("as narrow, with indents", COLUMN, 12, ("* ", "  "), "* Zeilenum-\n  bruch und\n  Silben-\n  trennung\n  in schma-\n  len Spal-\n  ten",
+    ("as narrow, with indents", COLUMN, 12, ["* ", "  "], "* Zeilenum-\n  bruch und\n  Silben-\n  trennung\n  in schma-\n  len Spal-\n  ten",
         "* Zeilen-\n  umbruch\n  und Sil-\n  bentren-\n  nung in\n  schmalen\n  Spalten"),
-    ("each paragraph for itself", "Zeilen\nZeilen", 4, ("", ""), "Zei-\nlen\nZei-\nlen", "Zei-\nlen\nZei-\nlen"),
-    ("behind a hyphen of the word a line may end, and none is added", "ein Zeilen-Spalten", 11, ("", ""), "ein Zeilen-\nSpalten", "ein Zeilen-\nSpalten"),
+    ("each paragraph for itself", "Zeilen\nZeilen", 4, ["", ""], "Zei-\nlen\nZei-\nlen", "Zei-\nlen\nZei-\nlen"),
+    ("behind a hyphen of the word a line may end, and none is added", "ein Zeilen-Spalten", 11, ["", ""], "ein Zeilen-\nSpalten", "ein Zeilen-\nSpalten"),
     ("the parts of such a word are left whole, and broken", "Silbentrennung-Silbentrennung", 10,
-        ("", ""), "Silbentren\nnung-\nSilbentren\nnung", "Silbentren\nnung-\nSilbentren\nnung"),
-    ("a hyphen U+2010 is no point", "Silbentrennung\u{2010}Silbentrennung", 10, ("", ""),
+        ["", ""], "Silbentren\nnung-\nSilbentren\nnung", "Silbentren\nnung-\nSilbentren\nnung"),
+    ("a hyphen U+2010 is no point", "Silbentrennung\u{2010}Silbentrennung", 10, ["", ""],
         "Silbentren\nnung\u{2010}Silbe\nntrennung", "Silbentren\nnung\u{2010}Silbe\nntrennung"),
-    ("nor is one before a word", "--Zeilen", 5, ("", ""), "--Zei\nlen", "--Zei\nlen"),
-    ("a part that just fits passes by its hyphen", "Zeilen", 3, ("", ""), "Zei-\nlen", "Zei-\nlen"),
-    ("a wide line needs no hyphen", COLUMN, 60, ("", ""), COLUMN, COLUMN),
+    ("nor is one before a word", "--Zeilen", 5, ["", ""], "--Zei\nlen", "--Zei\nlen"),
+    ("a part that just fits passes by its hyphen", "Zeilen", 3, ["", ""], "Zei-\nlen", "Zei-\nlen"),
+    ("a wide line needs no hyphen", COLUMN, 60, ["", ""], COLUMN, COLUMN),
 ];
 
 /// Without any.
-const WHOLE: Row = (
-    "words without points are broken",
-    COLUMN,
-    10,
-    ("", ""),
-    "Zeilenumbr\nuch und\nSilbentren\nnung in\nschmalen\nSpalten",
-    "Zeilenumbr\nuch und\nSilbentren\nnung in\nschmalen\nSpalten",
-);
+#[rattlefmt::skip]
+const WHOLE: Row<'_> = ("words without points are broken", COLUMN, 10, ["", ""],
+    "Zeilenumbr\nuch und\nSilbentren\nnung in\nschmalen\nSpalten", "Zeilenumbr\nuch und\nSilbentren\nnung in\nschmalen\nSpalten");
 
 /// With these patterns, where the parts of a word with a hyphen are asked for.
 #[rattlefmt::skip]
-const IN_PARTS: &[Row] = &[
+const IN_PARTS: &[Row<'_>] = &[
     ("the parts of a word with a hyphen are hyphenated if asked", "Silbentrennung-Silbentrennung", 10,
-        ("", ""), "Silben-\ntrennung-\nSilben-\ntrennung", "Silben-\ntrennung-\nSilben-\ntrennung"),
-    ("so are those beside U+2010, which is no point", "Silbentrennung\u{2010}Silbentrennung", 10, ("", ""),
+        ["", ""], "Silben-\ntrennung-\nSilben-\ntrennung", "Silben-\ntrennung-\nSilben-\ntrennung"),
+    ("so are those beside U+2010, which is no point", "Silbentrennung\u{2010}Silbentrennung", 10, ["", ""],
         "Silben-\ntren-\nnung\u{2010}Sil-\nbentren-\nnung", "Silben-\ntren-\nnung\u{2010}Sil-\nbentren-\nnung"),
 ];
 
@@ -81,38 +69,38 @@ const HYPHEN_LINK: &str = "\u{1b}]8;;https://a-b.de/\u{1b}\\Zeilen\u{1b}]8;;\u{1
 
 /// With these patterns.
 #[rattlefmt::skip]
-const LINKS: &[Row] = &[
-    ("an address has no columns, and no line ends in it", LINK, 4, ("", ""),
+const LINKS: &[Row<'_>] = &[
+    ("an address has no columns, and no line ends in it", LINK, 4, ["", ""],
         "\u{1b}]8;;https://ab.de/\u{1b}\\Zei-\nlen\u{1b}]8;;\u{1b}\\", "\u{1b}]8;;https://ab.de/\u{1b}\\Zei-\nlen\u{1b}]8;;\u{1b}\\"),
-    ("but a hyphen in it is a point, and what is behind that has columns", HYPHEN_LINK, 10, ("", ""),
+    ("but a hyphen in it is a point, and what is behind that has columns", HYPHEN_LINK, 10, ["", ""],
         "\u{1b}]8;;https://a-b.de/\u{1b}\\Zei-\nlen\u{1b}]8;;\u{1b}\\", "\u{1b}]8;;https://a-b.de/\u{1b}\\Zei-\nlen\u{1b}]8;;\u{1b}\\"),
-    ("so a line may end in it", HYPHEN_LINK, 4, ("", ""), "\u{1b}]8;;https://a-b.de\n/\u{1b}\\Zei-\nlen\u{1b}]8;;\u{1b}\\",
+    ("so a line may end in it", HYPHEN_LINK, 4, ["", ""], "\u{1b}]8;;https://a-b.de\n/\u{1b}\\Zei-\nlen\u{1b}]8;;\u{1b}\\",
         "\u{1b}]8;;https://a-b.de\n/\u{1b}\\Zei-\nlen\u{1b}]8;;\u{1b}\\"),
-    ("also right behind the hyphen", HYPHEN_LINK, 8, ("", ""), "\u{1b}]8;;https://a-\nb.de/\u{1b}\\Zei-\nlen\u{1b}]8;;\u{1b}\\",
+    ("also right behind the hyphen", HYPHEN_LINK, 8, ["", ""], "\u{1b}]8;;https://a-\nb.de/\u{1b}\\Zei-\nlen\u{1b}]8;;\u{1b}\\",
         "\u{1b}]8;;https://a-b.de/\u{1b}\\Zei-\nlen\u{1b}]8;;\u{1b}\\"),
 ];
 
 /// By `fill` of `textwrap`, which finds the same hyphens.
 #[rattlefmt::skip]
-const PLAIN_LINKS: &[Row] = &[
-    ("an address has no columns, and no line ends in it", LINK, 4, ("", ""),
+const PLAIN_LINKS: &[Row<'_>] = &[
+    ("an address has no columns, and no line ends in it", LINK, 4, ["", ""],
         "\u{1b}]8;;https://ab.de/\u{1b}\\Zeil\nen\u{1b}]8;;\u{1b}\\", "\u{1b}]8;;https://ab.de/\u{1b}\\Zeil\nen\u{1b}]8;;\u{1b}\\"),
-    ("but a hyphen in it is a point, and what is behind that has columns", HYPHEN_LINK, 10, ("", ""),
+    ("but a hyphen in it is a point, and what is behind that has columns", HYPHEN_LINK, 10, ["", ""],
         "\u{1b}]8;;https://a-b.de/\u{1b}\\Zeile\nn\u{1b}]8;;\u{1b}\\", "\u{1b}]8;;https://a-b.de/\u{1b}\\Zeile\nn\u{1b}]8;;\u{1b}\\"),
 ];
 
 /// With these patterns, filled again, whatever the indents of the options are.
 #[rattlefmt::skip]
-const REFILLED: &[Row] = &[
-    ("a comment", "// Zeilenumbruch\n// und Silbentrennung\n// in schmalen\n// Spalten\n", 13, ("* ", "  "),
+const REFILLED: &[Row<'_>] = &[
+    ("a comment", "// Zeilenumbruch\n// und Silbentrennung\n// in schmalen\n// Spalten\n", 13, ["* ", "  "],
         "// Zeilenum-\n// bruch und\n// Silben-\n// trennung\n// in schma-\n// len Spal-\n// ten\n",
         "// Zeilen-\n// umbruch\n// und Sil-\n// bentren-\n// nung in\n// schmalen\n// Spalten\n"),
-    ("the first line has an indent of its own", "- Zeilen\n  Zeilen", 6, ("", ""), "- Zei-\n  len\n  Zei-\n  len", "- Zei-\n  len\n  Zei-\n  len"),
+    ("the first line has an indent of its own", "- Zeilen\n  Zeilen", 6, ["", ""], "- Zei-\n  len\n  Zei-\n  len", "- Zei-\n  len\n  Zei-\n  len"),
     ("the ending of the options stands in the place of that of the text",
-        "Zeilen\r\nZeilen\r\n", 4, ("", ""), "Zei-\nlen\nZei-\nlen\n", "Zei-\nlen\nZei-\nlen\n"),
-    ("a text that ends in another ending than that of its lines ends in none", "Zeilen\r\n\n", 4, ("", ""), "Zei-\nlen", "Zei-\nlen"),
-    ("a hyphen at the end of a line stays, and a blank behind it", "Zei-\nlen\n", 10, ("", ""), "Zei- len\n", "Zei- len\n"),
-    ("a text of empty lines is empty", "\n\n", 10, ("", ""), "", ""),
+        "Zeilen\r\nZeilen\r\n", 4, ["", ""], "Zei-\nlen\nZei-\nlen\n", "Zei-\nlen\nZei-\nlen\n"),
+    ("a text that ends in another ending than that of its lines ends in none", "Zeilen\r\n\n", 4, ["", ""], "Zei-\nlen", "Zei-\nlen"),
+    ("a hyphen at the end of a line stays, and a blank behind it", "Zei-\nlen\n", 10, ["", ""], "Zei- len\n", "Zei- len\n"),
+    ("a text of empty lines is empty", "\n\n", 10, ["", ""], "", ""),
 ];
 
 /// How many allocations the narrow column takes up to the last that it cannot do without.
@@ -161,7 +149,7 @@ fn hyphenated<A: Allocator + Copy>(
 fn plainly_hyphenated(
     alloc: Global,
     call: Call,
-    (_, text, width, (initial_indent, subsequent_indent), _, _): Row,
+    (_, text, width, [initial_indent, subsequent_indent], _, _): Row<'_>,
     wrap_algorithm: BuiltInAlgorithm,
     patterns: &Patterns,
 ) -> Result<String, WrapError> {
@@ -183,19 +171,18 @@ fn plainly_hyphenated(
 }
 
 /// Asserts what a row says, by options with and without functions.
-fn assert_hyphenated(rt: &(impl Abort + AllocGlobal), call: Call, row: Row, patterns: &Patterns) {
-    let (rule, text, width, (initial, later), first_fit, least_cost) = row;
+fn assert_hyphenated(
+    rt: &(impl Abort + AllocGlobal),
+    call: Call,
+    row: Row<'_>,
+    patterns: &Patterns,
+) {
+    let (rule, text, width, [initial, later], first_fit, least_cost) = row;
+    let (first, built_in_first) = (WrapAlgorithm::FirstFit, BuiltInAlgorithm::FirstFit);
+    let built_in_least = BuiltInAlgorithm::OptimalFit(Penalties::new());
     for (algorithm, built_in, wanted) in [
-        (
-            WrapAlgorithm::FirstFit,
-            BuiltInAlgorithm::FirstFit,
-            first_fit,
-        ),
-        (
-            WrapAlgorithm::new(),
-            BuiltInAlgorithm::OptimalFit(Penalties::new()),
-            least_cost,
-        ),
+        (first, built_in_first, first_fit),
+        (WrapAlgorithm::new(), built_in_least, least_cost),
     ] {
         let options = plain_options(width, initial, later, algorithm);
         let given = hyphenated(rt.alloc(), call, text, options, patterns);
@@ -243,12 +230,8 @@ fn lines_with_hyphens_are_justified(rt: HostRuntime) -> Result<(), AllocError> {
         patterns: &table,
     };
     let given = fill_justified_by(rt.alloc(), COLUMN, Layout::of(&options), &parts);
-    assert_gives(
-        &rt,
-        "a dictionary works by any parts",
-        given,
-        "Zeilenum-\nbruch  und\nSilben-\ntrennung\nin  schma-\nlen  Spal-\nten",
-    );
+    let wanted = "Zeilenum-\nbruch  und\nSilben-\ntrennung\nin  schma-\nlen  Spal-\nten";
+    assert_gives(&rt, "a dictionary works by any parts", given, wanted);
     Ok(())
 }
 
@@ -263,24 +246,13 @@ fn comments_are_refilled(rt: HostRuntime) -> Result<(), AllocError> {
 
 #[test]
 fn the_splitter_of_the_options_is_ignored(rt: HostRuntime) -> Result<(), AllocError> {
-    let patterns = german(rt.alloc())?;
-    let options = plain_options(10, "", "", WrapAlgorithm::FirstFit).word_splitter(
-        WordSplitter::NoHyphenation,
-    );
+    let patterns = german(rt.alloc())?.in_parts(true);
+    let options = plain_options(10, "", "", WrapAlgorithm::FirstFit);
+    let options = options.word_splitter(WordSplitter::NoHyphenation);
     let text = "Zeilen-Silbentrennung";
-    let given = hyphenated(
-        rt.alloc(),
-        Call::Fill,
-        text,
-        options,
-        &patterns.in_parts(true),
-    );
-    assert_gives(
-        &rt,
-        "it splits nowhere",
-        given,
-        "Zeilen-\nSilben-\ntrennung",
-    );
+    let given = hyphenated(rt.alloc(), Call::Fill, text, options, &patterns);
+    let wanted = "Zeilen-\nSilben-\ntrennung";
+    assert_gives(&rt, "it splits nowhere", given, wanted);
     Ok(())
 }
 
@@ -354,7 +326,7 @@ fn a_long_comment_is_refilled(rt: HostRuntime) -> Result<(), AllocError> {
 fn is_right(
     heap: &Heap,
     call: Call,
-    (_, text, width, _, wanted, _): Row,
+    (_, text, width, _, wanted, _): Row<'_>,
     patterns: &Patterns,
     allowed: usize,
 ) -> Result<bool, WrapError> {
@@ -369,7 +341,7 @@ fn is_right(
 fn assert_refused(
     rt: &(impl Abort + AllocGlobal),
     call: Call,
-    row: Row,
+    row: Row<'_>,
     patterns: &Patterns,
     needed: usize,
 ) {
@@ -386,13 +358,8 @@ fn assert_refused(
 fn each_allocation_may_be_refused(rt: HostRuntime) -> Result<(), AllocError> {
     let patterns = german(rt.alloc())?;
     assert_refused(&rt, Call::Fill, HYPHENATED[0], &patterns, ALLOCATIONS);
-    assert_refused(
-        &rt,
-        Call::Refill,
-        REFILLED[0],
-        &patterns,
-        REFILL_ALLOCATIONS,
-    );
+    let comment = REFILLED[0];
+    assert_refused(&rt, Call::Refill, comment, &patterns, REFILL_ALLOCATIONS);
     Ok(())
 }
 

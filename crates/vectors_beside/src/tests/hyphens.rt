@@ -236,6 +236,12 @@ const NUMBERS: usize = 5832;
 /// How many of them are patterns.
 const PATTERNS: usize = 5000;
 
+/// Whether something was found to hold, if there was memory for it.
+type Found = Result<bool, AllocError>;
+
+/// The same by a dictionary that is read.
+type FoundByText = Result<bool, ParseError>;
+
 /// A dictionary of both lists of patterns.
 fn dictionary(alloc: Global) -> Result<Patterns, AllocError> {
     let mut patterns = Vec::new(alloc);
@@ -278,7 +284,7 @@ fn has_points<A: Allocator + Copy, B: Allocator + Copy>(
     word: &str,
     patterns: &Patterns<B>,
     wanted: &[usize],
-) -> Result<bool, AllocError> {
+) -> Found {
     Ok(points(alloc, word, &patterns.table())?.as_slice() == wanted)
 }
 
@@ -292,12 +298,7 @@ fn words_have_their_points(rt: HostRuntime) -> Result<(), AllocError> {
 }
 
 /// Whether a word has these points where soft hyphens are points.
-fn has_soft_points(
-    alloc: Global,
-    word: &str,
-    patterns: &Patterns,
-    wanted: &[usize],
-) -> Result<bool, AllocError> {
+fn has_soft_points(alloc: Global, word: &str, patterns: &Patterns, wanted: &[usize]) -> Found {
     let table = patterns.table().soft_hyphens(true);
     Ok(points(alloc, word, &table)?.as_slice() == wanted)
 }
@@ -306,11 +307,8 @@ fn has_soft_points(
 fn soft_hyphens_are_points_if_asked(rt: HostRuntime) -> Result<(), AllocError> {
     let patterns = dictionary(rt.alloc())?;
     for (rule, word, wanted) in SOFT {
-        assert_found(
-            &rt,
-            rule,
-            has_soft_points(rt.alloc(), word, &patterns, wanted),
-        );
+        let found = has_soft_points(rt.alloc(), word, &patterns, wanted);
+        assert_found(&rt, rule, found);
     }
     Ok(())
 }
@@ -319,11 +317,8 @@ fn soft_hyphens_are_points_if_asked(rt: HostRuntime) -> Result<(), AllocError> {
 fn no_patterns_give_no_points(rt: HostRuntime) -> Result<(), AllocError> {
     let alloc = rt.alloc();
     let patterns = Patterns::new(alloc, Vec::new(alloc), Vec::new(alloc), 2, 3)?;
-    assert_found(
-        &rt,
-        "there are no patterns",
-        has_points(alloc, "hyphenation", &patterns, &[]),
-    );
+    let found = has_points(alloc, "hyphenation", &patterns, &[]);
+    assert_found(&rt, "there are no patterns", found);
     Ok(())
 }
 
@@ -331,22 +326,14 @@ fn no_patterns_give_no_points(rt: HostRuntime) -> Result<(), AllocError> {
 fn parts_are_hyphenated_if_asked(rt: HostRuntime) -> Result<(), AllocError> {
     let alloc = rt.alloc();
     let patterns = dictionary(alloc)?.in_parts(true);
+    let rule = "the parts of a word with a hyphen are asked for";
     let found = has_points(alloc, "hyphenation-hyphenation", &patterns, &[2, 6, 14, 18]);
-    assert_found(
-        &rt,
-        "the parts of a word with a hyphen are asked for",
-        found,
-    );
+    assert_found(&rt, rule, found);
     Ok(())
 }
 
 /// Whether the letters of a word are looked up so often.
-fn has_lookups(
-    alloc: Global,
-    word: &str,
-    patterns: &Patterns,
-    wanted: u128,
-) -> Result<bool, AllocError> {
+fn has_lookups(alloc: Global, word: &str, patterns: &Patterns, wanted: u128) -> Found {
     let letters: Vec<char> = word.chars().collect(alloc)?;
     let mut lookups = Steps::new();
     levels_counted(alloc, &letters, &patterns.table(), &mut lookups)?;
@@ -356,30 +343,16 @@ fn has_lookups(
 #[test]
 fn look_ups_are_counted(rt: HostRuntime) -> Result<(), AllocError> {
     let alloc = rt.alloc();
-    let mut patterns = Vec::new(alloc);
-    push_patterns(alloc, &mut patterns, &LIANG)?;
-    let patterns = Patterns::new(alloc, patterns, Vec::new(alloc), 2, 3)?;
+    let patterns = listed(alloc, &LIANG)?;
     // From each place on, each letter up to the first with which no pattern goes on.
-    let found = has_lookups(alloc, "hyphenation", &patterns, 32);
-    assert_found(
-        &rt,
-        "each letter up to the first with which no pattern goes on",
-        found,
-    );
+    let rule = "each letter up to the first with which no pattern goes on";
+    assert_found(&rt, rule, has_lookups(alloc, "hyphenation", &patterns, 32));
     Ok(())
 }
 
 /// Whether a word of this part, so many times, has a point in each behind so many letters of it.
-fn has_points_in_each(
-    alloc: Global,
-    part: &str,
-    times: usize,
-    patterns: &Patterns,
-) -> Result<bool, AllocError> {
-    let mut word = String::new(alloc);
-    for _ in 0..times {
-        word.push_str(part)?;
-    }
+fn has_points_in_each(alloc: Global, part: &str, times: usize, patterns: &Patterns) -> Found {
+    let word = part.repeat(alloc, times)?;
     let found = points(alloc, &word, &patterns.table())?;
     Ok(found.len() == times)
 }
@@ -402,7 +375,7 @@ fn has_points_with(
     patterns: &Patterns,
     wanted: &[usize],
     allowed: usize,
-) -> Result<bool, AllocError> {
+) -> Found {
     heap.allow(allowed);
     let is_right = has_points(heap, word, patterns, wanted)?;
     Ok(is_right && heap.left() == 0)
@@ -417,11 +390,8 @@ fn each_allocation_may_be_refused(rt: HostRuntime) -> Result<(), AllocError> {
             let found = has_points_with(&heap, word, &patterns, wanted, allowed);
             assert_holds(&rt, rule, found.is_err() && heap.left() == usize::MAX);
         }
-        assert_found(
-            &rt,
-            rule,
-            has_points_with(&heap, word, &patterns, wanted, *needed),
-        );
+        let found = has_points_with(&heap, word, &patterns, wanted, *needed);
+        assert_found(&rt, rule, found);
     }
     Ok(())
 }
@@ -432,7 +402,7 @@ fn has_points_by<A: Allocator + Copy>(
     text: &str,
     word: &str,
     wanted: &[usize],
-) -> Result<bool, ParseError> {
+) -> FoundByText {
     let patterns = Patterns::parse(alloc, text)?;
     Ok(has_points(alloc, word, &patterns, wanted)?)
 }
@@ -452,11 +422,8 @@ fn allocations(
                 return allowed;
             }
             Err(error) => {
-                assert_holds(
-                    rt,
-                    rule,
-                    matches!(error, ParseError::Memory(_)) & (heap.left() == usize::MAX),
-                );
+                let is_told = matches!(error, ParseError::Memory(_));
+                assert_holds(rt, rule, is_told & (heap.left() == usize::MAX));
             }
         }
     }
@@ -486,12 +453,7 @@ fn patterns_that_change_letters_are_counted(rt: HostRuntime) -> Result<(), Parse
 }
 
 /// Whether a word has these points by the dictionary that bytes say.
-fn has_points_in(
-    alloc: Global,
-    bytes: &[u8],
-    word: &str,
-    wanted: &[usize],
-) -> Result<bool, ParseError> {
+fn has_points_in(alloc: Global, bytes: &[u8], word: &str, wanted: &[usize]) -> FoundByText {
     let patterns = Patterns::parse_bytes(alloc, bytes)?;
     Ok(has_points(alloc, word, &patterns, wanted)?)
 }
@@ -538,10 +500,7 @@ fn the_first_line_that_is_wrong_is_named(rt: HostRuntime) {
 
 /// A word of this part, so many times, with what follows it.
 fn repeated(alloc: Global, part: &str, times: usize, end: &str) -> Result<String, AllocError> {
-    let mut text = String::new(alloc);
-    for _ in 0..times {
-        text.push_str(part)?;
-    }
+    let mut text = part.repeat(alloc, times)?;
     text.push_str(end)?;
     Ok(text)
 }
@@ -559,7 +518,7 @@ fn a_pattern_has_at_most_255_letters(rt: HostRuntime) -> Result<(), AllocError> 
 }
 
 /// Whether a dictionary of 5,000 lines and one more that is not right is refused for that one.
-fn is_long_refused(alloc: Global) -> Result<bool, AllocError> {
+fn is_long_refused(alloc: Global) -> Found {
     let text = repeated(alloc, "hy3ph\n", 5000, "hy--phen")?;
     Ok(is_refused(alloc, &text, 5001, Fault::Hyphens))
 }
@@ -567,12 +526,8 @@ fn is_long_refused(alloc: Global) -> Result<bool, AllocError> {
 #[test]
 fn a_long_dictionary_is_read(rt: HostRuntime) -> Result<(), AllocError> {
     let alloc = rt.alloc();
-    let text = repeated(
-        alloc,
-        "hy3ph\nhe2n\nta-ble\nhena4\nhen5at\n",
-        1000,
-        "1na\nn2at",
-    )?;
+    let lines = "hy3ph\nhe2n\nta-ble\nhena4\nhen5at\n";
+    let text = repeated(alloc, lines, 1000, "1na\nn2at")?;
     let found = has_points_by(alloc, &text, "hyphenation", &[2, 6]);
     assert_found(&rt, "a dictionary of 5,002 lines", found);
     assert_found(&rt, "its last line is wrong", is_long_refused(alloc));
@@ -587,12 +542,7 @@ fn listed(alloc: Global, texts: &[&str]) -> Result<Patterns, AllocError> {
 }
 
 /// Whether a word has these points by some patterns.
-fn has_points_listed(
-    alloc: Global,
-    texts: &[&str],
-    word: &str,
-    wanted: &[usize],
-) -> Result<bool, AllocError> {
+fn has_points_listed(alloc: Global, texts: &[&str], word: &str, wanted: &[usize]) -> Found {
     let patterns = listed(alloc, texts)?;
     has_points(alloc, word, &patterns, wanted)
 }
@@ -608,12 +558,7 @@ fn lines_of(alloc: Global, texts: &[&str]) -> Result<String, AllocError> {
 }
 
 /// Whether it has them where the patterns are read.
-fn has_points_read(
-    alloc: Global,
-    texts: &[&str],
-    word: &str,
-    wanted: &[usize],
-) -> Result<bool, ParseError> {
+fn has_points_read(alloc: Global, texts: &[&str], word: &str, wanted: &[usize]) -> FoundByText {
     has_points_by(alloc, &lines_of(alloc, texts)?, word, wanted)
 }
 
@@ -667,7 +612,7 @@ fn many_patterns(alloc: Global) -> Result<Vec<Pattern>, AllocError> {
 }
 
 /// Whether each word has a point exactly if its greatest level is odd.
-fn have_their_points(alloc: Global, patterns: &Patterns) -> Result<bool, AllocError> {
+fn have_their_points(alloc: Global, patterns: &Patterns) -> Found {
     for number in 0..NUMBERS {
         let word = numbered(alloc, number, "", "zz")?;
         let wanted: &[usize] = if number < PATTERNS && number % 2 == 1 {
@@ -683,24 +628,21 @@ fn have_their_points(alloc: Global, patterns: &Patterns) -> Result<bool, AllocEr
 }
 
 /// Whether they have them by the patterns in a list.
-fn are_listed(alloc: Global) -> Result<bool, AllocError> {
+fn are_listed(alloc: Global) -> Found {
     let patterns = Patterns::new(alloc, many_patterns(alloc)?, Vec::new(alloc), 2, 3)?;
     have_their_points(alloc, &patterns)
 }
 
 /// And where these are read.
-fn are_read(alloc: Global) -> Result<bool, ParseError> {
+fn are_read(alloc: Global) -> FoundByText {
     let patterns = Patterns::parse(alloc, &many_lines(alloc)?)?;
     Ok(have_their_points(alloc, &patterns)?)
 }
 
 #[test]
 fn many_patterns_are_found(rt: HostRuntime) {
-    assert_found(
-        &rt,
-        "5,000 patterns twice, in a list",
-        are_listed(rt.alloc()),
-    );
+    let rule = "5,000 patterns twice, in a list";
+    assert_found(&rt, rule, are_listed(rt.alloc()));
     assert_found(&rt, "and in a text", are_read(rt.alloc()));
 }
 
@@ -709,30 +651,20 @@ fn many_exceptions(alloc: Global) -> Result<String, AllocError> {
     let mut text = String::new(alloc);
     for first in ('a'..='z').rev() {
         for second in ('a'..='z').rev() {
-            text.push(first)?;
-            text.push(second)?;
-            text.push_str("-cd\n")?;
+            text.push_str(&format!(in alloc; "{first}{second}-cd\n")?)?;
         }
     }
     Ok(text)
 }
 
 /// Whether the exception that begins with these letters is found.
-fn is_found(
-    alloc: Global,
-    first: char,
-    second: char,
-    patterns: &Patterns,
-) -> Result<bool, AllocError> {
-    let mut word = String::new(alloc);
-    word.push(first)?;
-    word.push(second)?;
-    word.push_str("cd")?;
+fn is_found(alloc: Global, first: char, second: char, patterns: &Patterns) -> Found {
+    let word = format!(in alloc; "{first}{second}cd")?;
     has_points(alloc, &word, patterns, &[2])
 }
 
 /// Whether each of these exceptions is found.
-fn are_found(alloc: Global) -> Result<bool, ParseError> {
+fn are_found(alloc: Global) -> FoundByText {
     let patterns = Patterns::parse(alloc, &many_exceptions(alloc)?)?;
     for first in 'a'..='z' {
         for second in 'a'..='z' {
@@ -754,12 +686,8 @@ fn what_is_wrong_is_printed(rt: HostRuntime) -> Result<(), AllocError> {
     let alloc = rt.alloc();
     if let Err(error) = Patterns::parse(alloc, "a1b\nNEXTLEVEL\nNEXTLEVEL") {
         let text = format!(in alloc; "{error}")?;
-        assert_text(
-            &rt,
-            "the line and why",
-            &text,
-            "line 3: there are more than two groups of patterns",
-        );
+        let wanted = "line 3: there are more than two groups of patterns";
+        assert_text(&rt, "the line and why", &text, wanted);
     }
     Ok(())
 }

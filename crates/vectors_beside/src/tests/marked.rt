@@ -32,12 +32,6 @@ const MARKDOWN: ReflowOptions<'_> = ReflowOptions {
     ..AT_16
 };
 
-/// Block comments without a margin of asterisks.
-const BARE: ReflowOptions<'_> = ReflowOptions {
-    bare: true,
-    ..AT_20
-};
-
 /// Gaps that are widened up to the width.
 const JUSTIFIED: ReflowOptions<'_> = ReflowOptions {
     justify: true,
@@ -45,15 +39,10 @@ const JUSTIFIED: ReflowOptions<'_> = ReflowOptions {
 };
 
 /// A kind of text, the options, and what becomes of a text; the empty text where it stays.
-type Row = (
-    &'static str,
-    ReflowOptions<'static>,
-    &'static str,
-    &'static str,
-);
+type Row<'a> = (&'a str, ReflowOptions<'a>, &'a str, &'a str);
 
 #[rattlefmt::skip]
-const ROWS: &[Row] = &[
+const ROWS: &[Row<'_>] = &[
     ("prose", AT_16, "One two three four\nfive six.\n", "One two three\nfour five six.\n"),
     ("words with signs", AT_12, "Use --all --force or -1 and *note* now\n", "Use --all\n--force or\n-1 and\n*note* now\n"),
     ("mail", AT_16, "> one two three four\n> > five six seven eight\n>> nine ten\n", "> one two three\n> four\n> > five six\n> > seven eight\n>> nine ten\n"),
@@ -101,7 +90,8 @@ const ROWS: &[Row] = &[
         "//! One two three\n//! four.\n//!\n//! # Panics\n//!\n//! ```\n//! let x = 1;\n//! let y = 2;\n//! ```\n"),
     ("C", AT_24, "\t/* one two three four\n\t * five\n\t * - six seven eight nine\n\t * @param a b\n\t * @return c\n\t */\n\tint x;\n",
         "\t/* one two three\n\t * four five\n\t * - six seven\n\t *   eight nine\n\t * @param a b\n\t * @return c\n\t */\n\tint x;\n"),
-    ("GNU C", BARE, "/* one two\n   three four\n   five.  */\nint x;\n", "/* one two three\n   four five. */\nint x;\n"),
+    ("GNU C, without a margin of asterisks", ReflowOptions { bare: true, ..AT_20 },
+        "/* one two\n   three four\n   five.  */\nint x;\n", "/* one two three\n   four five. */\nint x;\n"),
     ("shell, Python", AT_16, "#!/bin/sh\n# one two three four\n# five\n#six=1\n", "#!/bin/sh\n# one two three\n# four five\n#six=1\n"),
     ("SQL, Lua, Haskell", AT_16, "-- one two three four\n-- five\nSELECT 1;\n", "-- one two three\n-- four five\nSELECT 1;\n"),
     ("Lisp, TeX, Erlang", AT_16, ";; one two three four\n;; five\n% six\n% seven\n", ";; one two three\n;; four five\n% six seven\n"),
@@ -149,7 +139,7 @@ const PENALTIES: Penalties = Penalties {
 
 /// Options that are declared, and an ending that is asked for.
 #[rattlefmt::skip]
-const DECLARED: &[Row] = &[
+const DECLARED: &[Row<'_>] = &[
     ("a mark of the caller", ReflowOptions { markers: &["dnl"], ..AT_16 }, "dnl one two three four\ndnl five\n", "dnl one two\ndnl three four\ndnl five\n"),
     ("only behind this prefix", ReflowOptions { prefixes: &["//"], ..AT_16 },
         "one two three four five\n// one two three four\n", "one two three four five\n// one two three\n// four\n"),
@@ -161,7 +151,7 @@ const DECLARED: &[Row] = &[
 
 /// Justified paragraphs: all lines but the last are as wide as 16 columns.
 #[rattlefmt::skip]
-const JUSTIFIED_ROWS: &[Row] = &[
+const JUSTIFIED_ROWS: &[Row<'_>] = &[
     ("the first gaps get one blank more", JUSTIFIED, "> one two six ten red blue\n> four\n", "> one   two  six\n> ten  red  blue\n> four\n"),
     ("a list; a single line stays", JUSTIFIED, "- one two three four five six\n- seven eight\n", "- one  two three\n  four five six\n- seven eight\n"),
     ("wide gaps are no columns", JUSTIFIED, "One    two\nthree four five\n", "One   two  three\nfour five\n"),
@@ -191,11 +181,9 @@ fn assert_large_becomes(
     options: &ReflowOptions<'_>,
     paragraph: &str,
 ) {
-    let text = "> one two three four\n> five\n\n"
-        .repeat(rt.alloc(), MANY)
-        .expect(rt, "text");
+    let text = "> one two three four\n> five\n\n".repeat(rt.alloc(), MANY);
     let wanted = paragraph.repeat(rt.alloc(), MANY).expect(rt, "text");
-    assert_becomes(rt, paragraph, options, &text, &wanted);
+    assert_becomes(rt, paragraph, options, &text.expect(rt, "text"), &wanted);
 }
 
 /// A large text is filled paragraph by paragraph.

@@ -1,6 +1,7 @@
 //! The callers of `uses`: what each gives on its happy path.
 mod hyphens;
 
+use super::balance::are_lines;
 use super::plain::{assert_count, assert_gives, assert_gives_texts, assert_holds, assert_text};
 use crate::uses::checking::{is_filled, line_count};
 use crate::uses::comments::{common_mark, rewrapped};
@@ -28,19 +29,11 @@ const HELP_ROWS: &[&str] = &["  -h      Print this help.", "  -w N    Wrap at N 
 #[test]
 fn help_has_flags_and_texts(rt: HostRuntime) {
     let entry = help_entry(rt.alloc(), "-w      ", "The width of a line.", 20);
-    assert_gives(
-        &rt,
-        "an entry",
-        entry,
-        "-w      The width of\n        a line.",
-    );
+    let wanted = "-w      The width of\n        a line.";
+    assert_gives(&rt, "an entry", entry, wanted);
     let entries = ["-h", "Print this help.", "-w N", "Wrap at N columns."];
-    assert_gives_texts(
-        &rt,
-        "help",
-        help_rows(rt.alloc(), &entries, 6, 26),
-        HELP_ROWS,
-    );
+    let rows = help_rows(rt.alloc(), &entries, 6, 26);
+    assert_gives_texts(&rt, "help", rows, HELP_ROWS);
 }
 
 /// The flags of a program and what they mean.
@@ -181,18 +174,10 @@ fn assert_hung(rt: &impl Abort, rule: &str, rows: &[&[Picture]], wanted: &[usize
 
 #[test]
 fn pictures_fill_rows(rt: HostRuntime) {
-    assert_hung(
-        &rt,
-        "rows",
-        &hung_rows(rt.alloc(), PICTURES, 150).expect(&rt, "rows"),
-        &[2, 2],
-    );
-    assert_hung(
-        &rt,
-        "few rows",
-        &few_rows(rt.alloc(), PICTURES, 150).expect(&rt, "few rows"),
-        &[2, 2],
-    );
+    let rows = hung_rows(rt.alloc(), PICTURES, 150).expect(&rt, "rows");
+    assert_hung(&rt, "rows", &rows, &[2, 2]);
+    let rows = few_rows(rt.alloc(), PICTURES, 150).expect(&rt, "few rows");
+    assert_hung(&rt, "few rows", &rows, &[2, 2]);
 }
 
 /// A caller that gives the lines of a text, each a part of it.
@@ -262,16 +247,6 @@ const LISTED: &[(&str, usize, &[&str])] = &[
     ("super supersonic", 6, &["super", "super-", "sonic"]),
     ("one\ntwo three", 5, &["one", "two", "three"]),
 ];
-
-/// Whether lines are these.
-fn are_lines(lines: &[CowStr<'_>], wanted: &[&str]) -> bool {
-    for (line, wanted) in lines.iter().zip(wanted) {
-        if line.as_str() != *wanted {
-            return false;
-        }
-    }
-    lines.len() == wanted.len()
-}
 
 #[test]
 fn words_are_listed(rt: HostRuntime) {

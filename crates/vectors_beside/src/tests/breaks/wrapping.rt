@@ -1,7 +1,6 @@
 //! Texts of several languages, wrapped at the places of Unicode line breaking.
 use super::super::plain::{assert_count, assert_gives, assert_holds};
 use std::alloc::{AllocError, Global};
-use std::process::Abort;
 use textwrap::WrapError;
 use textwrap_plain::{BuiltInAlgorithm, PlainOptions, fill};
 use textwrap_unicode::unicode_cuts;
@@ -80,21 +79,11 @@ fn plain_unicode_cuts(alloc: Global, line: &str) -> Result<Vec<usize>, AllocErro
     unicode_cuts(alloc, line)
 }
 
-/// Asserts that a line was cut at these places.
-fn assert_cut_at(
-    rt: &impl Abort,
-    line: &str,
-    cuts: Result<Vec<usize>, AllocError>,
-    wanted: &[usize],
-) {
-    let cuts = cuts.expect(rt, line);
-    assert_holds(rt, line, cuts.as_slice() == wanted);
-}
-
 #[test]
 fn lines_are_cut_into_words(rt: HostRuntime) {
     for &(line, wanted) in CUTS {
-        assert_cut_at(&rt, line, plain_unicode_cuts(rt.alloc(), line), wanted);
+        let cuts = plain_unicode_cuts(rt.alloc(), line).expect(&rt, line);
+        assert_holds(&rt, line, cuts.as_slice() == wanted);
     }
 }
 

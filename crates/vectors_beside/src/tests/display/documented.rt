@@ -28,27 +28,17 @@ fn texts_are_shortened_as_in_python(rt: HostRuntime) {
 const WRAP_ANSI: &[(&str, usize, &[&str], &[&str])] = &[
     // There the code 39 ends the color of a line; here 0 ends all.
     ("The quick brown \x1b[31mfox jumped over \x1b[39mthe lazy \x1b[32mdog and then ran away with the unicorn.\x1b[39m", 20,
-        &["The quick brown \x1b[31mfox\x1b[39m",
-            "\x1b[31mjumped over \x1b[39mthe lazy",
-            "\x1b[32mdog and then ran\x1b[39m",
-            "\x1b[32maway with the\x1b[39m",
+        &["The quick brown \x1b[31mfox\x1b[39m", "\x1b[31mjumped over \x1b[39mthe lazy", "\x1b[32mdog and then ran\x1b[39m", "\x1b[32maway with the\x1b[39m",
             "\x1b[32municorn.\x1b[39m"],
-        &["The quick brown \x1b[31mfox\x1b[0m",
-            "\x1b[31mjumped over \x1b[39mthe lazy",
-            "\x1b[32mdog and then ran\x1b[0m",
-            "\x1b[32maway with the\x1b[0m",
+        &["The quick brown \x1b[31mfox\x1b[0m", "\x1b[31mjumped over \x1b[39mthe lazy", "\x1b[32mdog and then ran\x1b[0m", "\x1b[32maway with the\x1b[0m",
             "\x1b[32municorn.\x1b[39m"]),
     // There a link ends in BEL, as it began; here in ESC and a backslash.
     ("Check out \x1b]8;;https://www.example.com\x07my website\x1b]8;;\x07, it is \x1b]8;;https://www.example.com\x07supercalifragilisticexpialidocious\x1b]8;;\x07.", 16,
-        &["Check out \x1b]8;;https://www.example.com\x07my\x1b]8;;\x07",
-            "\x1b]8;;https://www.example.com\x07website\x1b]8;;\x07, it is",
-            "\x1b]8;;https://www.example.com\x07supercalifragili\x1b]8;;\x07",
-            "\x1b]8;;https://www.example.com\x07sticexpialidocio\x1b]8;;\x07",
+        &["Check out \x1b]8;;https://www.example.com\x07my\x1b]8;;\x07", "\x1b]8;;https://www.example.com\x07website\x1b]8;;\x07, it is",
+            "\x1b]8;;https://www.example.com\x07supercalifragili\x1b]8;;\x07", "\x1b]8;;https://www.example.com\x07sticexpialidocio\x1b]8;;\x07",
             "\x1b]8;;https://www.example.com\x07us\x1b]8;;\x07."],
-        &["Check out \x1b]8;;https://www.example.com\x07my\x1b]8;;\x1b\\",
-            "\x1b]8;;https://www.example.com\x07website\x1b]8;;\x07, it is",
-            "\x1b]8;;https://www.example.com\x07supercalifragili\x1b]8;;\x1b\\",
-            "\x1b]8;;https://www.example.com\x07sticexpialidocio\x1b]8;;\x1b\\",
+        &["Check out \x1b]8;;https://www.example.com\x07my\x1b]8;;\x1b\\", "\x1b]8;;https://www.example.com\x07website\x1b]8;;\x07, it is",
+            "\x1b]8;;https://www.example.com\x07supercalifragili\x1b]8;;\x1b\\", "\x1b]8;;https://www.example.com\x07sticexpialidocio\x1b]8;;\x1b\\",
             "\x1b]8;;https://www.example.com\x07us\x1b]8;;\x07."]),
 ];
 

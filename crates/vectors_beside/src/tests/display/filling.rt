@@ -10,18 +10,11 @@ use textwrap_vectors::functions::{end_all, end_early, end_twice};
 use textwrap_vectors::heap::Heap;
 
 /// The rule, the text, the columns, the initial and the subsequent indent, and the text filled.
-type Row = (
-    &'static str,
-    &'static str,
-    usize,
-    &'static str,
-    &'static str,
-    &'static str,
-);
+type Row<'a> = (&'a str, &'a str, usize, &'a str, &'a str, &'a str);
 
 /// By first fit.
 #[rattlefmt::skip]
-const FILLED: &[Row] = &[
+const FILLED: &[Row<'_>] = &[
     ("all lines but the last", "one two three four", 10, "", "", "one    two\nthree four"),
     ("the last stays though it has room", "one two three", 11, "", "", "one     two\nthree"),
     ("of each paragraph", "a b c d e\nf g h i j", 6, "", "", "a  b c\nd e\nf  g h\ni j"),
@@ -52,7 +45,7 @@ const FILLED: &[Row] = &[
 
 /// The same, where blanks at line ends are kept: they count, and stay.
 #[rattlefmt::skip]
-const PRESERVED: &[Row] = &[
+const PRESERVED: &[Row<'_>] = &[
     ("a blank at the end", "aa bb cc dd", 7, "", "", "aa  bb \ncc dd"),
     ("two of them", "aa bb  cc dd", 8, "", "", "aa  bb  \ncc dd"),
     ("past the width", "a b  c d", 4, "", "", "a b  \nc d"),
@@ -60,30 +53,26 @@ const PRESERVED: &[Row] = &[
 
 /// The same, with CRLF between lines.
 #[rattlefmt::skip]
-const IN_CRLF: &[Row] = &[("paragraphs end in CRLF too", "a b c\r\nd e f\r\n", 4, "", "", "a  b\r\nc\r\nd  e\r\nf\r\n")];
+const IN_CRLF: &[Row<'_>] = &[("paragraphs end in CRLF too", "a b c\r\nd e f\r\n", 4, "", "", "a  b\r\nc\r\nd  e\r\nf\r\n")];
 
 /// Asserts what becomes of a row's text by first fit.
 fn assert_filled(
     rt: &(impl Abort + AllocGlobal),
-    (rule, text, width, initial, later, wanted): Row,
+    (rule, text, width, initial, later, wanted): Row<'_>,
     line_ending: LineEnding,
     keeps_blanks: bool,
 ) {
     let options = plain_options(width, initial, later, WrapAlgorithm::FirstFit)
         .line_ending(line_ending)
         .preserve_trailing_space(keeps_blanks);
-    assert_gives(
-        rt,
-        rule,
-        plain_fill_justified(rt.alloc(), text, options),
-        wanted,
-    );
+    let filled = plain_fill_justified(rt.alloc(), text, options);
+    assert_gives(rt, rule, filled, wanted);
 }
 
 /// Asserts this of each row.
 fn assert_all_filled(
     rt: &(impl Abort + AllocGlobal),
-    rows: &[Row],
+    rows: &[Row<'_>],
     line_ending: LineEnding,
     keeps_blanks: bool,
 ) {
@@ -114,12 +103,8 @@ fn assert_ended(rt: &(impl Abort + AllocGlobal), ends: LineEnds, text: &str, wan
         .subsequent_indent("  ")
         .break_words(false)
         .wrap_algorithm(WrapAlgorithm::Custom(ends));
-    assert_gives(
-        rt,
-        text,
-        plain_fill_justified(rt.alloc(), text, options),
-        wanted,
-    );
+    let filled = plain_fill_justified(rt.alloc(), text, options);
+    assert_gives(rt, text, filled, wanted);
 }
 
 /// A line that is not full, words that are in no line, a line without words, and paragraphs without
@@ -144,20 +129,12 @@ const LONG: &[(&str, &str, usize, usize, usize)] = &[
     ("in each paragraph two lines of 9 columns and one of 4", "a bc def a bc def a bc\n", 10_000, 9, 10_000 * 25),
 ];
 
-/// Asserts how many bytes a long text has once it is filled.
-fn assert_long(
-    rt: &(impl Abort + AllocGlobal),
-    (rule, part, times, width, len): (&str, &str, usize, usize, usize),
-) {
-    let text = part.repeat(rt.alloc(), times).expect(rt, rule);
-    let filled = plain_fill_justified(rt.alloc(), &text, Options::new(width)).expect(rt, rule);
-    assert_count(rt, rule, filled.len(), len);
-}
-
 #[test]
 fn long_texts_are_filled(rt: HostRuntime) {
-    for &row in LONG {
-        assert_long(&rt, row);
+    for &(rule, part, times, width, len) in LONG {
+        let text = part.repeat(rt.alloc(), times).expect(&rt, rule);
+        let filled = plain_fill_justified(rt.alloc(), &text, Options::new(width));
+        assert_count(&rt, rule, filled.expect(&rt, rule).len(), len);
     }
 }
 

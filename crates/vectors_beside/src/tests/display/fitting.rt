@@ -10,15 +10,8 @@ use textwrap_vectors::heap::Heap;
 const MOST: usize = usize::MAX;
 
 /// The rule, the total, the widest word and the widest line of each column, and the widths.
-type FittingRow = (
-    &'static str,
-    usize,
-    &'static [(usize, usize)],
-    &'static [usize],
-);
-
 #[rattlefmt::skip]
-const FITTING: &[FittingRow] = &[
+const FITTING: &[(&str, usize, &[(usize, usize)], &[usize])] = &[
     ("what is left goes by what is lacking", 20, &[(7, 9), (8, 18)], &[8, 12]),
     ("words have just room", 15, &[(7, 9), (8, 18)], &[7, 8]),
     ("lines have just room", 27, &[(7, 9), (8, 18)], &[9, 18]),
@@ -72,11 +65,8 @@ fn has_fitting_widths<A: Allocator + Copy>(
 #[test]
 fn columns_fit_what_stands_in_them(rt: HostRuntime) {
     for &(rule, total, needs, wanted) in FITTING {
-        assert_found(
-            &rt,
-            rule,
-            has_fitting_widths(rt.alloc(), total, needs, wanted),
-        );
+        let found = has_fitting_widths(rt.alloc(), total, needs, wanted);
+        assert_found(&rt, rule, found);
     }
 }
 
@@ -106,15 +96,8 @@ fn many_widths_add_up(rt: HostRuntime) {
 }
 
 /// The rule, how many columns there are, the texts, and what each column needs.
-type NeedRow = (
-    &'static str,
-    usize,
-    &'static [&'static str],
-    &'static [(usize, usize)],
-);
-
 #[rattlefmt::skip]
-const NEEDS: &[NeedRow] = &[
+const NEEDS: &[(&str, usize, &[&str], &[(usize, usize)])] = &[
     ("the widest word and the widest line of each column", 2, &["-h", "Print this help.", "--width N", "Wrap at N columns."], &[(7, 9), (8, 18)]),
     ("a line is what stands between line feeds", 1, &["one\ntwo words\n"], &[(5, 9)]),
     ("blanks around a word are none of it", 1, &["  a  bc  "], &[(2, 9)]),

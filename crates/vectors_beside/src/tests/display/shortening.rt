@@ -10,7 +10,7 @@ use textwrap_vectors::heap::Heap;
 
 /// Lines that are cut.
 #[rattlefmt::skip]
-const SHORTENED: &[LineRow] = &[
+const SHORTENED: &[LineRow<'_>] = &[
     ("blanks are not made one: it has 13 columns", Shortened(" [...]"), "Hello  world!", 12, "Hello [...]"),
     ("an exact fit of what is kept and the placeholder", Shortened(" [...]"), "Hello  world!", 11, "Hello [...]"),
     ("no column is left for the word", Shortened(" [...]"), "Hello  world!", 10, " [...]"),
@@ -46,7 +46,7 @@ const SHORTENED: &[LineRow] = &[
 
 /// Words that are cut.
 #[rattlefmt::skip]
-const CUT: &[LineRow] = &[
+const CUT: &[LineRow<'_>] = &[
     ("no word is cut by itself", Shortened(".."), "Supercalifragilistic", 10, ".."),
     ("as much of it as fits", Cut(".."), "Supercalifragilistic", 10, "Supercal.."),
     ("behind other words", Cut(".."), "a Supercalifragilistic", 10, "a Superc.."),
@@ -71,7 +71,7 @@ const CUT: &[LineRow] = &[
 
 /// Lines that stay as they are.
 #[rattlefmt::skip]
-const KEPT: &[LineRow] = &[
+const KEPT: &[LineRow<'_>] = &[
     ("an exact fit", Shortened(".."), "Hello  world!", 13, "Hello  world!"),
     ("blanks at the end count", Shortened(".."), "one  ", 5, "one  "),
     ("wide characters", Shortened(".."), "日本", 4, "日本"),

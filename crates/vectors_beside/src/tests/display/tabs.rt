@@ -3,7 +3,7 @@ use super::Change::Expanded;
 use super::{LineRow, assert_all_changed};
 
 #[rattlefmt::skip]
-const EXPANDED: &[LineRow] = &[
+const EXPANDED: &[LineRow<'_>] = &[
     ("up to the next column that is divided", Expanded, "a\tbc", 4, "a   bc"),
     ("one blank before such a column", Expanded, "abc\td", 4, "abc d"),
     ("as many as the stop at such a column", Expanded, "abcd\te", 4, "abcd    e"),

@@ -1,49 +1,29 @@
 //! Lines that get blanks up to a width.
 use super::super::plain::{assert_count, assert_holds};
 use super::Change::{Aligned, Cut, Expanded, Justified, Shortened};
-use super::{Change, LineRow, assert_all_changed, changed};
+use super::{Change, LineRow, assert_all_changed, assert_changed, changed};
 use Alignment::{Centre, Left, Right};
 use std::process::Abort;
 use textwrap_display::Alignment;
 
-/// Lines that are aligned.
+/// The rule, the line, the columns, and the line aligned at the left, at the right and in the middle.
 #[rattlefmt::skip]
-const ALIGNED: &[LineRow] = &[
-    ("blanks up to the width", Aligned(Left), "foo", 6, "foo   "),
-    ("blanks up to the width", Aligned(Right), "foo", 6, "   foo"),
-    ("blanks up to the width", Aligned(Centre), "foo", 6, " foo  "),
-    ("an odd blank goes right", Aligned(Left), "ab", 5, "ab   "),
-    ("an odd blank goes right", Aligned(Right), "ab", 5, "   ab"),
-    ("an odd blank goes right", Aligned(Centre), "ab", 5, " ab  "),
-    ("one blank goes right", Aligned(Left), "ab", 3, "ab "),
-    ("one blank goes right", Aligned(Right), "ab", 3, " ab"),
-    ("one blank goes right", Aligned(Centre), "ab", 3, "ab "),
-    ("wide characters take two columns", Aligned(Left), "日本", 6, "日本  "),
-    ("wide characters take two columns", Aligned(Right), "日本", 6, "  日本"),
-    ("wide characters take two columns", Aligned(Centre), "日本", 6, " 日本 "),
-    ("escape sequences take none", Aligned(Left), "\x1b[1mab\x1b[m", 4, "\x1b[1mab\x1b[m  "),
-    ("escape sequences take none", Aligned(Right), "\x1b[1mab\x1b[m", 4, "  \x1b[1mab\x1b[m"),
-    ("escape sequences take none", Aligned(Centre), "\x1b[1mab\x1b[m", 4, " \x1b[1mab\x1b[m "),
-    ("blanks at the ends count", Aligned(Left), " a ", 5, " a   "),
-    ("blanks at the ends count", Aligned(Right), " a ", 5, "   a "),
-    ("blanks at the ends count", Aligned(Centre), " a ", 5, "  a  "),
-    ("blanks inside count", Aligned(Left), "a few words", 12, "a few words "),
-    ("blanks inside count", Aligned(Right), "a few words", 12, " a few words"),
-    ("blanks inside count", Aligned(Centre), "a few words", 12, "a few words "),
-    ("blanks before the first word count", Aligned(Left), "  a b c", 9, "  a b c  "),
-    ("blanks before the first word count", Aligned(Right), "  a b c", 9, "    a b c"),
-    ("blanks before the first word count", Aligned(Centre), "  a b c", 9, "   a b c "),
-    ("wide characters with a blank", Aligned(Left), "日 本", 7, "日 本  "),
-    ("wide characters with a blank", Aligned(Right), "日 本", 7, "  日 本"),
-    ("wide characters with a blank", Aligned(Centre), "日 本", 7, " 日 本 "),
-    ("an empty line", Aligned(Left), "", 2, "  "),
-    ("an empty line", Aligned(Right), "", 2, "  "),
-    ("an empty line", Aligned(Centre), "", 2, "  "),
+const ALIGNED: &[(&str, &str, usize, [&str; 3])] = &[
+    ("blanks up to the width", "foo", 6, ["foo   ", "   foo", " foo  "]),
+    ("an odd blank goes right", "ab", 5, ["ab   ", "   ab", " ab  "]),
+    ("one blank goes right", "ab", 3, ["ab ", " ab", "ab "]),
+    ("wide characters take two columns", "日本", 6, ["日本  ", "  日本", " 日本 "]),
+    ("escape sequences take none", "\x1b[1mab\x1b[m", 4, ["\x1b[1mab\x1b[m  ", "  \x1b[1mab\x1b[m", " \x1b[1mab\x1b[m "]),
+    ("blanks at the ends count", " a ", 5, [" a   ", "   a ", "  a  "]),
+    ("blanks inside count", "a few words", 12, ["a few words ", " a few words", "a few words "]),
+    ("blanks before the first word count", "  a b c", 9, ["  a b c  ", "    a b c", "   a b c "]),
+    ("wide characters with a blank", "日 本", 7, ["日 本  ", "  日 本", " 日 本 "]),
+    ("an empty line", "", 2, ["  ", "  ", "  "]),
 ];
 
 /// Lines that are justified.
 #[rattlefmt::skip]
-const JUSTIFIED: &[LineRow] = &[
+const JUSTIFIED: &[LineRow<'_>] = &[
     ("one more blank in the first gap", Justified, "a few words", 12, "a  few words"),
     ("as many in each", Justified, "a few words", 13, "a  few  words"),
     ("what is left over goes to the first", Justified, "a b c d", 9, "a  b  c d"),
@@ -57,7 +37,7 @@ const JUSTIFIED: &[LineRow] = &[
 
 /// Lines that stay as they are.
 #[rattlefmt::skip]
-const KEPT: &[LineRow] = &[
+const KEPT: &[LineRow<'_>] = &[
     ("as wide", Aligned(Right), "foo", 3, "foo"),
     ("wider", Aligned(Right), "foo bar", 3, "foo bar"),
     ("wide characters", Aligned(Right), "日本", 3, "日本"),
@@ -71,25 +51,19 @@ const KEPT: &[LineRow] = &[
 
 #[test]
 fn lines_are_aligned_and_justified(rt: HostRuntime) {
-    assert_all_changed(&rt, ALIGNED);
+    for &(rule, line, width, [left, right, centre]) in ALIGNED {
+        assert_changed(&rt, (rule, Aligned(Left), line, width, left));
+        assert_changed(&rt, (rule, Aligned(Right), line, width, right));
+        assert_changed(&rt, (rule, Aligned(Centre), line, width, centre));
+    }
     assert_all_changed(&rt, JUSTIFIED);
     assert_all_changed(&rt, KEPT);
 }
 
 /// The rule, the call, what the line is made of and how often, the columns, the bytes of the new line,
 /// and what it begins and ends with.
-type LongRow = (
-    &'static str,
-    Change<'static>,
-    (&'static str, usize),
-    usize,
-    usize,
-    &'static str,
-    &'static str,
-);
-
 #[rattlefmt::skip]
-const LONG: &[LongRow] = &[
+const LONG: &[(&str, Change<'_>, (&str, usize), usize, usize, &str, &str)] = &[
     ("a cut one column before the end", Shortened("..."), ("word ", 200_000), 999_999, 999_994 + 3, "word ", "word..."),
     ("a line that loses nearly all", Shortened(" ..."), ("word ", 200_000), 80, 74 + 4, "word ", "word ..."),
     ("a word that is cut one column before the end", Cut("..."), ("word", 250_000), 999_999, 999_999, "word", "word..."),
@@ -111,20 +85,12 @@ fn assert_spans(rt: &impl Abort, rule: &str, line: &str, (len, start, end): (usi
     assert_holds(rt, rule, line.ends_with(end));
 }
 
-/// Asserts what a line of so many parts becomes.
-fn assert_long(
-    rt: &(impl Abort + AllocGlobal),
-    (rule, change, (part, times), width, len, start, end): LongRow,
-) {
-    let line = part.repeat(rt.alloc(), times).expect(rt, rule);
-    let found = changed(rt.alloc(), change, &line, width).expect(rt, rule);
-    assert_spans(rt, rule, found.as_str(), (len, start, end));
-}
-
 #[test]
 fn long_lines_are_changed(rt: HostRuntime) {
-    for &row in LONG {
-        assert_long(&rt, row);
+    for &(rule, change, (part, times), width, len, start, end) in LONG {
+        let line = part.repeat(rt.alloc(), times).expect(&rt, rule);
+        let found = changed(rt.alloc(), change, &line, width).expect(&rt, rule);
+        assert_spans(&rt, rule, found.as_str(), (len, start, end));
     }
 }
 

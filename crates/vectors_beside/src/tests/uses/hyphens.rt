@@ -88,11 +88,8 @@ fn is_refused(alloc: Global, dictionary: &[DictionaryEntry<'_>]) -> Result<bool,
 #[test]
 fn wrong_points_of_a_word_are_refused(rt: HostRuntime) {
     for &(word, points) in WRONG {
-        assert_found(
-            &rt,
-            word,
-            is_refused(rt.alloc(), &[DictionaryEntry { word, points }]),
-        );
+        let refused = is_refused(rt.alloc(), &[DictionaryEntry { word, points }]);
+        assert_found(&rt, word, refused);
     }
 }
 
@@ -107,9 +104,8 @@ fn many_lines(alloc: Global, times: usize) -> Result<Vec<&'static str>, AllocErr
 
 #[test]
 fn a_long_paragraph_is_hyphenated(rt: HostRuntime) {
-    let paragraph = "typesetting machines "
-        .repeat(rt.alloc(), 1000)
-        .expect(&rt, "text");
+    let paragraph = "typesetting machines ".repeat(rt.alloc(), 1000);
+    let paragraph = paragraph.expect(&rt, "text");
     let expected = many_lines(rt.alloc(), 1000).expect(&rt, "lines");
     let is_right = is_hyphenated(rt.alloc(), &paragraph, DICTIONARY, 10, &expected);
     assert_found(&rt, "long", is_right);

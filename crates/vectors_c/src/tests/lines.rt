@@ -47,7 +47,8 @@ const BLANKS: &[LinesRow] = &[
 /// A text in columns.
 #[rattlefmt::skip]
 const IN_COLUMNS: &[LinesRow] = &[
-    ((LinesCall::Columns(4, TextwrapOptions { width: 24, ..DEFAULTS }, BARS), b"Foo Bar Baz Quux"), (DONE, 1, 24), (&[(0, 24, 1), NONE], b"|Foo |Bar |Baz |Quux   |________")),
+    ((LinesCall::Columns(4, TextwrapOptions { width: 24, ..DEFAULTS }, BARS), b"Foo Bar Baz Quux"),
+        (DONE, 1, 24), (&[(0, 24, 1), NONE], b"|Foo |Bar |Baz |Quux   |________")),
 ];
 
 /// Lines of which the first leaves a style open.

@@ -146,7 +146,8 @@ const FILE_RUNS: &[FileRun] = &[
         files: NOT_REPLACED, output: "", messages: "reflow: pipe: is a pipe or a socket\nreflow: device: is a device\n\
 reflow: folder: is a folder\nreflow: closed: may not be written\nreflow: drafts: 100 drafts are there already\n\
 reflow: changed: has changed while it was read\nreflow: mode: cannot write\nreflow: sync: cannot write\nreflow: memory: out of memory\n\
-reflow: long: its name is too long\nreflow: fixed: stands on a file system that may only be read\nreflow: 1 of 12 files changed\n", status: 2, after: &[COUNT, COUNT, COUNT, COUNT, COUNT, COUNT, COUNT, COUNT, COUNT, COUNT, COUNT, b"one two\nthree four\n"],
+reflow: long: its name is too long\nreflow: fixed: stands on a file system that may only be read\nreflow: 1 of 12 files changed\n",
+        status: 2, after: &[COUNT, COUNT, COUNT, COUNT, COUNT, COUNT, COUNT, COUNT, COUNT, COUNT, COUNT, b"one two\nthree four\n"],
         replaced: 1 },
     FileRun { rule: "no line has the marks that are filled", words: &["-w", "10", "--in-place", "--prefix", "//", "a", "c"], files: SOUND_FILES, output: "",
         messages: "reflow: a: no line begins with what --prefix says\nreflow: c: no line begins with what --prefix says\n\

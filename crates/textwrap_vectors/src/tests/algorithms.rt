@@ -31,9 +31,8 @@ const HAMLET: &[&str] = &["To ", "be, ", "or ", "not ", "to ", "be: ", "that ", 
 
 /// Texts of words, the widths of their lines, and how many each line has: at the least cost, and by
 /// first fit.
-type DividedTexts<'a> = (&'a [&'a str], &'a [usize], &'a [usize], &'a [usize]);
-
-const DIVIDED_TEXTS: &[DividedTexts<'_>] = &[
+#[rattlefmt::skip]
+const DIVIDED_TEXTS: &[(&[&str], &[usize], &[usize], &[usize])] = &[
     (&[], &[10], &[0], &[0]),
     (&["To ", "be, "], &[3], &[1, 1], &[1, 1]),
     (&["foo ", "bar"], &[3], &[1, 1], &[1, 1]),
@@ -75,9 +74,8 @@ const HYPHENED: Word<'_> = Word {
 
 /// Two words, each with the width that it is given, the width of the lines, and how many words each
 /// line has.
-type DividedWords<'a> = (Word<'a>, usize, Word<'a>, usize, usize, &'a [usize]);
-
-const DIVIDED_WORDS: &[DividedWords<'_>] = &[
+#[rattlefmt::skip]
+const DIVIDED_WORDS: &[(Word<'_>, usize, Word<'_>, usize, usize, &[usize])] = &[
     (WORD, 0, WORD, 0, 0, &[2]),
     (WORD, 1, WORD, 1, 0, &[1, 1]),
     (WORD, 1, WORD, 1, 1, &[1, 1]),

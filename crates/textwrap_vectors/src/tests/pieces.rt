@@ -91,9 +91,8 @@ fn words_are_cut_into_their_pieces(rt: HostRuntime) {
 /// Built-in splitters are equal if they are the same.
 #[test]
 fn splitters_are_equal_where_their_cases_are(rt: HostRuntime) {
-    assert!(rt;
-        WordSplitter::NoHyphenation == WordSplitter::NoHyphenation.clone().expect(&rt, "splitter")
-    );
+    let clone = WordSplitter::NoHyphenation.clone().expect(&rt, "splitter");
+    assert!(rt; WordSplitter::NoHyphenation == clone);
     assert!(rt; WordSplitter::NoHyphenation != WordSplitter::HyphenSplitter);
 }
 

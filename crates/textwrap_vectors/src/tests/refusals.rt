@@ -51,10 +51,8 @@ fn assert_refused<C: Refusable>(rt: &(impl Abort + AllocGlobal), call: &C, refus
     let heap = Heap::new(rt.alloc(), 0);
     let counted = refusals_of(rt, call, &heap);
     let left = heap.left();
-    assert!(rt;
-        counted == Some(refusals) && left == 0,
-        "{refusals} are {counted:?}"
-    );
+    let is_right = counted == Some(refusals) && left == 0;
+    assert!(rt; is_right, "{refusals} are {counted:?}");
 }
 
 /// A call that gives a text, lines or rows, its text, and what it gives.

@@ -54,10 +54,8 @@ fn assert_days(
     expected: Plan<'_>,
 ) {
     let days = plain_days(rt.alloc(), rt.alloc(), rows, day_length).expect(rt, "days");
-    assert!(rt;
-        are_days(&days, expected),
-        "at {day_length} hours: {days:?}"
-    );
+    let is_right = are_days(&days, expected);
+    assert!(rt; is_right, "at {day_length} hours: {days:?}");
 }
 
 /// The tasks of building a house.

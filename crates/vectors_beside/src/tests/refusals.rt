@@ -88,9 +88,7 @@ fn allocations(rt: &(impl Abort + AllocGlobal), rule: &str, call: Call) -> usize
 fn refused_allocations_are_told(rt: HostRuntime) {
     for &(rule, call, least, most) in CALLS {
         let needed = allocations(&rt, rule, call);
-        assert!(rt;
-            least <= needed && needed <= most,
-            "{rule}: {needed} allocations are enough"
-        );
+        let is_right = least <= needed && needed <= most;
+        assert!(rt; is_right, "{rule}: {needed} allocations are enough");
     }
 }

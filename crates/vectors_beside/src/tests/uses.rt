@@ -192,10 +192,8 @@ enum Caller {
 }
 
 /// The caller, the text, the columns, and the lines.
-type LinesRow = (Caller, &'static str, usize, &'static [&'static str]);
-
 #[rattlefmt::skip]
-const LINES: &[LinesRow] = &[
+const LINES: &[(Caller, &str, usize, &[&str])] = &[
     (Caller::Paths, "/usr/local/share/doc", 10, &["/usr/", "local/", "share/doc"]),
     (Caller::Paths, "/a b/c d/", 5, &["/a b/", "c d/"]),
     (Caller::Paths, "añ/b", 4, &["añ/b"]),

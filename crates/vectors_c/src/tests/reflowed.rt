@@ -6,10 +6,8 @@ use textwrap_calls::status::{DONE, NOT_UTF8, TOO_SMALL, UNKNOWN_OPTIONS};
 use textwrap_calls::texts::TextwrapText;
 
 /// Options and a text; what becomes of it. Each of these options alone changes what is written.
-type Reflowed = (TextwrapReflowOptions<'static>, &'static [u8], &'static [u8]);
-
 #[rattlefmt::skip]
-const ROWS: &[Reflowed] = &[
+const ROWS: &[(TextwrapReflowOptions<'_>, &[u8], &[u8])] = &[
     (REFLOWED, b"> one two three four\n> five\n", b"> one two three\n> four five\n"),
     (TextwrapReflowOptions { justify: 1, ..REFLOWED }, b"> one two six ten red blue\n", b"> one   two  six\n> ten red blue\n"),
     (TextwrapReflowOptions { width: 12, optimal_fit: 1, ..REFLOWED }, b"To be, or not to be: that is\n", b"To be, or\nnot to be:\nthat is\n"),

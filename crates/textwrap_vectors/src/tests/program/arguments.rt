@@ -21,10 +21,8 @@ fn are_after_name(alloc: Global, given: &[&str], expected: &[&str]) -> Result<bo
 #[test]
 fn the_first_argument_is_the_name(rt: HostRuntime) -> Result<(), Fail> {
     for &(given, expected) in AFTER_NAME {
-        assert!(rt;
-            are_after_name(rt.alloc(), given, expected)?,
-            "{expected:?}"
-        );
+        let is_right = are_after_name(rt.alloc(), given, expected)?;
+        assert!(rt; is_right, "{expected:?}");
     }
     Ok(())
 }
@@ -48,10 +46,8 @@ fn words_out_of_memory_are_no_fewer_words(rt: HostRuntime) -> Result<(), Fail> {
     let heap = Heap::new(rt.alloc(), 0);
     for (allowed, expected) in COUNTED {
         heap.allow(*allowed);
-        assert!(rt;
-            count_after_name(rt.alloc(), &heap)? == *expected,
-            "{allowed}"
-        );
+        let count = count_after_name(rt.alloc(), &heap)?;
+        assert!(rt; count == *expected, "{allowed}");
     }
     assert!(rt; heap.left() == 0);
     Ok(())

@@ -1,7 +1,7 @@
 -- The names of the definitions of this crate that most proofs cite. Declares nothing.
 pub use Rattle.textwrap_marked.specs.Blocks.{blocks, goes_on, is_beside, stays}
 pub use Rattle.textwrap_marked.specs.Laws.{AreSameParts, AreShown, IsSameBy, Part, parts_of_blocks}
-pub use Rattle.textwrap_marked.specs.Laws.{HasNoBarMark, lines_alone, piece_words, Shows}
+pub use Rattle.textwrap_marked.specs.Laws.{HasNoBarMark, lines_alone, piece_words, LineShows}
 pub use Rattle.textwrap_marked.specs.Laws.{stands_alone}
 pub use Rattle.textwrap_marked.specs.Laws.{text_parts, words_between_white}
 pub use Rattle.textwrap_marked.specs.Pieces.{is_cut, pieces, words_of_lines}

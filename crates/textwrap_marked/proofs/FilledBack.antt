@@ -9,7 +9,7 @@ use Rattle.textwrap_marked.proofs.LineNames.{passed}
 use Rattle.textwrap_marked.proofs.LineNames.{StateText, without_returns, begins_text, first_word}
 use Rattle.textwrap_marked.proofs.LineNames.{opens_paragraph, has_letter, spaced_text, SpacedText}
 use Rattle.textwrap_marked.proofs.Common.{AreShown, break_white, ending_if, filled_end, HasNoBarMark}
-use Rattle.textwrap_marked.proofs.Common.{is_beside, IsSameBy, lines_alone, printed, Shows, stays}
+use Rattle.textwrap_marked.proofs.Common.{is_beside, IsSameBy, lines_alone, printed, LineShows, stays}
 use Rattle.textwrap_marked.proofs.Common.{stands_alone, words_of_lines}
 use Rattle.textwrap_marks.specs.declared.options.ReflowOptions.{ReflowOptions}
 use Rattle.std.proofs.Math.Bool.{and-true}
@@ -122,7 +122,7 @@ module _ (options : ReflowOptions) (returns : Bool) (told : IsTold options.endin
 
   first-shows : (text : List ℕ) (ws : List SpacedText) → AreSpaced ws → 0 < length ws
       → without_returns text ≡ here.prefix ++ spaced_text ws
-      → Shows options (without_returns text) (marks_shown ++ map (λ w. w.word) ws)
+      → LineShows options (without_returns text) (marks_shown ++ map (λ w. w.word) ws)
   first-shows text ws spaced some is =
       shows-first (without_returns text) p.lead (p.cs ++ (p.qs ++ p.bs)) ws p.has.text.white
       (first-parts options (entered state (without_returns raw)) raw p.fed p.lead p.cs p.qs p.bs p.ws p.has p.apart).0

@@ -8,7 +8,7 @@ use Rattle.textwrap_marked.proofs.LineNames.{ap₂, bytes_eq, as_title, entered,
 use Rattle.textwrap_marked.proofs.LineNames.{LineText, passed, StateText, without_returns, first_word}
 use Rattle.textwrap_marked.proofs.LineNames.{opens_paragraph}
 use Rattle.textwrap_text.specs.declared.line_ending.LineEnding.{LineEnding}
-use Rattle.textwrap_marked.proofs.Common.{AreShown, ending_if, lines_alone, Shows, stands_alone}
+use Rattle.textwrap_marked.proofs.Common.{AreShown, ending_if, lines_alone, LineShows, stands_alone}
 use Rattle.textwrap_marked.proofs.Common.{kept_line}
 use Rattle.textwrap_marks.specs.declared.options.ReflowOptions.{ReflowOptions}
 use Rattle.std.proofs.Math.Bool.{and-true}
@@ -174,7 +174,7 @@ module _ (options : ReflowOptions) (returns : Bool) (told : IsTold options.endin
         news_show = (
           own_shown (without_returns raw),
           later.shown,
-          subst (λ l. Shows options l (own_shown (without_returns raw))) (sym (anew-content e returns fed raw))
+          subst (λ l. LineShows options l (own_shown (without_returns raw))) (sym (anew-content e returns fed raw))
               (shows-own options (without_returns raw)),
           later.news_show,
           refl,

@@ -4,7 +4,7 @@ use Rattle.textwrap_marked.proofs.LineNames.{All-nil, All-weaker, ap, append_ass
 use Rattle.textwrap_marked.proofs.LineNames.{length-append, line_as_read, LineText, lt-ltb, map, nat_lt}
 use Rattle.textwrap_marked.proofs.LineNames.{refl, spaced_text, SpacedText, StateText, subst, sym, ◌∙◌}
 use Rattle.textwrap_marked.proofs.LineNames.{without_returns}
-use Rattle.textwrap_marked.proofs.Common.{AreShown, Shows, words_between_white}
+use Rattle.textwrap_marked.proofs.Common.{AreShown, LineShows, words_between_white}
 use Rattle.textwrap_marks.specs.declared.options.ReflowOptions.{ReflowOptions}
 use Rattle.textwrap_text.proofs.Common.{length-map, map-append}
 use Rattle.textwrap_marked.proofs.HangingForms.{IsHanging}
@@ -36,7 +36,7 @@ abbrev pub own_shown : List ℕ → List (List ℕ)
 own_shown line =
     let words = words_between_white line in cond (nat_lt 0 (length words)) words ((10 ∷ []) ∷ [])
 
-pub shows-own : (options : ReflowOptions) (line : List ℕ) → Shows options line (own_shown line)
+pub shows-own : (options : ReflowOptions) (line : List ℕ) → LineShows options line (own_shown line)
 shows-own options line = ([], line, no-margin options, refl, refl)
 
 -- a line is its prefix and its text
@@ -80,7 +80,7 @@ module _ (line lead : List ℕ) (marks ws : List SpacedText) (white : All IsWhit
       ))
 
   -- it shows its marks too
-  pub shows-first : (options : ReflowOptions) → Shows options line (words marks ++ words ws)
+  pub shows-first : (options : ReflowOptions) → LineShows options line (words marks ++ words ws)
   shows-first options = (
     [],
     line,
@@ -91,7 +91,7 @@ module _ (line lead : List ℕ) (marks ws : List SpacedText) (white : All IsWhit
 
   -- or, behind the margin that they are, its words alone
   shows-behind : (options : ReflowOptions) → IsMargin options (lead ++ spaced_text marks)
-      → Shows options line (words ws)
+      → LineShows options line (words ws)
   shows-behind options margin = (
     lead ++ spaced_text marks,
     spaced_text ws,
@@ -122,7 +122,7 @@ pub shows-later : (options : ReflowOptions) (in_block : Bool) (hanging lead : Li
     → IsHanging options in_block hanging lead ds rs → (state : StateText) (raw : List ℕ) (fed : Bool)
     → let line = line_as_read options state raw fed in
     IsOfText options in_block hanging state line → line.prefix ≡ hanging
-    → Shows options (without_returns raw) (map (λ w. w.word) line.words)
+    → LineShows options (without_returns raw) (map (λ w. w.word) line.words)
 shows-later options in_block hanging lead ds rs hang state raw fed of prefix =
     let line = line_as_read options state raw fed in
     shows-behind (without_returns raw) lead (ds ++ rs) line.words hang.white hang.full of.spaced of.some

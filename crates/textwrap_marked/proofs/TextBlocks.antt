@@ -8,7 +8,7 @@ use Rattle.textwrap_marked.proofs.LineNames.{as_title, entered, is_ended, line_a
 use Rattle.textwrap_marked.proofs.LineNames.{read_lines, StateText, with_titles, closes_block}
 use Rattle.textwrap_marked.proofs.LineNames.{closes_early, first_word, words_before_last, is_column_word}
 use Rattle.textwrap_marked.proofs.LineNames.{last_word, opens_paragraph, contains, SpacedText}
-use Rattle.textwrap_marked.proofs.Common.{AreShown, goes_on, HasNoBarMark, Shows}
+use Rattle.textwrap_marked.proofs.Common.{AreShown, goes_on, HasNoBarMark, LineShows}
 use Rattle.textwrap_marked.proofs.Common.{lines_alone, stands_alone, words_of_lines}
 use Rattle.textwrap_marks.specs.declared.options.ReflowOptions.{ReflowOptions}
 use Rattle.textwrap_text.proofs.Common.{length-map}
@@ -259,7 +259,7 @@ module _ (options : ReflowOptions) (in_block : Bool) (hanging lead : List ℕ) (
   walk-more : (state : StateText) (line next : LineText) (lines rest : List LineText)
       (raw : List ℕ) (raws left : List (List ℕ)) → raws ≡ raw ∷ left
       → IsOfText options in_block hanging state line → line.ended ≡ false
-      → Shows options (without_returns raw) (map (λ w. w.word) next.words)
+      → LineShows options (without_returns raw) (map (λ w. w.word) next.words)
       → (HasNoBarMark options → stands_alone options (without_returns raw) ≡ false)
       → IsWalked next lines rest left → IsWalked line (next ∷ lines) rest raws
   walk-more state line next lines rest raw raws left whole of ended shows level walked =
@@ -337,7 +337,7 @@ module _ (options : ReflowOptions) (in_block : Bool) (hanging lead : List ℕ) (
       let title_next : title_of next (lines ++ rest) ≡ false =
       ap (λ l. title_of l (lines ++ rest)) same ∙ plain in
       walk-more state line next lines rest peeled.raw raws peeled.left peeled.whole of ended
-      (subst (λ (l : LineText). Shows options (without_returns peeled.raw) (map (λ w. w.word) l.words)) (sym same)
+      (subst (λ (l : LineText). LineShows options (without_returns peeled.raw) (map (λ w. w.word) l.words)) (sym same)
       (shows-later options in_block hanging lead ds rs hang behind peeled.raw fed_next of_read hung))
       (λ plain. later-not-alone options plain in_block hanging lead ds rs hang behind peeled.raw fed_next of_read hung)
       (walk lines next behind rest peeled.left of_next level title_next one

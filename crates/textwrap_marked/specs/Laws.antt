@@ -146,8 +146,8 @@ pub record IsMargin (options : ReflowOptions) (margin : List ℕ) : Type 0 where
   pub apart : All (λ w. 0 < length w.white × All (λ c. is_white c ≡ true) w.white) (comments ++ quotes)
 
 -- a line shows the words behind a margin of it, and where it has no word at all a line feed
-abbrev pub Shows : ReflowOptions → List ℕ → List (List ℕ) → Type 0
-Shows options line shown =
+abbrev pub LineShows : ReflowOptions → List ℕ → List (List ℕ) → Type 0
+LineShows options line shown =
     (margin : List ℕ) × (rest : List ℕ) × IsMargin options margin × (line ≡ margin ++ rest)
     × (shown ≡ (if nat_lt 0 (length (words_between_white line)) then words_between_white rest
     else (10 ∷ []) ∷ []))
@@ -156,7 +156,7 @@ Shows options line shown =
 abbrev pub AreShown : ReflowOptions → List (List ℕ) → List (List ℕ) → Type 0
 AreShown options [] shown = shown ≡ []
 AreShown options (line ∷ lines) shown =
-    (front : List (List ℕ)) × (back : List (List ℕ)) × Shows options (without_returns line) front
+    (front : List (List ℕ)) × (back : List (List ℕ)) × LineShows options (without_returns line) front
     × AreShown options lines back × (shown ≡ front ++ back)
 
 -- what follows a byte order mark, if there is one

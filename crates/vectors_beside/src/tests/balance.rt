@@ -3,13 +3,14 @@ ghost use Rattle.std.specs.Prelude.{◌≡◌, ◌≢◌, None, Some};
 ghost use Rattle.textwrap_words.specs.WordSplitters.{AtHyphens, splitter_view};
 ghost use Rattle.textwrap_words.specs.declared.word_separators.WordSeparator.TheVariants.{AsciiSpace};
 
+use super::hyphenated::german;
 use super::plain::{assert_count, assert_found};
-use std::alloc::Allocator;
+use std::alloc::{AllocError, Allocator};
 use std::borrow::CowStr;
 use std::process::Abort;
 use textwrap::{Options, WrapAlgorithm, WrapError};
-use textwrap_plain::PlainOptions;
 use textwrap_plain::balancing::{balanced_width, wrap_balanced};
+use textwrap_plain::{PlainOptions, PlainSeparator, PlainSplitter};
 
 /// The rule, the text, the columns, the initial and the subsequent indent, the balanced width, and the
 /// lines at it.
@@ -162,4 +163,17 @@ fn lines_are_balanced_at_breaks(rt: HostRuntime) {
     for &(text, width, balanced, wanted) in AT_BREAKS {
         assert_balanced_plainly(&rt, &PlainOptions::new(width), text, balanced, wanted);
     }
+}
+
+#[test]
+fn lines_are_balanced_by_a_dictionary(rt: HostRuntime) -> Result<(), AllocError> {
+    let patterns = german(rt.alloc())?;
+    let options = PlainOptions {
+        word_separator: PlainSeparator::AtBlanks,
+        word_splitter: PlainSplitter::Dictionary(patterns.table()),
+        ..PlainOptions::new(15)
+    };
+    let wanted = ["der Zei-", "lenumbruch"];
+    assert_balanced_plainly(&rt, &options, "der Zeilenumbruch", 10, &wanted);
+    Ok(())
 }

@@ -110,7 +110,7 @@ const ALLOCATIONS: usize = 35;
 const REFILL_ALLOCATIONS: usize = 36;
 
 /// A dictionary of the patterns.
-fn german(alloc: Global) -> Result<Patterns, AllocError> {
+pub(super) fn german(alloc: Global) -> Result<Patterns, AllocError> {
     let mut patterns = Vec::new(alloc);
     push_patterns(alloc, &mut patterns, &GERMAN)?;
     Patterns::new(alloc, patterns, Vec::new(alloc), 2, 2)

@@ -4,7 +4,7 @@
 # proved and compiled with: rattle-kit-13f logic dac8208d650f15bf
 # proved for: aarch64-unknown-linux-gnu
 # crates: textwrap_text textwrap_base textwrap_words textwrap_layout textwrap_lines textwrap textwrap_unicode textwrap_styles textwrap_display textwrap_trie textwrap_patterns textwrap_hyphens textwrap_marks textwrap_marked textwrap_plain textwrap_program unified_diff text_filters filter_programs fill
-# sum of their sources: afe069f774c4f4e894203ad534e37e53a5425498512bdfeffa983ca697aeeda2
+# sum of their sources: 921ffe47c6f3a087052b70d49dab7c44489511815a10bd1036ab23ccd6f9ece8
 # sum of the lines below: acf821fa55bb242107cf0f265f15d2f5fe71a666da8c84d1297a0d14ae7e6b4d
 	.section	".text.core::str::utf8::from_utf8","ax",@progbits
 	.p2align	2

@@ -4,7 +4,7 @@
 # proved and compiled with: rattle-kit-13f logic dac8208d650f15bf
 # proved for: x86_64-unknown-linux-gnu
 # crates: textwrap_text textwrap_base textwrap_words textwrap_layout textwrap_lines textwrap textwrap_unicode textwrap_styles textwrap_display textwrap_trie textwrap_patterns textwrap_hyphens textwrap_marks textwrap_marked textwrap_plain textwrap_program unified_diff text_filters filter_programs reflow
-# sum of their sources: a41222f0d7eca00fe51aee85b8cd97be9d655be4c03b8f4cb885f6372ed2b32b
+# sum of their sources: 35ba3686ce5a2cacbabdc8cde4352503260a3d813d970f9334bec702ed6d027b
 # sum of the lines below: d6fba4d92a235dc7d0222d8c6026ad8f6f2ac6965c952cb8852d2fb004b4ea27
 	.section	.rodata.cst16,"aM",@progbits,16
 	.p2align	4, 0x0

@@ -4,7 +4,7 @@
 # proved and compiled with: rattle-kit-13f logic dac8208d650f15bf
 # proved for: x86_64-unknown-linux-gnu
 # crates: textwrap_text textwrap_base textwrap_words textwrap_layout textwrap_lines textwrap textwrap_unicode textwrap_styles textwrap_display textwrap_trie textwrap_patterns textwrap_hyphens textwrap_marks textwrap_marked textwrap_plain textwrap_program unified_diff text_filters filter_programs fill
-# sum of their sources: afe069f774c4f4e894203ad534e37e53a5425498512bdfeffa983ca697aeeda2
+# sum of their sources: 921ffe47c6f3a087052b70d49dab7c44489511815a10bd1036ab23ccd6f9ece8
 # sum of the lines below: b99d32f0fd9bbdf38a457de4e2c6f88e63066cc2e25aba5e5c0f0dcc956c47b6
 	.section	.rodata.cst16,"aM",@progbits,16
 	.p2align	4, 0x0

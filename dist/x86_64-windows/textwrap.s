@@ -4,7 +4,7 @@
 # proved and compiled with: rattle-kit-13f logic dac8208d650f15bf
 # made, unproved for its own target, of the module that was proved for: x86_64-unknown-linux-gnu
 # crates: textwrap_text textwrap_base textwrap_words textwrap_layout textwrap_lines textwrap textwrap_unicode textwrap_styles textwrap_display textwrap_trie textwrap_patterns textwrap_hyphens textwrap_marks textwrap_marked textwrap_plain textwrap_program unified_diff text_filters filter_programs fill
-# sum of their sources: afe069f774c4f4e894203ad534e37e53a5425498512bdfeffa983ca697aeeda2
+# sum of their sources: 921ffe47c6f3a087052b70d49dab7c44489511815a10bd1036ab23ccd6f9ece8
 # sum of the lines below: 4e2eafa95f5d8de350e4def240a9bc1d139d5df8d9c5007c0ea4f1cf3cec3865
 	.def	proved.1.fill_main_start;
 	.scl	3;

@@ -157,16 +157,27 @@ fn assert_answer(rt: &impl Abort, answer: &str, left: &Left, (message, status): 
     }
 }
 
+/// Asserts what the answer is, and what is said where it cannot be written.
+fn assert_shown(
+    rt: &(impl Abort + AllocGlobal),
+    (words, answer): (&[&str], &str),
+    &(fault, message, status): &(SinkFault, &[u8], u8),
+) {
+    let start = Start {
+        words,
+        input: b"one two",
+        files: &[],
+        faults: (FeedFault::Nothing, fault, SinkFault::Nothing),
+    };
+    assert_answer(rt, answer, &run(rt, answer, start), (message, status));
+}
+
 /// The answer goes to the output, and if that fails, a message says so.
 #[test]
 fn help_and_version_are_shown(rt: HostRuntime) {
-    for &(words, answer) in SHOWN {
-        for &(fault, message, status) in SHOWING_FAULTS {
-            let start = Start {
-                faults: (FeedFault::Nothing, fault, SinkFault::Nothing),
-                ..sound_start(words, b"one two", &[])
-            };
-            assert_answer(&rt, answer, &run(&rt, answer, start), (message, status));
+    for &shown in SHOWN {
+        for faulty in SHOWING_FAULTS {
+            assert_shown(&rt, shown, faulty);
         }
     }
 }

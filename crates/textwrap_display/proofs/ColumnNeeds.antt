@@ -1,11 +1,10 @@
 -- What columns need: the widest of some texts, part by part, and the texts of a column, row by row.
-use Rattle.textwrap_text.proofs.Common.{◌≡◌, ◌∙◌, ℕ, List, [], ◌∷◌, ◌++◌, ap, arith, get_or}
-use Rattle.textwrap_text.proofs.Common.{map, max}
-use Rattle.std.specs.List.{flat_map, fold}
-use Rattle.std.proofs.lemmas.List.Sums.{fold-append}
-use Rattle.textwrap_display.proofs.TableGroups.{IsFirstGroup, groups-more}
+use Rattle.std.{proofs.lemmas.List.Sums.fold-append, specs.List.flat_map, specs.List.fold}
 use Rattle.textwrap_display.proofs.Common.{text_width}
+use Rattle.textwrap_display.proofs.TableGroups.{IsFirstGroup, groups-more}
 use Rattle.textwrap_display.specs.Needs.{column_texts, widest}
+use Rattle.textwrap_text.proofs.Common.{List, [], ap, arith, get_or, map, max, rules, ℕ, ◌++◌, ◌∙◌}
+use Rattle.textwrap_text.proofs.Common.{◌∷◌, ◌≡◌}
 
 -- what is wider already stays
 widest-from : (most : ℕ) (texts : List (List ℕ))
@@ -52,7 +51,4 @@ module _ (parts : List ℕ → List (List ℕ)) (columns at most : ℕ) where
       → max (max most (widest (parts (get_or row at []))))
       (widest (flat_map parts (column_texts columns rest at)))
       ≡ max most (widest (flat_map parts (column_texts columns cells at)))
-  widest-more cells row rest first =
-      let others = flat_map parts (column_texts columns rest at) in
-      rw (column_texts-more columns at cells row rest first)
-      (omega (arith, widest-append (parts (get_or row at [])) others))
+  widest-more cells row rest first = search (rules, arith, column_texts-more, widest-append)

@@ -1,22 +1,22 @@
 -- Words that are cut between their characters: the reader that finds where.
-use Rattle.textwrap_text.proofs.Common.{IsCharBoundary, encode_utf8_all, encodes-chars, sum_by-cons}
-use Rattle.textwrap_text.proofs.Common.{cases_Bool, false≢true, take_while, text_width, units_width}
-use Rattle.textwrap_text.proofs.Common.{IsUtf8, cases_lt, chars-nil, columns, next_of, visible_in}
-use Rattle.textwrap_text.proofs.Common.{arith, false, get_or, length, ne_eqb, shows, subst, sum_by}
-use Rattle.textwrap_text.proofs.Common.{Bool, List, drop, eqb, inl, inr, refl, take, true, [], ◌++◌}
-use Rattle.textwrap_text.proofs.Common.{ap, not, sym, ℕ, ◌+◌, ◌<◌, ◌∙◌, ◌∷◌, ◌≡◌, ◌≢◌, ◌≤◌, ◌⊎◌}
-use Rattle.std.specs.Prelude.{chars}
-use Rattle.std.proofs.lemmas.List.Sums.{take_while-cons}
+use Rattle.std.{proofs.lemmas.List.Sums.take_while-cons, specs.Prelude.chars}
 use Rattle.textwrap_display.proofs.Common.{State, added, encode_utf8, is_blank, units}
+use Rattle.textwrap_display.proofs.KeptWords.{IsReadTo, read-le, read-more, read-width}
+use Rattle.textwrap_display.proofs.KeptWords.{read_to-start, read_to-step}
+use Rattle.textwrap_display.proofs.WholeBeginnings.{read-whole, whole-read}
 use Rattle.textwrap_display.specs.Shortening.{CanCut, IsCut, word_width}
+use Rattle.textwrap_text.proofs.Common.{Bool, IsCharBoundary, IsUtf8, List, [], ap, arith}
+use Rattle.textwrap_text.proofs.Common.{cases_Bool, cases_lt, chars-nil, columns, drop}
+use Rattle.textwrap_text.proofs.Common.{encode_utf8_all, encodes-chars, eqb, false, false≢true}
+use Rattle.textwrap_text.proofs.Common.{get_or, inl, inr, length, ne_eqb, next_of, not, refl, rules}
+use Rattle.textwrap_text.proofs.Common.{shows, subst, sum_by, sum_by-cons, sym, take, take_while}
+use Rattle.textwrap_text.proofs.Common.{text_width, true, units_width, visible_in, ℕ, ◌++◌, ◌+◌}
+use Rattle.textwrap_text.proofs.Common.{◌<◌, ◌∙◌, ◌∷◌, ◌≡◌, ◌≢◌, ◌≤◌, ◌⊎◌}
+use Rattle.textwrap_text.proofs.Units.Reading.{read-ahead, visible-step}
 use Rattle.textwrap_text.specs.Characters.{characters_from, characters_of}
 use Rattle.textwrap_text.specs.declared.characters.Character.{Character}
-use Rattle.textwrap_text.proofs.Units.Reading.{read-ahead, visible-step}
+use Rattle.textwrap_text.specs.declared.escapes.State.TheVariants.{Text}
 use Rattle.textwrap_words.proofs.Word.Ahead.{character-within}
-use Rattle.textwrap_text.specs.declared.escapes.State.TheVariants.{Command, Control, Escape, Text}
-use Rattle.textwrap_display.proofs.KeptWords.{read_to-start, read_to-step, IsReadTo}
-use Rattle.textwrap_display.proofs.KeptWords.{read-width, read-more, read-le}
-use Rattle.textwrap_display.proofs.WholeBeginnings.{read-whole, whole-read}
 
 -- ---- the columns of the word that visible characters begin with
 
@@ -44,20 +44,13 @@ module _ (s : State) (c : ℕ) (cs : List ℕ) where
 -- what is visible stands outside of sequences
 shown-outside : (s : State) (c : ℕ) → shows s c ≡ true → s ≡ Text
 shown-outside Text c shown = refl
-shown-outside Escape c shown = absurd (false≢true shown)
-shown-outside Control c shown = absurd (false≢true shown)
-shown-outside (Command last) c shown = absurd (false≢true shown)
+shown-outside _ c shown = absurd (false≢true shown)
 
 pub no_columns : text_width [] ≡ 0
 no_columns = ap (λ cs. sum_by columns (visible_in Text cs)) chars-nil
 
 shown-plain : (s : State) (c : ℕ) → shows s c ≡ true → eqb c 27 ≡ false
-shown-plain s c shown =
-    let plain = rw (shown-outside s c shown) at shown in
-    elim (cases_Bool (eqb c 27)) [
-      | inl esc ↦ absurd (false≢true (rw esc at plain))
-      | inr other ↦ other
-    ]
+shown-plain s c shown = search (rules, arith, shown-outside)
 
 -- the first of these units takes columns where the first character is visible and does
 module _ (c : ℕ) (cs : List ℕ) where
@@ -164,15 +157,7 @@ module _ {left : ℕ} {text : List ℕ} (utf8 : IsUtf8 text) {c : Character} {ah
       ∙ ap units (read-ahead t.read.read c.ch t.after t.is)
 
   within : (m : ℕ) → m < end_of → IsCharBoundary text m → m ≤ c.at
-  within m before cut_at = elim (cases_lt c.at m) [
-    | inl inside ↦ absurd (omega (
-      arith,
-      before,
-      character-within text utf8 c.at c.ch t.after t.read.read.boundary (t.read.read.place ∙ t.is) m
-          inside cut_at,
-    ))
-    | inr up ↦ up
-  ]
+  within m before cut_at = search (rules, arith, cases_lt, character-within)
 
   -- where a word may be cut directly before this character, it is visible and has columns
   before_it : (m : ℕ) → m ≡ c.at → CanCut text 0 m → (shows t.state c.ch ≡ true)
@@ -229,17 +214,7 @@ module _ {left : ℕ} {text : List ℕ} (utf8 : IsUtf8 text) {c : Character} {ah
   pub read_word-next : (more new : ℕ) → more ≡ taken + added t.state c.ch
       → word_width text ≡ more + word_columns (visible_in (next_of t.state c.ch) (chars t.after))
       → IsFoundCut left text end_of new → IsReadWord left text ahead more new
-  read_word-next more new are word found = record {
-    state = next_of t.state c.ch;
-    place = end_of;
-    rest = t.after;
-    after_blank = eqb c.ch 32;
-    read = subst (λ n. IsReadTo text end_of t.after (next_of t.state c.ch) n (eqb c.ch 32))
-        (sym are) past;
-    are = t.are;
-    word = word;
-    found = found;
-  }
+  read_word-next more new are word found = search (rules, arith, past)
 
   -- a place behind it has no room, where the columns up to there have none
   pub found-all : left < taken + added t.state c.ch → (n : ℕ) → IsFoundCut left text end_of n
@@ -272,11 +247,7 @@ module _ {left : ℕ} {text : List ℕ} (utf8 : IsUtf8 text) {c : Character} {ah
   turn-sum : c.is_visible ≡ true → c.ch ≢ 32 → (taken + added t.state c.ch ≡ taken + columns c.ch)
       × (word_width text ≡ taken + columns c.ch
       + word_columns (visible_in (next_of t.state c.ch) (chars t.after)))
-  turn-sum is other =
-      let shown = sym t.shown ∙ is in (
-        rw shown refl,
-        omega (arith, t.word, word-more t.state c.ch (chars t.after) shown (ne_eqb c.ch 32 other)),
-      )
+  turn-sum is other = search (rules, arith, word-more, ne_eqb)
 
   pub turn-word : (more new : ℕ) → c.is_visible ≡ true → c.ch ≢ 32 → more ≡ taken + columns c.ch
       → IsFoundCut left text end_of new → IsReadWord left text ahead more new

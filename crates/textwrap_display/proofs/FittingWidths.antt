@@ -1,20 +1,15 @@
 -- Widths that fit: shares in proportion, what rounding leaves over, and that they add up.
-use Rattle.textwrap_text.proofs.Common.{if◌then◌else◌, cases_eq, cases_lt, eq-eqb, le-leb, length}
-use Rattle.textwrap_text.proofs.Common.{ne_eqb, sum_by, sum_by-cons, ⊎_elim, arith, refl, subst, List}
-use Rattle.textwrap_text.proofs.Common.{min, ◌*◌, ◌+◌, ◌-◌, ◌/◌, ◌<◌, ◌==◌, ◌∷◌, ◌≡◌, ◌≢◌}
-use Rattle.textwrap_text.proofs.Common.{◌≤◌, [], ℕ}
 use Rattle.std.proofs.Common.{sum}
-use Rattle.std.proofs.lemmas.Bool.{lt-leb}
-use Rattle.std.specs.Prelude.{nat_le}
-use Rattle.std.specs.List.{AllZip}
 use Rattle.std.proofs.Math.Nat.{div-lt_iff_lt-mul, le_of_mul-le-mul_left, lt-div-mul-add, mul-add}
 use Rattle.std.proofs.Math.Nat.{mul-div-le, mul-le-mul_right, mul-lt-mul_of_pos_left, mul_comm}
-use Rattle.std.proofs.Math.Nat.{zero-div}
+use Rattle.std.{proofs.Math.Nat.zero-div, specs.List.AllZip, specs.Prelude.nat_le}
 use Rattle.textwrap_display.specs.Fitting.{fitting_widths, lacking, rounded_up, shared, widest_line}
 use Rattle.textwrap_display.specs.Fitting.{widest_word}
 use Rattle.textwrap_display.specs.Sharing.{Shares, rounded_down, sure, weight}
-use Rattle.textwrap_display.specs.declared.fitting.Sharing.{Sharing}
-use Rattle.textwrap_display.specs.declared.needs.Need.{Need}
+use Rattle.textwrap_display.specs.declared.{fitting.Sharing.Sharing, needs.Need.Need}
+use Rattle.textwrap_text.proofs.Common.{List, [], arith, cases_lt, if◌then◌else◌, length, min, refl}
+use Rattle.textwrap_text.proofs.Common.{rules, subst, sum_by, sum_by-cons, ℕ, ⊎_elim, ◌*◌, ◌+◌, ◌-◌}
+use Rattle.textwrap_text.proofs.Common.{◌/◌, ◌<◌, ◌==◌, ◌∷◌, ◌≡◌, ◌≤◌}
 
 -- ---- shares in proportion
 
@@ -110,14 +105,10 @@ shared-sum sure weight total needs room some =
 
 module _ (P : List ℕ → Type 0) {x y : List ℕ} where
   pub where_least : (a b : ℕ) → (a ≤ b → P x) → (b < a → P y) → P (if nat_le a b then x else y)
-  where_least a b at_most past =
-      ⊎_elim (λ (less : b < a). rw (lt-leb a b less) (past less))
-      (λ (most : a ≤ b). rw (le-leb a b most) (at_most most)) (cases_lt b a)
+  where_least a b at_most past = search (rules, arith)
 
   pub where_zero : (a : ℕ) → (a ≡ 0 → P x) → (0 < a → P y) → P (if a == 0 then x else y)
-  where_zero a none some =
-      ⊎_elim (λ (is : a ≡ 0). rw (eq-eqb a 0 is) (none is))
-      (λ (not : a ≢ 0). rw (ne_eqb a 0 not) (some (omega arith))) (cases_eq a 0)
+  where_zero a none some = search (rules, arith)
 
 module _ (total : ℕ) (needs : List Need) (P : List ℕ → Type 0) where
   pub fitting-cases : (sum_by widest_line needs ≤ total → sum_by widest_line needs ≡ 0
@@ -172,22 +163,13 @@ module _ (width weight : Need → ℕ) (R : Need → ℕ → Type 0) where
       → AllZip R needs (rounded_up width weight over needs)
   rounded-all over [] each = tt
   rounded-all over (need ∷ needs) each =
-      let one : ℕ = min over (min (weight need) 1) in (
-        each need one (omega arith) (omega arith),
-        rounded-all (over - one) needs (λ next least few one. each next least (omega arith) one),
-      )
+      search (rules, arith, rounded-all (over - min over (min (weight need) 1)) needs)
 
 -- a share of less than all weights together is less than its weight
 pub share-less : (left weight weights one : ℕ) → left < weights → one ≤ min weight 1
     → left * weight / weights + one ≤ weight
 share-less left weight weights one less at =
-    ⊎_elim (λ (none : weight < 1).
-    let is : weight ≡ 0 = omega arith in
-    let no : left * 0 / weights ≡ 0 = omega (arith, zero-div weights) in rw is (omega arith))
-    (λ (some : 1 ≤ weight).
-    let small : left * weight / weights < weight =
-    (div-lt_iff_lt-mul (omega arith)).1 (rw mul_comm (mul-lt-mul_of_pos_left less some)) in
-    omega arith) (cases_lt weight 1)
+    search (rules, arith, cases_lt, zero-div, div-lt_iff_lt-mul, mul_comm, mul-lt-mul_of_pos_left)
 
 module _ (sure weight : Need → ℕ) (R : Need → ℕ → Type 0) (total : ℕ) (needs : List Need) where
   pub shared-over : ((need : Need) (more : ℕ) → R need (sure need + more))
@@ -204,13 +186,7 @@ module _ (sure weight : Need → ℕ) (R : Need → ℕ → Type 0) (total : ℕ
   pub shared-under : total - sum_by sure needs < sum_by weight needs
       → ((need : Need) (width : ℕ) → width ≤ sure need + weight need → R need width)
       → AllZip R needs (shared sure weight total needs)
-  shared-under less each =
-      let left : ℕ = total - sum_by sure needs in
-      let share : Need → ℕ = λ (need : Need). left * weight need / sum_by weight needs in
-      let width : Need → ℕ = λ (need : Need). sure need + share need in
-      rounded-all width weight R (total - sum_by width needs) needs
-      (λ need one over at. each need (width need + one)
-      (omega (arith, share-less left (weight need) (sum_by weight needs) one less at)))
+  shared-under less each = search (rules, arith, rounded-all, share-less)
 
   pub shared-exact : total ≡ sum_by sure needs → ((need : Need) → R need (sure need))
       → AllZip R needs (shared sure weight total needs)

@@ -1,25 +1,24 @@
 -- A text that is filled with its lines justified, one paragraph after another.
-use Rattle.textwrap_text.proofs.Common.{length-append, paragraphs_of, append_assoc, ending_bytes, ℕ}
-use Rattle.textwrap_text.proofs.Common.{append-nil, cases_Bool, length-map, text_width, join_with}
-use Rattle.textwrap_text.proofs.Common.{drop_all, flat_map, take_all, drop_at, take_at, length, map}
-use Rattle.textwrap_text.proofs.Common.{nat_lt, rules, arith, false, subst, Bool, List, cond, drop}
-use Rattle.textwrap_text.proofs.Common.{refl, take, true, ◌++◌, ◌||◌, suc, sym, ◌+◌, ◌-◌, ◌∙◌, ◌∷◌}
-use Rattle.textwrap_text.proofs.Common.{◌≡◌, [], ap}
-use Rattle.textwrap_display.proofs.Common.{line_bytes-line_view, IsJustifiedText, cow_str_bytes}
-use Rattle.textwrap_display.proofs.Common.{line_bytes, justified, line_view, WordText, CowStr, Adds}
-use Rattle.textwrap_layout.proofs.Common.{AreParagraphParts, settings_view, parts_from, AreGroups}
-use Rattle.textwrap_layout.proofs.Common.{DividesAs, DividesBy, LineParts, indent_of, line_from}
-use Rattle.textwrap_layout.proofs.Common.{HasParts, Settings, parts_of}
-use Rattle.textwrap_display.specs.JustifiedText.{all_but_last, justified_after_indents}
-use Rattle.textwrap_display.specs.JustifiedText.{justified_after}
-use Rattle.textwrap_display.specs.JustifiedText.{justified_lines, justified_line, joined_on}
-use Rattle.textwrap_text.proofs.Lists.Parts.{starts_with-true}
-use Rattle.textwrap_text.proofs.Numbers.{is_later-or, some_later, or_false}
-use Rattle.textwrap_words.proofs.Common.{Algorithm, Splitter}
-use Rattle.textwrap_layout.proofs.Text.Sinks.{assembled-bytes}
-use Rattle.textwrap_layout.specs.declared.options.Options.{Options}
-use Rattle.textwrap_layout.proofs.Paragraph.Pieces.{divides}
 use Rattle.std.proofs.lemmas.List.{drop-map}
+use Rattle.textwrap_display.proofs.Common.{Adds, CowStr, IsJustifiedText, WordText, cow_str_bytes}
+use Rattle.textwrap_display.proofs.Common.{justified, line_bytes, line_bytes-line_view, line_view}
+use Rattle.textwrap_display.specs.JustifiedText.{all_but_last, joined_on, justified_after}
+use Rattle.textwrap_display.specs.JustifiedText.{justified_after_indents, justified_line}
+use Rattle.textwrap_display.specs.JustifiedText.{justified_lines}
+use Rattle.textwrap_layout.proofs.Common.{AreGroups, AreParagraphParts, DividesAs, DividesBy}
+use Rattle.textwrap_layout.proofs.Common.{HasParts, LineParts, Settings, indent_of, line_from}
+use Rattle.textwrap_layout.proofs.Common.{parts_from, parts_of, settings_view}
+use Rattle.textwrap_layout.proofs.{Paragraph.Pieces.divides, Text.Sinks.assembled-bytes}
+use Rattle.textwrap_layout.specs.declared.options.Options.{Options}
+use Rattle.textwrap_text.proofs.Common.{Bool, List, [], ap, append-nil, append_assoc, arith}
+use Rattle.textwrap_text.proofs.Common.{cases_Bool, cond, drop, drop_all, drop_at, ending_bytes}
+use Rattle.textwrap_text.proofs.Common.{false, flat_map, join_with, length, length-append}
+use Rattle.textwrap_text.proofs.Common.{length-map, map, nat_lt, paragraphs_of, refl, rules, subst}
+use Rattle.textwrap_text.proofs.Common.{suc, sym, take, take_all, take_at, text_width, true, ℕ}
+use Rattle.textwrap_text.proofs.Common.{◌++◌, ◌+◌, ◌-◌, ◌||◌, ◌∙◌, ◌∷◌, ◌≡◌}
+use Rattle.textwrap_text.proofs.Lists.Parts.{starts_with-true}
+use Rattle.textwrap_text.proofs.Numbers.{is_later-or, or_false, some_later}
+use Rattle.textwrap_words.proofs.Common.{Algorithm, Splitter}
 
 -- ---- worked rows on lists of which all but the last are changed
 
@@ -82,9 +81,7 @@ line-justified : (settings : Settings) (is_later : Bool) (words : List WordText)
     ≡ justified_line settings.width (parts_of settings is_later words)
 line-justified settings is_later [] = grind (arith, take_all, drop_all, empty-stays)
 line-justified settings is_later (w ∷ words) =
-    let p = parts_of settings is_later (w ∷ words) in
-    after-front settings.width p.indent (line_bytes (line_from p)) (p.slice ++ p.penalty)
-    (sym (assembled-bytes p.indent p.slice p.penalty) ∙ append_assoc p.indent p.slice p.penalty)
+    search (rules, arith, after-front, assembled-bytes, append_assoc)
 
 -- ---- the lines of a paragraph
 
@@ -140,13 +137,7 @@ module _ (settings : Settings) where
       → filled ++ rows is_later (parts_from settings is_later division ∷ groups)
       ≡ new ++ rows then_later groups
   rows-more filled new is_later then_later division groups is later =
-      grind (
-        arith,
-        append_assoc,
-        joined_on-append,
-        justified-length,
-        parts-justified settings is_later division,
-      )
+      grind (arith, append_assoc, joined_on-append, justified-length, parts-justified)
 
 -- ---- a text that is filled with its lines justified, one paragraph after another
 

@@ -1,23 +1,23 @@
 -- The longest beginning of a line that may be kept, and the first lines as they are.
-use Rattle.textwrap_text.proofs.Common.{append_assoc, cases_Bool, length-take-le, take-append-drop}
-use Rattle.textwrap_text.proofs.Common.{drop_more, length-map, map-append, string_bytes, text_width}
-use Rattle.textwrap_text.proofs.Common.{Bool, IsUtf8, cases_lt, eqb-true, get_or, length, take_more}
-use Rattle.textwrap_text.proofs.Common.{List, arith, drop, false, refl, rules, subst, take, true, ℕ}
-use Rattle.textwrap_text.proofs.Common.{Bor, eqb, inl, inr, map, sym, ◌++◌, ◌+◌, ◌<◌, ◌∙◌, ◌∷◌, ◌≡◌}
-use Rattle.textwrap_text.proofs.Common.{ap, [], ◌≢◌, ◌≤◌, ◌⊎◌}
-use Rattle.textwrap_display.proofs.Common.{line_bytes-line_view, cow_str_bytes, AreShortened, Built}
-use Rattle.textwrap_display.proofs.Common.{IsShortened, encode_utf8, line_bytes, line_view, can_end}
-use Rattle.textwrap_display.proofs.Common.{read-all, texts_of, CowStr, String, Slice, State, Line}
+use Rattle.std.specs.declared.borrow.CowStr.TheVariants.{Borrowed, Owned}
+use Rattle.textwrap_display.proofs.Common.{AreShortened, Built, CowStr, IsShortened, Line, Slice}
+use Rattle.textwrap_display.proofs.Common.{State, String, can_end, cow_str_bytes, encode_utf8}
+use Rattle.textwrap_display.proofs.Common.{line_bytes, line_bytes-line_view, line_view, read-all}
+use Rattle.textwrap_display.proofs.{Common.texts_of, KeptWords.IsReadTo, KeptWords.is_after_blank}
+use Rattle.textwrap_display.proofs.KeptWords.{may_end-blanks, may_end-boundary, may_end-here}
+use Rattle.textwrap_display.proofs.KeptWords.{may_end-other, may_end-past, may_end-whole}
+use Rattle.textwrap_display.proofs.KeptWords.{may_end-within, read-more, read-width}
+use Rattle.textwrap_display.proofs.WholeBeginnings.{read-whole, whole-read}
 use Rattle.textwrap_display.specs.Shortening.{CanEnd, IsKeptBeginning}
 use Rattle.textwrap_layout.specs.Text.{HasWholeSequences}
-use Rattle.textwrap_text.specs.declared.escapes.State.TheVariants.{Text}
-use Rattle.textwrap_display.proofs.WholeBeginnings.{read-whole, whole-read}
 use Rattle.textwrap_styles.proofs.SequenceTexts.{nil-whole}
-use Rattle.textwrap_display.proofs.KeptWords.{may_end-boundary, is_after_blank, may_end-blanks}
-use Rattle.textwrap_display.proofs.KeptWords.{may_end-within, may_end-other, may_end-whole}
-use Rattle.textwrap_display.proofs.KeptWords.{may_end-here, may_end-past, read-width, read-more}
-use Rattle.textwrap_display.proofs.KeptWords.{IsReadTo}
-use Rattle.std.specs.declared.borrow.CowStr.TheVariants.{Borrowed, Owned}
+use Rattle.textwrap_text.proofs.Common.{Bool, Bor, IsUtf8, List, [], ap, append_assoc, arith}
+use Rattle.textwrap_text.proofs.Common.{cases_Bool, cases_lt, drop, drop_more, eqb, eqb-true, false}
+use Rattle.textwrap_text.proofs.Common.{get_or, inl, inr, length, length-map, length-take-le, map}
+use Rattle.textwrap_text.proofs.Common.{map-append, refl, rules, string_bytes, subst, sym, take}
+use Rattle.textwrap_text.proofs.Common.{take-append-drop, take_more, text_width, true, ℕ, ◌++◌, ◌+◌}
+use Rattle.textwrap_text.proofs.Common.{◌<◌, ◌∙◌, ◌∷◌, ◌≡◌, ◌≢◌, ◌≤◌, ◌⊎◌}
+use Rattle.textwrap_text.specs.declared.escapes.State.TheVariants.{Text}
 
 -- ---- what the reader has found of a line up to a place: the longest beginning that may be kept
 
@@ -43,10 +43,10 @@ found-none room line place start = record {
 }
 
 -- what is found at the end is kept, where this is the room beside the placeholder
-pub found-kept : (room width : ℕ) (placeholder line : List ℕ) (n : ℕ)
+pub found-kept : {room width : ℕ} {placeholder line : List ℕ} {n : ℕ}
     → room + text_width placeholder ≡ width → IsFound room line (length line + 1) n
     → IsKeptBeginning width placeholder line n
-found-kept room width placeholder line n is h = record {
+found-kept {line = line} {n = n} is h = record {
   within = may_end-within line n h.ends.0;
   ends = h.ends;
   room = elim h.fits [ inl none ↦ inl none | inr has ↦ inr (omega (arith, has, is)) ];
@@ -77,12 +77,7 @@ module _ {room : ℕ} {line : List ℕ} (utf8 : IsUtf8 line) {place : ℕ} {rest
 
     -- in the character no beginning ends
     outside : (m : ℕ) → m < end → CanEnd line m → m ≤ place
-    outside m before may = elim (cases_lt place m) [
-      | inl inside ↦
-          let end_of = may_end-past line utf8 place c after read.read.boundary whole m inside may.0 in
-          absurd (omega (arith, before, past, end_of))
-      | inr up ↦ up
-    ]
+    outside m before may = search (rules, arith, cases_lt, may_end-past, whole)
 
     -- one may end before it
     pub found-here : taken ≤ room → c ≡ 32 → after_blank ≡ false → state ≡ Text
@@ -130,7 +125,7 @@ module _ {room : ℕ} {line : List ℕ} (utf8 : IsUtf8 line) {place : ℕ} {rest
     }
 
     at_last : (m : ℕ) → place ≤ m → m < length line + 1 → m ≡ length line
-    at_last m later before = omega (arith, later, before, at_end)
+    at_last m later before = search (rules, arith, at_end)
 
     -- it ends in a blank
     pub found-blank : after_blank ≡ true → IsFound room line (length line + 1) kept

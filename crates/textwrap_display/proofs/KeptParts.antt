@@ -1,32 +1,29 @@
 -- What is kept of a line: whole words, and of the next word, which is a text by itself, what has
 -- room.
-use Rattle.textwrap_text.proofs.Common.{IsCharBoundary-from_drop, IsCharBoundary-from_take, IsUtf8}
-use Rattle.textwrap_text.proofs.Common.{IsCharBoundary, IsUtf8-from_ascii, arith, length-prefix_len}
-use Rattle.textwrap_text.proofs.Common.{IsUtf8-drop, IsUtf8-take, length, length-drop, units_width}
-use Rattle.textwrap_text.proofs.Common.{All-append, and_parts, cases_Bool, drop-drop, text_width, ℕ}
-use Rattle.textwrap_text.proofs.Common.{Bool, List, cases_lt, ltb-false, ltb-true, subst, take-add}
-use Rattle.textwrap_text.proofs.Common.{All, drop, inl, inr, refl, sym, take, true, ◌&&◌, ◌++◌, ◌+◌}
-use Rattle.textwrap_text.proofs.Common.{ap, [], ◌-◌, ◌<◌, ◌∙◌, ◌≡◌, ◌≢◌, ◌≤◌, ◌⊎◌}
+use Rattle.std.proofs.lemmas.{List.Sums.prefix_len-le-length, Str.IsCharBoundary-from_rest}
 use Rattle.std.specs.Prelude.{chars}
-use Rattle.std.proofs.lemmas.Str.{IsCharBoundary-from_rest}
-use Rattle.textwrap_display.proofs.Common.{text_width-append, is_blank, IsWhole}
-use Rattle.textwrap_display.proofs.Common.{indent_len, IsWholeText, units}
-use Rattle.textwrap_display.specs.Shortening.{is_too_wide, CanCut, IsCut, IsKeptLength}
-use Rattle.textwrap_display.specs.Shortening.{IsKeptBeginning, LeavesRoom, word_width}
-use Rattle.textwrap_layout.specs.Text.{HasWholeSequences}
-use Rattle.textwrap_text.proofs.Lists.Parts.{all-right}
-use Rattle.textwrap_lines.proofs.Text.Printed.{blanks-printable, blanks-whole}
-use Rattle.textwrap_text.proofs.Units.Reading.{printable-ascii}
-use Rattle.std.proofs.lemmas.List.Sums.{prefix_len-le-length}
-use Rattle.textwrap_display.proofs.KeptWords.{may_end-boundary}
-use Rattle.textwrap_display.proofs.KeptLines.{none-kept}
-use Rattle.textwrap_styles.proofs.SequenceTexts.{text_units-append, whole_text-append}
+use Rattle.textwrap_display.proofs.Common.{IsWhole, IsWholeText, indent_len, is_blank}
+use Rattle.textwrap_display.proofs.{Common.text_width-append, Common.units, CutWords.no_columns}
+use Rattle.textwrap_display.proofs.{KeptLines.none-kept, KeptWords.may_end-boundary}
 use Rattle.textwrap_display.proofs.Widths.{indent-blanks}
-use Rattle.textwrap_display.proofs.CutWords.{no_columns}
+use Rattle.textwrap_display.specs.Shortening.{CanCut, IsCut, IsKeptBeginning, IsKeptLength}
+use Rattle.textwrap_display.specs.Shortening.{LeavesRoom, is_too_wide, word_width}
+use Rattle.textwrap_layout.specs.Text.{HasWholeSequences}
+use Rattle.textwrap_lines.proofs.Text.Printed.{blanks-printable, blanks-whole}
+use Rattle.textwrap_styles.proofs.SequenceTexts.{text_units-append, whole_text-append}
+use Rattle.textwrap_text.proofs.Common.{All, All-append, Bool, IsCharBoundary}
+use Rattle.textwrap_text.proofs.Common.{IsCharBoundary-from_drop, IsCharBoundary-from_take, IsUtf8}
+use Rattle.textwrap_text.proofs.Common.{IsUtf8-drop, IsUtf8-from_ascii, IsUtf8-take, List, []}
+use Rattle.textwrap_text.proofs.Common.{and_parts, ap, arith, cases_lt, drop, drop-drop, inl, inr}
+use Rattle.textwrap_text.proofs.Common.{length, length-drop, length-prefix_len, ltb-false, ltb-true}
+use Rattle.textwrap_text.proofs.Common.{refl, rules, subst, sym, take, take-add, text_width, true}
+use Rattle.textwrap_text.proofs.Common.{units_width, ℕ, ◌&&◌, ◌++◌, ◌+◌, ◌-◌, ◌<◌, ◌∙◌, ◌≡◌, ◌≢◌}
+use Rattle.textwrap_text.proofs.{Common.◌≤◌, Common.◌⊎◌, Lists.Parts.all-right}
+use Rattle.textwrap_text.proofs.Units.Reading.{printable-ascii}
 
 -- ---- a word in a line, as a text by itself
 
-module _ (width : ℕ) (placeholder line : List ℕ) (utf8 : IsUtf8 line) (words start : ℕ)
+module _ {width : ℕ} {placeholder line : List ℕ} (utf8 : IsUtf8 line) {words start : ℕ}
     (kept : IsKeptBeginning width placeholder line words)
     (next : start ≡ words + indent_len (drop words line)) where
   abbrev front : List ℕ
@@ -92,13 +89,8 @@ module _ (width : ℕ) (placeholder line : List ℕ) (utf8 : IsUtf8 line) (words
   rest-of k = ap (λ n. drop n line) (omega arith) ∙ sym (drop-drop k start line)
 
   to-line : (k : ℕ) → CanCut word 0 k → CanCut line start (start + k)
-  to-line k may = record {
-    after = omega arith;
-    behind = omega (arith, may.behind, longer-width k);
-    place = IsCharBoundary-from_rest line start k start-within may.place;
-    before = omega (arith, may.before, ap (λ l. units_width (take 1 (units (chars l)))) (rest-of k));
-    whole = longer-whole k may.whole;
-  }
+  to-line k may =
+      search (rules, arith, longer-width, IsCharBoundary-from_rest, start-within, rest-of, longer-whole)
 
   to-word : (k : ℕ) → CanCut line start (start + k) → CanCut word 0 k
   to-word k may =
@@ -115,13 +107,10 @@ module _ (width : ℕ) (placeholder line : List ℕ) (utf8 : IsUtf8 line) (words
   -- no place has room if the blanks before the word have none
   pub cut-none : width < text_width front + text_width placeholder
       → IsCut width placeholder line words start words
-  cut-none over = record {
-    cut = inl refl;
-    latest = λ m may room. absurd (omega (arith, room, over, may.behind));
-  }
+  cut-none over = search (rules, arith)
 
   -- what is kept of the word as a text is kept of it in the line
-  module _ (left : ℕ) (fits : left + text_width front + text_width placeholder ≡ width) (k : ℕ)
+  module _ {left k : ℕ} (fits : left + text_width front + text_width placeholder ≡ width)
       (h : IsCut left [] word 0 0 k) where
     cut-latest : (m : ℕ) → CanCut line start m → LeavesRoom width placeholder line m → m ≤ start + k
     cut-latest m may room =
@@ -132,85 +121,60 @@ module _ (width : ℕ) (placeholder line : List ℕ) (utf8 : IsUtf8 line) (words
         omega (arith, up, may.after)
 
     pub cut-no : k ≡ 0 → IsCut width placeholder line words start words
-    cut-no none = record {
-      cut = inl refl;
-      latest = λ m may room.
-          let here : m ≡ start = omega (arith, cut-latest m may room, may.after, none) in
-          absurd (omega (arith, may.behind, ap (λ n. text_width (take n line)) here));
-    }
+    cut-no none = search (rules, arith, cut-latest)
 
     pub cut-some : k ≢ 0 → IsCut width placeholder line words start (start + k)
-    cut-some some = record {
-      cut = elim h.cut [
-        | inl none ↦ absurd (some none)
-        | inr (may, room) ↦ inr (to-line k may, omega (arith, room, longer-width k, fits, no_columns))
-      ];
-      latest = cut-latest;
-    }
+    cut-some some = search (rules, arith, to-line, longer-width, no_columns, cut-latest)
 
     pub cut-within : k ≤ length word
     cut-within = elim h.cut [ inl none ↦ omega (arith, none) | inr (may, room) ↦ may.place.0 ]
 
 -- where the first word after some bytes begins, and its text
-pub start-is : (line rest blanks : List ℕ) (words : ℕ) → rest ≡ drop words line
-    → blanks ≡ take (indent_len rest) rest
-    → words + length blanks ≡ words + indent_len (drop words line)
-start-is line rest blanks words after are =
-    ap (λ n. words + n) (ap length are ∙ length-prefix_len is_blank rest ∙ ap indent_len after)
+module _ (line : List ℕ) (words : ℕ) {rest : List ℕ} (after : rest ≡ drop words line) where
+  pub start-is : {blanks : List ℕ} → blanks ≡ take (indent_len rest) rest
+      → words + length blanks ≡ words + indent_len (drop words line)
+  start-is are = ap (λ n. words + n)
+      (ap length are ∙ length-prefix_len is_blank rest ∙ ap indent_len after)
 
-pub word-is : (line rest text : List ℕ) (words start : ℕ) → rest ≡ drop words line
-    → text ≡ drop (indent_len rest) rest → start ≡ words + indent_len (drop words line)
-    → text ≡ drop start line
-word-is line rest text words start after is next =
-    is ∙ ap (λ l. drop (indent_len l) l) after ∙ drop-drop (indent_len (drop words line)) words line
-    ∙ sym (ap (λ n. drop n line) next)
+  pub word-is : {text : List ℕ} {start : ℕ} → text ≡ drop (indent_len rest) rest
+      → start ≡ words + indent_len (drop words line) → text ≡ drop start line
+  word-is is next =
+      is ∙ ap (λ l. drop (indent_len l) l) after
+      ∙ drop-drop (indent_len (drop words line)) words line ∙ sym (ap (λ n. drop n line) next)
 
 -- ---- what is kept
 
 -- whole words
-pub kept-words : (breaks : Bool) (width : ℕ) (placeholder line : List ℕ) (n start : ℕ)
+pub kept-words : {breaks : Bool} {width : ℕ} {placeholder line : List ℕ} {n start : ℕ}
     → IsKeptBeginning width placeholder line n → start ≡ n + indent_len (drop n line)
     → (breaks && is_too_wide width placeholder line start ≡ true
     → IsCut width placeholder line n start n) → IsKeptLength breaks width placeholder line n
-kept-words breaks width placeholder line n start kept next cut = record {
-  words = n;
-  start = start;
-  kept = kept;
-  next = next;
-  whole = λ stays. refl;
-  cut = cut;
-}
+kept-words {n = n} {start = start} kept next cut =
+    record { words = n; start = start; kept = kept; next = next; whole = λ stays. refl; cut = cut }
 
 -- whole words, and what is found of the next one
-module _ (breaks : Bool) (width : ℕ) (placeholder line : List ℕ) (utf8 : IsUtf8 line)
-    (words start : ℕ) (kept : IsKeptBeginning width placeholder line words)
-    (next : start ≡ words + indent_len (drop words line)) (room left k : ℕ) (text : List ℕ)
+module _ {width : ℕ} {placeholder line : List ℕ} (utf8 : IsUtf8 line) {words start : ℕ}
+    (kept : IsKeptBeginning width placeholder line words)
+    (next : start ≡ words + indent_len (drop words line)) {room left k : ℕ} {text : List ℕ}
     (text_is : text ≡ drop start line) (is : room + text_width placeholder ≡ width)
     (fits : left + text_width (take start line) ≡ room) (whole : word_width text ≤ room → k ≡ 0)
     (cut : room < word_width text → IsCut left [] text 0 0 k) where
   sum : left + text_width (take start line) + text_width placeholder ≡ width
   sum = omega (arith, is, fits)
 
-  wide : breaks && is_too_wide width placeholder line start ≡ true → room < word_width text
-  wide passes =
-      let over = (and_parts breaks (is_too_wide width placeholder line start) passes).1 in
-      omega (
-        arith,
-        is,
-        ap word_width text_is,
-        ltb-true (width - text_width placeholder) (word_width (drop start line)) over,
-      )
+  found : room < word_width text → IsCut left [] (drop start line) 0 0 k
+  found over = subst (λ l. IsCut left [] l 0 0 k) text_is (cut over)
 
-  found : breaks && is_too_wide width placeholder line start ≡ true
-      → IsCut left [] (drop start line) 0 0 k
-  found passes = subst (λ l. IsCut left [] l 0 0 k) text_is (cut (wide passes))
+  wide : (breaks : Bool) → breaks && is_too_wide width placeholder line start ≡ true
+      → room < word_width text
+  wide breaks passes = search (rules, arith, and_parts, ltb-true)
 
-  pub kept-uncut : k ≡ 0 → IsKeptLength breaks width placeholder line words
-  kept-uncut none = kept-words breaks width placeholder line words start kept next (λ passes.
-      cut-no width placeholder line utf8 words start kept next left sum k (found passes) none)
+  pub kept-uncut : {breaks : Bool} → k ≡ 0 → IsKeptLength breaks width placeholder line words
+  kept-uncut {breaks = breaks} none = search (rules, arith, kept-words, cut-no, sum, found, wide)
 
-  pub kept-cut : breaks ≡ true → k ≢ 0 → IsKeptLength breaks width placeholder line (start + k)
-  kept-cut breaking some = record {
+  pub kept-cut : {breaks : Bool} → breaks ≡ true → k ≢ 0
+      → IsKeptLength breaks width placeholder line (start + k)
+  kept-cut {breaks = breaks} breaking some = record {
     words = words;
     start = start;
     kept = kept;
@@ -219,73 +183,46 @@ module _ (breaks : Bool) (width : ℕ) (placeholder line : List ℕ) (utf8 : IsU
         let few = ltb-false (width - text_width placeholder) (word_width (drop start line))
         (rw breaking at stays) in
         absurd (some (whole (omega (arith, is, ap word_width text_is, few))));
-    cut = λ passes.
-        cut-some width placeholder line utf8 words start kept next left sum k (found passes) some;
+    cut = λ passes. cut-some utf8 kept next sum (found (wide breaks passes)) some;
   }
 
   pub kept-within : k ≢ 0 → start + k ≤ length line
-  kept-within some = elim (cases_lt room (word_width text)) [
-    | inl over ↦ omega (
-      arith,
-      cut-within width placeholder line utf8 words start kept next left sum k
-          (subst (λ l. IsCut left [] l 0 0 k) text_is (cut over)),
-      length-drop start line,
-      start-within width placeholder line utf8 words start kept next,
-    )
-    | inr few ↦ absurd (some (whole (omega (arith, few))))
-  ]
+  kept-within some =
+      search (rules, arith, cases_lt, cut-within, found, length-drop, start-within, sum)
 
 -- nothing, where the placeholder alone is too wide
-pub kept-none : (breaks : Bool) (width : ℕ) (placeholder line : List ℕ)
+pub kept-none : {breaks : Bool} {width : ℕ} {placeholder line : List ℕ}
     → width < text_width placeholder → IsKeptLength breaks width placeholder line 0
-kept-none breaks width placeholder line over =
-    kept-words breaks width placeholder line 0 (indent_len line) (record {
+kept-none {line = line} over =
+    kept-words (record {
       within = omega arith;
       ends = none-kept line;
       room = inl refl;
       longest = λ m may room. absurd (omega (arith, room, over));
-    }) (omega arith) (λ is. record {
+    }) refl (λ is. record {
       cut = inl refl;
       latest = λ m may room. absurd (omega (arith, room, over));
     })
 
-module _ (breaks : Bool) (width : ℕ) (placeholder line : List ℕ) (utf8 : IsUtf8 line) where
-  pub kept-whole : (n : ℕ) → IsKeptLength breaks width placeholder line n → IsWholeText (take n line)
-  kept-whole n h =
-      let words : n ≡ h.words → IsWholeText (take n line) =
-      λ is. subst (λ k. IsWholeText (take k line)) (sym is)
-      (IsUtf8-take line h.words utf8 (may_end-boundary line h.words utf8 h.kept.ends.0), h.kept.ends.1)
-      in
-      elim (cases_Bool (breaks && is_too_wide width placeholder line h.start)) [
-        | inl is ↦ elim (h.cut is).cut [
-          | inl same ↦ words same
-          | inr (may, room) ↦ (IsUtf8-take line n utf8 may.place, may.whole)
-        ]
-        | inr stays ↦ words (h.whole stays)
-      ]
+module _ {breaks : Bool} {width : ℕ} {placeholder line : List ℕ} {n : ℕ}
+    (h : IsKeptLength breaks width placeholder line n) where
+  -- what holds where words end, and where one may be cut
+  kept-by : (P : ℕ → Type 0) → P h.words
+      → (CanCut line h.start n → LeavesRoom width placeholder line n → P n) → P n
+  kept-by P words cut = search (rules, arith)
 
-  pub kept-boundary : (n : ℕ) → IsKeptLength breaks width placeholder line n → IsCharBoundary line n
-  kept-boundary n h =
-      let words : n ≡ h.words → IsCharBoundary line n =
-      λ is. subst (IsCharBoundary line) (sym is)
-      (may_end-boundary line h.words utf8 h.kept.ends.0) in
-      elim (cases_Bool (breaks && is_too_wide width placeholder line h.start)) [
-        | inl is ↦ elim (h.cut is).cut [
-          | inl same ↦ words same
-          | inr (may, room) ↦ may.place
-        ]
-        | inr stays ↦ words (h.whole stays)
-      ]
+  pub kept-boundary : IsUtf8 line → IsCharBoundary line n
+  kept-boundary utf8 =
+      kept-by (IsCharBoundary line) (may_end-boundary line h.words utf8 h.kept.ends.0)
+      (λ may room. may.place)
 
-pub kept-room : (breaks : Bool) (width : ℕ) (placeholder line : List ℕ) (n : ℕ)
-    → IsKeptLength breaks width placeholder line n → (n ≡ 0) ⊎ LeavesRoom width placeholder line n
-kept-room breaks width placeholder line n h =
-    let words : n ≡ h.words → (n ≡ 0) ⊎ LeavesRoom width placeholder line n =
-    λ is. subst (λ k. (k ≡ 0) ⊎ LeavesRoom width placeholder line k) (sym is) h.kept.room in
-    elim (cases_Bool (breaks && is_too_wide width placeholder line h.start)) [
-      | inl is ↦ elim (h.cut is).cut [
-        | inl same ↦ words same
-        | inr (may, room) ↦ inr room
-      ]
-      | inr stays ↦ words (h.whole stays)
-    ]
+  pub kept-whole : IsUtf8 line → IsWholeText (take n line)
+  kept-whole utf8 = (
+    IsUtf8-take line n utf8 (kept-boundary utf8),
+    kept-by (λ k. HasWholeSequences (take k line)) h.kept.ends.1 (λ may room. may.whole),
+  )
+
+  pub kept-room : (n ≡ 0) ⊎ LeavesRoom width placeholder line n
+  kept-room =
+      kept-by (λ k. (k ≡ 0) ⊎ LeavesRoom width placeholder line k) h.kept.room
+      (λ may room. inr room)

@@ -1,27 +1,26 @@
 -- The beginning of a line that is kept: its words, where it may end, and the reader that finds it.
-use Rattle.textwrap_text.proofs.Common.{take-append-drop, IsCharBoundary, length-take-le, chars-nil}
-use Rattle.textwrap_text.proofs.Common.{reverse-append, take-append-le, append_assoc, chars-append}
-use Rattle.textwrap_text.proofs.Common.{IsUtf8-take, get_or-drop, get_or_past, length_push, All-nil}
-use Rattle.textwrap_text.proofs.Common.{slice_range, append-nil, cases_Bool, length-map, text_width}
-use Rattle.textwrap_text.proofs.Common.{eqb-false, nat_tests, All-cons, All-head, All-tail, IsUncut}
-use Rattle.textwrap_text.proofs.Common.{add-zero, cases_lt, drop_all, eqb-true, next_of, take_at, ℕ}
-use Rattle.textwrap_text.proofs.Common.{IsUtf8, get_or, length, arith, false, rules, subst, Bool}
-use Rattle.textwrap_text.proofs.Common.{List, drop, refl, take, true, ◌++◌, ◌||◌, eqb, inl, inr, []}
-use Rattle.textwrap_text.proofs.Common.{map, sym, ◌+◌, ◌-◌, ◌<◌, ◌∙◌, ◌∷◌, ◌≡◌, ◌≤◌, ◌⊎◌, ap}
-use Rattle.textwrap_display.proofs.Common.{IsCharBoundary-start, encode_ascii, chunks-from, can_end}
-use Rattle.textwrap_display.proofs.Common.{encode_utf8, read-start, word_texts, AreBlanks, is_blank}
-use Rattle.textwrap_display.proofs.Common.{read-next, word_of, IsRead, chunks, is_cut, State, added}
-use Rattle.textwrap_text.specs.Blanks.{without_final_blanks, final_blanks, trimmed_len}
-use Rattle.std.specs.Prelude.{chars}
-use Rattle.std.proofs.lemmas.Str.{IsCharBoundary-end}
-use Rattle.textwrap_text.proofs.Texts.{starts-within, ends-within, ascii-here, some-bytes}
-use Rattle.textwrap_words.proofs.Word.Ahead.{character-within, plain-bytes}
-use Rattle.textwrap_text.proofs.Lists.Parts.{take_slice}
-use Rattle.textwrap_words.proofs.Word.Texts.{final_blanks-blank}
-use Rattle.std.proofs.Math.Seq.{take-add}
-use Rattle.textwrap_text.proofs.Units.Reading.{columns_in-step, text_width-le, chars-push}
-use Rattle.textwrap_text.proofs.Units.Reading.{columns_in}
+use Rattle.std.{proofs.Math.Seq.take-add, proofs.lemmas.Str.IsCharBoundary-end, specs.Prelude.chars}
+use Rattle.textwrap_display.proofs.Common.{AreBlanks, IsCharBoundary-start, IsRead, State, added}
+use Rattle.textwrap_display.proofs.Common.{can_end, chunks, chunks-from, encode_ascii, encode_utf8}
+use Rattle.textwrap_display.proofs.Common.{is_blank, is_cut, read-next, read-start, word_of}
+use Rattle.textwrap_display.proofs.Common.{word_texts}
+use Rattle.textwrap_text.proofs.Common.{All-cons, All-head, All-nil, All-tail, Bool, IsCharBoundary}
+use Rattle.textwrap_text.proofs.Common.{IsUncut, IsUtf8, IsUtf8-take, List, [], add-zero, ap}
+use Rattle.textwrap_text.proofs.Common.{append-nil, append_assoc, arith, cases_Bool, cases_lt}
+use Rattle.textwrap_text.proofs.Common.{chars-append, chars-nil, drop, drop_all, eqb, eqb-false}
+use Rattle.textwrap_text.proofs.Common.{eqb-true, false, get_or, get_or-drop, get_or_past, inl, inr}
+use Rattle.textwrap_text.proofs.Common.{length, length-map, length-take-le, length_push, map}
+use Rattle.textwrap_text.proofs.Common.{nat_tests, next_of, refl, reverse-append, rules}
+use Rattle.textwrap_text.proofs.Common.{slice_range, subst, sym, take, take-append-drop}
+use Rattle.textwrap_text.proofs.Common.{take-append-le, take_at, text_width, true, ℕ, ◌++◌, ◌+◌}
+use Rattle.textwrap_text.proofs.Common.{◌-◌, ◌<◌, ◌||◌, ◌∙◌, ◌∷◌, ◌≡◌, ◌≤◌, ◌⊎◌}
+use Rattle.textwrap_text.proofs.{Lists.Parts.take_slice, Texts.ascii-here, Texts.ends-within}
+use Rattle.textwrap_text.proofs.{Texts.some-bytes, Texts.starts-within, Units.Reading.chars-push}
+use Rattle.textwrap_text.proofs.Units.Reading.{columns_in, columns_in-step, text_width-le}
+use Rattle.textwrap_text.specs.Blanks.{final_blanks, trimmed_len, without_final_blanks}
 use Rattle.textwrap_text.specs.declared.escapes.State.TheVariants.{Text}
+use Rattle.textwrap_words.proofs.Word.Ahead.{character-within, plain-bytes}
+use Rattle.textwrap_words.proofs.Word.Texts.{final_blanks-blank}
 
 -- ---- where a beginning of a line may end: these places are within the line, and characters end
 -- there
@@ -36,15 +35,8 @@ may_end-within line n may = grind (arith, may_end-cases, get_or_past, cases_lt)
 
 pub may_end-boundary : (line : List ℕ) (n : ℕ) → IsUtf8 line → can_end line n ≡ true
     → IsCharBoundary line n
-may_end-boundary line n utf8 may = elim (may_end-cases line n may) [
-  | inl none ↦ subst (IsCharBoundary line) (sym none) (IsCharBoundary-start line utf8)
-  | inr (plain, past) ↦ elim past [
-    | inl end ↦ subst (IsCharBoundary line) (sym end) (IsCharBoundary-end line)
-    | inr blank ↦
-        let byte = eqb-true (get_or line n 0) 32 blank in
-        (may_end-within line n may, λ _ high. absurd (omega (arith, byte, high)))
-  ]
-]
+may_end-boundary line n utf8 may =
+    search (rules, arith, may_end-cases, IsCharBoundary-start, IsCharBoundary-end, eqb-true, may_end-within)
 
 -- ---- where a character begins
 
@@ -118,9 +110,9 @@ pub trimmed_len-blanks : (text bs : List ℕ) → AreBlanks bs
 trimmed_len-blanks text [] blanks = ap trimmed_len (append-nil text)
 trimmed_len-blanks text (b ∷ bs) blanks =
     let byte = eqb-true b 32 (All-head (λ c. is_blank c ≡ true) b bs blanks) in
-    ap trimmed_len (sym (append_assoc text (b ∷ []) bs))
-    ∙ trimmed_len-blanks (text ++ b ∷ []) bs (All-tail (λ c. is_blank c ≡ true) b bs blanks)
-    ∙ ap (λ c. trimmed_len (text ++ c ∷ [])) byte ∙ search (rules, reverse-append, length_push)
+    let rest = All-tail (λ c. is_blank c ≡ true) b bs blanks in
+    let others = trimmed_len-blanks (text ++ b ∷ []) bs rest in
+    grind (arith, append_assoc, byte, others, reverse-append, length_push)
 
 trimmed-blanks : (text bs : List ℕ) → AreBlanks bs
     → without_final_blanks (text ++ bs) ≡ without_final_blanks text
@@ -170,14 +162,9 @@ pub word_texts-take : (line : List ℕ) (n : ℕ) → can_end line n ≡ true
 word_texts-take line n may = elim (may_end-cases line n may) [
   | inl none ↦ rw none refl
   | inr (plain, past) ↦
-      let kept = word_texts (take n line) in
       let first = get_or-drop n line 0 0 ∙ ap (λ k. get_or line k 0) (add-zero n) in
-      let follows : BlankFollows (drop n line) = elim past [
-        | inl end ↦ inl (drop_all n line (omega (arith, end)))
-        | inr blank ↦ inr (ap is_blank first ∙ blank)
-      ] in
-      ap (λ l. take (length kept) (word_texts l)) (sym (take-append-drop n line))
-      ∙ word_texts-front (take n line) (drop n line) follows
+      let follows : BlankFollows (drop n line) = search (rules, arith, past, drop_all, first) in
+      rw take-append-drop at (word_texts-front (take n line) (drop n line) follows)
 ]
 
 -- ---- the reader that finds how much of a line is kept: where it stands, and the columns before

@@ -1,41 +1,33 @@
 -- Rows of texts that stand alone, lines that are aligned and lines that are justified, by the pen.
-use Rattle.textwrap_text.proofs.Common.{append-nil, append_assoc, flat_map-append, take-append-drop}
-use Rattle.textwrap_text.proofs.Common.{All-head, All-tail, arith, cases_Bool, chars-nil, join_with}
-use Rattle.textwrap_text.proofs.Common.{IsUtf8, List, drop, eqb-true, flat_map, fold, refl, subst}
-use Rattle.textwrap_text.proofs.Common.{All, inl, inr, min, not, take, true, zero, ◌++◌, ◌==◌, ◌||◌}
-use Rattle.textwrap_text.proofs.Common.{ap, suc, sym, ℕ, [], ◌+◌, ◌-◌, ◌/◌, ◌∙◌, ◌∷◌, ◌≡◌}
+use Rattle.std.proofs.lemmas.List.{Elements.filter-append, Sums.fold-append}
 use Rattle.std.specs.Str.{chars}
-use Rattle.textwrap_text.specs.Units.{Visible}
-use Rattle.textwrap_display.proofs.Common.{blanks, line_bytes, text_width, units}
-use Rattle.textwrap_display.proofs.Common.{blank, sequence_of, sequences}
-use Rattle.textwrap_display.proofs.Common.{AreBlanks, chunks, gaps, indent_len, is_blank, justified}
-use Rattle.textwrap_display.proofs.Common.{line_words, tiled, widened_words, WordText, ◌%◌}
+use Rattle.textwrap_display.proofs.Common.{AreBlanks, WordText, blank, blanks, chunks, gaps}
+use Rattle.textwrap_display.proofs.Common.{indent_len, is_blank, justified, line_bytes, line_words}
+use Rattle.textwrap_display.proofs.Common.{sequence_of, sequences, text_width, tiled, units}
+use Rattle.textwrap_display.proofs.Common.{widened_words, ◌%◌}
 use Rattle.textwrap_display.proofs.Widths.{blanks-are, indent-blanks, rest-utf8}
-use Rattle.textwrap_layout.proofs.Paragraph.LeftOff.{blanks-utf8}
-use Rattle.textwrap_lines.proofs.Text.Printed.{blanks-whole}
-use Rattle.textwrap_display.specs.Alignment.{aligned, blanks_before}
+use Rattle.textwrap_display.specs.Alignment.{aligned}
 use Rattle.textwrap_display.specs.Laws.{IsBeside, StandsAlone, row_of, shown_apart, without_blanks}
-use Rattle.std.proofs.lemmas.List.Sums.{fold-append}
-use Rattle.textwrap_styles.proofs.SequenceTexts.{nil-whole, text_units-append, whole_text-append}
-use Rattle.textwrap_styles.proofs.SequenceTexts.{penned-append}
-use Rattle.textwrap_styles.specs.Penned.{penned_units, plain_rendition, rendition_of, with_sequence}
-use Rattle.textwrap_styles.specs.Penned.{Rendition, penned_text}
-use Rattle.std.proofs.lemmas.List.Elements.{filter-append}
-use Rattle.textwrap_layout.specs.Text.{HasWholeSequences}
-use Rattle.textwrap_text.proofs.Units.Chunks.{chunks-utf8}
+use Rattle.textwrap_display.specs.{Tables.RowGaps, declared.alignment.Alignment.Alignment}
+use Rattle.textwrap_layout.{proofs.Paragraph.LeftOff.blanks-utf8, specs.Text.HasWholeSequences}
+use Rattle.textwrap_lines.proofs.Text.Printed.{blanks-whole}
+use Rattle.textwrap_styles.proofs.SequenceTexts.{nil-whole, penned-append, text_units-append}
+use Rattle.textwrap_styles.{proofs.SequenceTexts.whole_text-append, specs.Penned.Rendition}
+use Rattle.textwrap_styles.specs.Penned.{penned_text, plain_rendition, rendition_of, with_sequence}
+use Rattle.textwrap_text.proofs.Common.{All, All-head, All-tail, IsUtf8, List, [], ap, append-nil}
+use Rattle.textwrap_text.proofs.Common.{append_assoc, arith, cases_Bool, chars-nil, drop, eqb-true}
+use Rattle.textwrap_text.proofs.Common.{flat_map, flat_map-append, fold, inl, inr, join_with, min}
+use Rattle.textwrap_text.proofs.Common.{refl, rules, suc, sym, take, take-append-drop, true, zero}
+use Rattle.textwrap_text.proofs.Common.{ℕ, ◌++◌, ◌+◌, ◌-◌, ◌/◌, ◌==◌, ◌||◌, ◌∙◌, ◌∷◌, ◌≡◌}
+use Rattle.textwrap_text.{proofs.Units.Chunks.chunks-utf8, specs.Units.Visible}
 use Rattle.textwrap_words.proofs.Word.Words.{IsMeasured, tiled-words_of, words-measured}
 use lib.Utf8.{encode}
-use Rattle.textwrap_display.specs.Tables.{RowGaps}
-use Rattle.textwrap_display.specs.declared.alignment.Alignment.{Alignment}
 
 -- what follows such a text shows what it shows by itself
 apart : (front text : List ℕ) → StandsAlone front
     → penned_text plain_rendition (front ++ text)
     ≡ penned_text plain_rendition front ++ penned_text plain_rendition text
-apart front text (whole, plain) =
-    ap (penned_units plain_rendition) (text_units-append front text whole)
-    ∙ penned-append (units (chars front)) (units (chars text)) plain_rendition
-    ∙ ap (λ now. penned_text plain_rendition front ++ penned_units now (units (chars text))) plain
+apart front text (whole, plain) = grind (arith, text_units-append front text whole, penned-append, plain)
 
 joined-apart : (middle : List ℕ) (texts : List (List ℕ)) (text : List ℕ) → StandsAlone middle
     → All StandsAlone texts → penned_text plain_rendition (join_with middle texts ++ text)
@@ -43,38 +35,20 @@ joined-apart : (middle : List ℕ) (texts : List (List ℕ)) (text : List ℕ) �
 joined-apart middle [] text own all = refl
 joined-apart middle (t ∷ []) text own all = apart t text (All-head StandsAlone t [] all)
 joined-apart middle (t ∷ u ∷ ts) text own all =
-    grind (
-      arith,
-      append_assoc,
-      apart t (middle ++ (join_with middle (u ∷ ts) ++ text))
-          (All-head StandsAlone t (u ∷ ts) all),
-      apart middle (join_with middle (u ∷ ts) ++ text) own,
-      joined-apart middle (u ∷ ts) text own (All-tail StandsAlone t (u ∷ ts) all),
-    )
+    search (rules, arith, append_assoc, apart, joined-apart middle (u ∷ ts), All-head, All-tail)
 
 pub rows-apart : (gaps : RowGaps) (texts : List (List ℕ)) → StandsAlone gaps.left
     → StandsAlone gaps.middle → All StandsAlone texts
     → penned_text plain_rendition (row_of gaps texts) ≡ penned_text plain_rendition gaps.left
     ++ shown_apart gaps.middle texts ++ penned_text plain_rendition gaps.right
-rows-apart gaps texts left middle all =
-    let joined = join_with gaps.middle texts in
-    ap (penned_text plain_rendition) (append_assoc gaps.left joined gaps.right)
-    ∙ apart gaps.left (joined ++ gaps.right) left
-    ∙ ap (λ cs. penned_text plain_rendition gaps.left ++ cs)
-    (joined-apart gaps.middle texts gaps.right middle all)
-    ∙ sym (append_assoc (penned_text plain_rendition gaps.left) (shown_apart gaps.middle texts)
-    (penned_text plain_rendition gaps.right))
+rows-apart gaps texts left middle all = search (rules, arith, append_assoc, apart, joined-apart)
 
 -- ---- texts that stand alone
 
 pub alone-append : (xs ys : List ℕ) → StandsAlone xs → StandsAlone ys → StandsAlone (xs ++ ys)
 alone-append xs ys (first, first_plain) (second, second_plain) = (
   whole_text-append xs ys first second,
-  ap (λ us. rendition_of (flat_map sequence_of us)) (text_units-append xs ys first)
-      ∙ ap rendition_of (flat_map-append sequence_of (units (chars xs)) (units (chars ys)))
-      ∙ fold-append with_sequence plain_rendition (sequences xs) (sequences ys)
-      ∙ ap (λ now. fold with_sequence now (sequences ys)) first_plain
-      ∙ second_plain,
+  grind (arith, text_units-append xs ys first, flat_map-append, fold-append, first_plain, second_plain),
 )
 
 blank-units : units (chars (blank ∷ [])) ≡ Visible blank ∷ []
@@ -102,19 +76,12 @@ module _ (alignment : Alignment) (width : ℕ) (line : List ℕ) (own : StandsAl
         alone = alone-append (blanks n ++ line) (blanks k) front (blanks-alone k);
         before = n;
         after = k;
-        shown = apart (blanks n ++ line) (blanks k) front
-            ∙ ap (λ cs. cs ++ penned_text plain_rendition (blanks k))
-            (apart (blanks n) line (blanks-alone n));
+        shown = let last = apart (blanks n ++ line) (blanks k) front in
+            grind (arith, last, apart (blanks n) line (blanks-alone n));
       }
 
   pub aligned-pens : IsBeside line (line_bytes (aligned alignment width line))
-  aligned-pens =
-      let spare = width - text_width line in
-      let before = blanks_before alignment spare in
-      elim (cases_Bool (spare == 0)) [
-        | inl none ↦ rw none (subst (IsBeside line) (append-nil line) (beside 0 0))
-        | inr some ↦ rw some (beside before (spare - before))
-      ]
+  aligned-pens = search (rules, arith, beside, append-nil, beside 0 0)
 
 -- ---- lines that are justified
 
@@ -125,10 +92,8 @@ hidden now [] text are = refl
 hidden now (b ∷ bs) text are =
     let is = eqb-true b blank (All-head (λ c. is_blank c ≡ true) b bs are) in
     let one = text_units-append (blank ∷ []) (bs ++ text) blank-alone.0 in
-    ap (λ c. without_blanks (penned_text now (c ∷ (bs ++ text)))) is
-    ∙ ap (λ us. without_blanks (penned_units now us))
-    (one ∙ ap (λ us. us ++ units (chars (bs ++ text))) blank-units)
-    ∙ hidden now bs text (All-tail (λ c. is_blank c ≡ true) b bs are)
+    let others = hidden now bs text (All-tail (λ c. is_blank c ≡ true) b bs are) in
+    grind (arith, is, one, blank-units, others)
 
 -- a word, and other text behind its blanks
 word-shown : (now : Rendition) (w : WordText) (text : List ℕ) → IsMeasured w
@@ -137,14 +102,7 @@ word-shown : (now : Rendition) (w : WordText) (text : List ℕ) → IsMeasured w
     ≡ without_blanks (penned_text now w.word)
     ++ without_blanks (penned_text (fold with_sequence now (sequences w.word)) text)
 word-shown now w text here whole =
-    let later = fold with_sequence now (sequences w.word) in
-    let rest = w.whitespace ++ text in
-    ap (λ t. without_blanks (penned_text now t)) (append_assoc w.word w.whitespace text)
-    ∙ ap (λ us. without_blanks (penned_units now us)) (text_units-append w.word rest (here.utf8, whole))
-    ∙ ap without_blanks (penned-append (units (chars w.word)) (units (chars rest)) now)
-    ∙ filter-append (λ c. not (is_blank c.character)) (penned_text now w.word) (penned_text later rest)
-    ∙ ap (λ cs. without_blanks (penned_text now w.word) ++ cs)
-    (hidden later w.whitespace text here.ending.blanks)
+    search (rules, arith, append_assoc, text_units-append, penned-append, filter-append, hidden)
 
 widened-shown : (each extra : ℕ) (ws : List WordText) (now : Rendition) → All IsMeasured ws
     → All (λ w. HasWholeSequences w.word) ws

@@ -1,22 +1,21 @@
 -- Lines that were cut: what is kept and what closes it, what they show, and their widths; and that
 -- only one number of bytes may be kept.
-use Rattle.textwrap_text.proofs.Common.{append-nil, cases_Bool, flat_map-append, take-append-drop}
-use Rattle.textwrap_text.proofs.Common.{IsUtf8, arith, false, length, subst, take_at, text_width, ℕ}
-use Rattle.textwrap_text.proofs.Common.{All, Bool, List, drop, inl, refl, take, true, ◌&&◌, ◌++◌}
-use Rattle.textwrap_text.proofs.Common.{ap, inr, sym, ◌+◌, ◌∙◌, ◌≡◌, ◌≤◌}
 use Rattle.std.specs.Prelude.{chars}
-use Rattle.textwrap_display.proofs.Common.{IsShortened, IsWholeText, indent_len, text_width-append}
-use Rattle.textwrap_display.proofs.Common.{Line, closing, concat, line_bytes, sequences, units}
-use Rattle.textwrap_display.specs.Shortening.{is_too_wide, IsCut, IsKeptLength, IsKeptBeginning}
-use Rattle.textwrap_styles.proofs.PenStyles.{ended}
+use Rattle.textwrap_display.proofs.Common.{IsShortened, IsWholeText, Line, closing, concat}
+use Rattle.textwrap_display.proofs.Common.{line_bytes, sequences, text_width-append, units}
+use Rattle.textwrap_display.proofs.{CutWords.no_columns, KeptParts.kept-room, KeptParts.kept-whole}
+use Rattle.textwrap_display.specs.Shortening.{IsCut, IsKeptBeginning, IsKeptLength}
+use Rattle.textwrap_styles.proofs.{PenStyles.ended, SequenceTexts.IsSequence}
+use Rattle.textwrap_styles.proofs.SequenceTexts.{closing-is, closing-sequences, closing_sequences}
+use Rattle.textwrap_styles.proofs.SequenceTexts.{concat-units, concat-whole, none-visible}
+use Rattle.textwrap_styles.proofs.SequenceTexts.{penned-append, sequence_units, sequences-show}
+use Rattle.textwrap_styles.proofs.SequenceTexts.{text_units-append, units-again, whole_text-append}
 use Rattle.textwrap_styles.specs.Penned.{penned_text, penned_units, plain_rendition, rendition_of}
 use Rattle.textwrap_styles.specs.Styled.{EndsPlain}
-use Rattle.textwrap_display.proofs.CutWords.{no_columns}
-use Rattle.textwrap_display.proofs.KeptParts.{kept-whole, kept-room}
-use Rattle.textwrap_styles.proofs.SequenceTexts.{closing-sequences, closing_sequences, concat-units}
-use Rattle.textwrap_styles.proofs.SequenceTexts.{concat-whole, text_units-append, whole_text-append}
-use Rattle.textwrap_styles.proofs.SequenceTexts.{penned-append, sequence_units, sequences-show}
-use Rattle.textwrap_styles.proofs.SequenceTexts.{IsSequence, closing-is, none-visible, units-again}
+use Rattle.textwrap_text.proofs.Common.{All, Bool, IsUtf8, List, ap, append-nil, arith, drop}
+use Rattle.textwrap_text.proofs.Common.{flat_map-append, inl, inr, length, rules, subst, sym, take}
+use Rattle.textwrap_text.proofs.Common.{take-append-drop, take_at, text_width, ℕ, ◌++◌, ◌+◌, ◌∙◌}
+use Rattle.textwrap_text.proofs.Common.{◌≡◌, ◌≤◌}
 
 -- ---- a text of whole sequences, and what closes it
 
@@ -61,17 +60,8 @@ module _ (kept : List ℕ) (whole : IsWholeText kept) where
     pub followed-pens : penned_text plain_rendition (closed ++ placeholder)
         ≡ penned_text plain_rendition kept ++ penned_text plain_rendition placeholder
     followed-pens =
-        let us = units (chars placeholder) in
-        let own : penned_text plain_rendition closed ≡ penned_text plain_rendition kept =
-        ap (penned_units plain_rendition) closed-units
-        ∙ penned-append (units (chars kept)) (sequence_units ends) plain_rendition
-        ∙ ap (λ cs. penned_text plain_rendition kept ++ cs)
-        (sequences-show ends (rendition_of (sequences kept)))
-        ∙ append-nil (penned_text plain_rendition kept) in
-        ap (penned_units plain_rendition) (text_units-append closed placeholder closed-whole)
-        ∙ penned-append (units (chars closed)) us plain_rendition
-        ∙ ap (λ now. penned_text plain_rendition closed ++ penned_units now us) closed-plain
-        ∙ ap (λ cs. cs ++ penned_text plain_rendition placeholder) own
+        let apart = text_units-append closed placeholder closed-whole in
+        grind (arith, closed-units, penned-append, sequences-show, append-nil, apart, closed-plain)
 
 -- ---- the laws of lines that were cut
 
@@ -81,7 +71,7 @@ module _ (breaks : Bool) (width : ℕ) (placeholder line : List ℕ) (short : Li
   kept = take is.len line
 
   whole : IsWholeText kept
-  whole = kept-whole breaks width placeholder line utf8 is.len is.kept
+  whole = kept-whole is.kept utf8
 
   bytes : line_bytes short ≡ kept ++ closing (sequences kept) ++ placeholder
   bytes = ap line_bytes is.is
@@ -94,21 +84,18 @@ module _ (breaks : Bool) (width : ℕ) (placeholder line : List ℕ) (short : Li
       × (penned_text plain_rendition (line_bytes short)
       ≡ penned_text plain_rendition kept ++ penned_text plain_rendition placeholder)
   shortened-pens =
-      let front = penned_text plain_rendition kept in
       let rest = units (chars (drop is.len line)) in
-      let later = penned_units (rendition_of (sequences kept)) rest in
-      let parts : penned_text plain_rendition line ≡ front ++ later =
-      ap (penned_text plain_rendition) (sym (take-append-drop is.len line))
-      ∙ ap (penned_units plain_rendition) (text_units-append kept (drop is.len line) whole)
-      ∙ penned-append (units (chars kept)) rest plain_rendition in (
-        ap (take (length front)) parts ∙ take_at front later (length front) refl,
+      let parts : penned_text plain_rendition line ≡ penned_text plain_rendition kept
+      ++ penned_units (rendition_of (sequences kept)) rest =
+      grind (arith, take-append-drop, text_units-append kept (drop is.len line) whole, penned-append) in (
+        grind (arith, parts, take_at),
         ap (penned_text plain_rendition) bytes ∙ followed-pens kept whole placeholder,
       )
 
   pub shortened-width : text_width placeholder ≤ width → text_width (line_bytes short) ≤ width
   shortened-width room =
       let sum = ap text_width bytes ∙ followed-width kept whole placeholder in
-      elim (kept-room breaks width placeholder line is.len is.kept) [
+      elim (kept-room is.kept) [
         | inl none ↦ omega (
           arith,
           sum,
@@ -121,47 +108,19 @@ module _ (breaks : Bool) (width : ℕ) (placeholder line : List ℕ) (short : Li
 
 -- ---- only one number of bytes may be kept
 
-words-le : (width : ℕ) (placeholder line : List ℕ) (m n : ℕ)
+words-le : {width : ℕ} {placeholder line : List ℕ} {m n : ℕ}
     → IsKeptBeginning width placeholder line m → IsKeptBeginning width placeholder line n → m ≤ n
-words-le width placeholder line m n first second = elim first.room [
-  | inl none ↦ omega (arith, none)
-  | inr has ↦ second.longest m first.ends has
-]
+words-le first second = search (rules, arith)
 
-cut-le : (width : ℕ) (placeholder line : List ℕ) (words start m n : ℕ) → words ≤ start
+cut-le : {width : ℕ} {placeholder line : List ℕ} {words start m n : ℕ} → words ≤ start
     → IsCut width placeholder line words start m → IsCut width placeholder line words start n
     → m ≤ n
-cut-le width placeholder line words start m n before first second = elim first.cut [
-  | inl none ↦ elim second.cut [
-    | inl same ↦ omega (arith, none, same)
-    | inr (may, room) ↦ omega (arith, none, before, may.after)
-  ]
-  | inr (may, room) ↦ second.latest m may room
-]
+cut-le before first second = search (rules, arith)
 
 pub kept-unique : (breaks : Bool) (width : ℕ) (placeholder line : List ℕ) (m n : ℕ)
     → IsKeptLength breaks width placeholder line m → IsKeptLength breaks width placeholder line n → m ≡ n
 kept-unique breaks width placeholder line m n first second =
-    let test = λ (start : ℕ). breaks && is_too_wide width placeholder line start in
     let words : first.words ≡ second.words =
-    omega (
-      arith,
-      words-le width placeholder line first.words second.words first.kept second.kept,
-      words-le width placeholder line second.words first.words second.kept first.kept,
-    ) in
-    let start : first.start ≡ second.start =
-    first.next ∙ ap (λ k. k + indent_len (drop k line)) words ∙ sym second.next in
-    elim (cases_Bool (test first.start)) [
-      | inl is ↦
-          let before : first.words ≤ first.start = omega (arith, first.next) in
-          let other = subst (λ s. IsCut width placeholder line first.words s n) (sym start)
-          (subst (λ w. IsCut width placeholder line w second.start n) (sym words)
-          (second.cut (subst (λ s. test s ≡ true) start is))) in
-          omega (
-            arith,
-            cut-le width placeholder line first.words first.start m n before (first.cut is) other,
-            cut-le width placeholder line first.words first.start n m before other (first.cut is),
-          )
-      | inr stays ↦
-          first.whole stays ∙ words ∙ sym (second.whole (subst (λ s. test s ≡ false) start stays))
-    ]
+    omega (arith, words-le first.kept second.kept, words-le second.kept first.kept) in
+    let start : first.start ≡ second.start = grind (arith, first.next, second.next, words) in
+    search (rules, arith, words, start, cut-le, first.cut, second.cut, first.whole, second.whole)

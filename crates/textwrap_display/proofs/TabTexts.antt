@@ -1,33 +1,28 @@
 -- Texts with blanks in the place of their tabs: what stands behind the last line feed, one part
 -- after another, and the laws of them.
-use Rattle.textwrap_text.proofs.Common.{append_assoc, get_or-drop, length-drop, slice_split, get_or}
-use Rattle.textwrap_text.proofs.Common.{cases_Bool, false≢true, append-nil, All-append, All-weaker}
-use Rattle.textwrap_text.proofs.Common.{text_width, eqb-false, not-true, All-cons, All-head, length}
-use Rattle.textwrap_text.proofs.Common.{All-tail, eqb-true, All-nil, ne_eqb, arith, false, rules, ℕ}
-use Rattle.textwrap_text.proofs.Common.{subst, blank, Bool, drop, List, None, refl, Some, true, inl}
-use Rattle.textwrap_text.proofs.Common.{◌++◌, ◌==◌, inr, not, sym, ◌+◌, ◌-◌, ◌<◌, ◌∙◌, ◌∷◌, ◌≡◌, []}
-use Rattle.textwrap_text.proofs.Common.{◌≢◌, ◌≤◌, All, suc, ◌*◌, ◌/◌, ◌⊎◌, ap}
-use Rattle.std.specs.List.{position_or_len, before_first, after_first, list_any}
-use Rattle.std.specs.Str.{NoCharPasses}
-use Rattle.std.specs.Str.Pattern.{FindsChar, HasCharAt}
-use Rattle.std.proofs.lemmas.List.Splits.{length-slice_split, slice_split_first, slice_split_none}
-use Rattle.std.proofs.lemmas.List.Splits.{slice_split_at}
-use Rattle.std.proofs.lemmas.List.Sums.{prefix_len_passes, suffix_len_is}
-use Rattle.std.proofs.lemmas.List.{get_or_default}
-use Rattle.std.proofs.lemmas.Str.Pattern.{NoCharPasses-char, contains_char}
-use Rattle.std.specs.Prelude.{MatchBool, replicate}
-use Rattle.textwrap_text.proofs.Lists.Elements.{any-contains, contains-any}
-use Rattle.textwrap_display.specs.Tabs.{expanded_tabs, filled_parts, tab_blanks, filled_up, tab}
-use Rattle.textwrap_display.specs.Tabs.{last_line}
-use Rattle.std.proofs.Common.{◌%◌}
-use Rattle.std.proofs.Math.Nat.{add-mul, suc-mul}
+use Rattle.std.proofs.{Common.◌%◌, Math.Nat.add-mul, Math.Nat.suc-mul}
+use Rattle.std.proofs.lemmas.List.{Elements.All-replicate, Splits.length-slice_split}
+use Rattle.std.proofs.lemmas.List.Splits.{slice_split_at, slice_split_first, slice_split_none}
+use Rattle.std.proofs.lemmas.List.{Sums.prefix_len_passes, Sums.suffix_len_is, get_or_default}
 use Rattle.std.proofs.lemmas.Nat.{div-add-mod', mod_below}
-use Rattle.std.proofs.lemmas.List.Elements.{All-replicate}
-use Rattle.textwrap_text.proofs.Lists.Parts.{after_last-push}
-use Rattle.textwrap_words.proofs.Word.Words.{text_width-nil}
+use Rattle.std.proofs.lemmas.Str.Pattern.{NoCharPasses-char, contains_char}
+use Rattle.std.specs.List.{after_first, before_first, list_any, position_or_len}
+use Rattle.std.specs.{Prelude.MatchBool, Prelude.replicate, Str.NoCharPasses, Str.Pattern.FindsChar}
+use Rattle.std.specs.Str.Pattern.{HasCharAt}
+use Rattle.textwrap_display.{proofs.Widths.more-blanks, specs.Tabs.expanded_tabs}
+use Rattle.textwrap_display.specs.Tabs.{filled_parts, filled_up, last_line, tab, tab_blanks}
 use Rattle.textwrap_layout.proofs.Text.Paragraphs.{text_width-append}
-use Rattle.textwrap_display.proofs.Widths.{more-blanks}
 use Rattle.textwrap_styles.specs.Styled.{IsWholeText}
+use Rattle.textwrap_text.proofs.Common.{All, All-append, All-cons, All-head, All-nil, All-tail}
+use Rattle.textwrap_text.proofs.Common.{All-weaker, Bool, List, None, Some, [], ap, append-nil}
+use Rattle.textwrap_text.proofs.Common.{append_assoc, arith, blank, cases_Bool, drop, eqb-false}
+use Rattle.textwrap_text.proofs.Common.{eqb-true, false, false≢true, get_or, get_or-drop, inl, inr}
+use Rattle.textwrap_text.proofs.Common.{length, length-drop, ne_eqb, not, not-true, refl, rules}
+use Rattle.textwrap_text.proofs.Common.{slice_split, subst, suc, sym, text_width, true, ℕ, ◌*◌}
+use Rattle.textwrap_text.proofs.Common.{◌++◌, ◌+◌, ◌-◌, ◌/◌, ◌<◌, ◌==◌, ◌∙◌, ◌∷◌, ◌≡◌, ◌≢◌, ◌≤◌}
+use Rattle.textwrap_text.proofs.{Common.◌⊎◌, Lists.Elements.any-contains}
+use Rattle.textwrap_text.proofs.Lists.{Elements.contains-any, Parts.after_last-push}
+use Rattle.textwrap_words.proofs.Word.Words.{text_width-nil}
 
 -- ---- what stands behind the last line feed
 
@@ -97,10 +92,7 @@ pub expanded-step : (stop : ℕ) (text part rest old new whole : List ℕ)
     → new ≡ old ++ filled_up stop part → old ++ expanded_tabs stop text ≡ whole
     → new ++ expanded_tabs stop rest ≡ whole
 expanded-step stop text part rest old new whole cut added is =
-    let next = expanded-next stop text part rest cut in
-    ap (λ t. t ++ expanded_tabs stop rest) added
-    ∙ append_assoc old (filled_up stop part) (expanded_tabs stop rest)
-    ∙ ap (λ t. old ++ t) (sym next) ∙ is
+    grind (arith, append_assoc, added, expanded-next stop text part rest cut, is)
 
 -- and the last part
 pub expanded-last : (stop : ℕ) (text old new whole : List ℕ)
@@ -148,18 +140,14 @@ last_line-free : (text more : List ℕ) → Lacks 10 more
     → last_line (text ++ more) ≡ last_line text ++ more
 last_line-free text [] lacks = ap last_line (append-nil text) ∙ sym (append-nil (last_line text))
 last_line-free text (c ∷ cs) lacks =
-    let other : (c == 10) ≡ false = ne_eqb c 10 (All-head (λ b. b ≢ 10) c cs lacks) in
-    let push : last_line (text ++ c ∷ []) ≡ last_line text ++ c ∷ [] =
-    after_last-push (λ b. b == 10) text c ∙ rw other refl in
-    ap last_line (sym (append_assoc text (c ∷ []) cs))
-    ∙ last_line-free (text ++ c ∷ []) cs (All-tail (λ b. b ≢ 10) c cs lacks)
-    ∙ ap (λ l. l ++ cs) push ∙ append_assoc (last_line text) (c ∷ []) cs
+    let other = ne_eqb c 10 (All-head (λ b. b ≢ 10) c cs lacks) in
+    let push = after_last-push (λ b. b == 10) text c in
+    let others = last_line-free (text ++ c ∷ []) cs (All-tail (λ b. b ≢ 10) c cs lacks) in
+    grind (arith, cases_Bool, append_assoc, push, other, others)
 
 behind-feed : (text more : List ℕ) → Lacks 10 more → last_line (text ++ 10 ∷ more) ≡ more
 behind-feed text more lacks =
-    ap last_line (sym (append_assoc text (10 ∷ []) more))
-    ∙ last_line-free (text ++ 10 ∷ []) more lacks
-    ∙ ap (λ l. l ++ more) (after_last-push (λ b. b == 10) text 10)
+    grind (arith, append_assoc, last_line-free (text ++ 10 ∷ []) more lacks, after_last-push)
 
 -- a text has no line feed, or its last line is that of each text that ends with it
 last_line-cases : (more : List ℕ)
@@ -270,21 +258,10 @@ IsMultiple stop n = (k : ℕ) × (n ≡ k * stop)
 
 filled-columns : (stop columns more : ℕ) → stop ≢ 0 → IsMultiple stop more
     → IsMultiple stop (columns + (tab_blanks stop columns + more))
-filled-columns stop columns more some (k, is) =
-    let full : tab_blanks stop columns ≡ stop - columns % stop =
-    rw (ne_eqb stop 0 some) refl in (
-      suc (columns / stop + k),
-      omega (
-        arith,
-        full,
-        is,
-        some,
-        mod_below columns stop (omega (arith, some)),
-        div-add-mod' columns stop,
-        suc-mul (columns / stop + k) stop,
-        add-mul (columns / stop) k stop,
-      ),
-    )
+filled-columns stop columns more some (k, is) = (
+  suc (columns / stop + k),
+  search (rules, arith, ne_eqb, mod_below, div-add-mod', suc-mul, add-mul),
+)
 
 -- no escape sequence of the line goes on over the end of the part
 abbrev EndsWhole : List ℕ → Type 0
@@ -299,14 +276,11 @@ module _ (stop : ℕ) (some : stop ≢ 0) where
   reaches-more part rest whole reaches = elim (last_line-cases rest) [
     | inl later ↦ rw (later (filled_up stop part)) reaches
     | inr lacks ↦
-        let line = last_line part in
-        let n = tab_blanks stop (text_width line) in
-        let blanks = replicate n blank in
-        let all : last_line (filled_up stop part ++ rest) ≡ line ++ (blanks ++ rest) =
-        ap last_line (append_assoc part blanks rest) ∙ last_line-free part (blanks ++ rest)
-        (lacks-both 10 blanks rest (lacks-blanks 10 n (omega arith)) lacks) in
-        rw (all, text_width-append line (blanks ++ rest) whole.0 whole.1, more-blanks n rest)
-        (filled-columns stop (text_width line) (text_width rest) some
+        let n = tab_blanks stop (text_width (last_line part)) in
+        let free = last_line-free part (replicate n blank ++ rest)
+        (lacks-both 10 (replicate n blank) rest (lacks-blanks 10 n (omega arith)) lacks) in
+        rw (append_assoc, free, text_width-append _ _ whole.0 whole.1, more-blanks n rest)
+        (filled-columns stop (text_width (last_line part)) (text_width rest) some
         (rw (last_line-free [] rest lacks) at reaches))
   ]
 

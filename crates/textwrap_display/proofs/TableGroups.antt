@@ -1,23 +1,19 @@
 -- The groups of a table's texts, the cells of each, and the rows of these.
-use Rattle.textwrap_text.proofs.Common.{range_with_len, length-append, get_or-map, length-map, zero}
-use Rattle.textwrap_text.proofs.Common.{map-append, drop-drop, take_at, drop_at, get_or, length, []}
-use Rattle.textwrap_text.proofs.Common.{rules, arith, subst, List, ◌++◌, refl, drop, ◌≡◌, suc, ◌+◌}
-use Rattle.textwrap_text.proofs.Common.{◌<◌, ◌≤◌, ◌∷◌, sym, zip, ◌∙◌, ◌-◌, ◌/◌, min, map, Bor, ap}
-use Rattle.textwrap_text.proofs.Common.{ℕ}
-use Rattle.std.proofs.Common.{replicate}
-use Rattle.std.proofs.lemmas.List.{length-replicate, take_min, drop_min}
-use Rattle.std.proofs.lemmas.Slice.Zip.{get_or-zip, length-zip, AllZip-long}
-use Rattle.textwrap_display.specs.Tables.{Shape, shown_cell, shown_cells, AreCells, group_rows}
-use Rattle.textwrap_display.specs.Tables.{groups_of, IsTableBy, RowGaps, texts_in, ColumnMakes}
-use Rattle.textwrap_display.specs.Tables.{ColumnParts, HaveParts, AreTableRows, IsTableOf}
-use Rattle.textwrap_display.specs.Tables.{PartsMake, shape_of, shape_of_parts, rows_of_cells}
-use Rattle.std.proofs.Math.Nat.{add-div_right, div-le_self}
-use Rattle.std.specs.Fork.{slice_chunk}
-use Rattle.std.specs.Slice.Iter.{chunk_count}
-use Rattle.std.specs.List.{AllZip}
-use Rattle.textwrap_layout.proofs.Common.{Line}
-use Rattle.textwrap_layout.proofs.Paragraph.Pieces.{lines-as}
+use Rattle.std.proofs.{Common.replicate, Math.Nat.add-div_right, Math.Nat.div-le_self}
+use Rattle.std.proofs.lemmas.List.{drop_min, length-replicate, take_min}
+use Rattle.std.proofs.lemmas.Slice.Zip.{AllZip-long, get_or-zip, length-zip}
+use Rattle.std.specs.{Fork.slice_chunk, List.AllZip, Slice.Iter.chunk_count}
+use Rattle.textwrap_display.specs.Tables.{AreCells, AreTableRows, ColumnMakes, ColumnParts}
+use Rattle.textwrap_display.specs.Tables.{HaveParts, IsTableBy, IsTableOf, PartsMake, RowGaps}
+use Rattle.textwrap_display.specs.Tables.{Shape, group_rows, groups_of, rows_of_cells, shape_of}
+use Rattle.textwrap_display.specs.Tables.{shape_of_parts, shown_cell, shown_cells, texts_in}
 use Rattle.textwrap_display.specs.declared.tables.Column.{Column}
+use Rattle.textwrap_layout.proofs.{Common.HasParts, Common.Line, Paragraph.Pieces.lines-as}
+use Rattle.textwrap_text.proofs.Common.{Bor, List, [], ap, arith, drop, drop-drop, drop_at, get_or}
+use Rattle.textwrap_text.proofs.Common.{get_or-map, length, length-append, length-map, map}
+use Rattle.textwrap_text.proofs.Common.{map-append, min, range_with_len, refl, rules, subst, suc}
+use Rattle.textwrap_text.proofs.Common.{sym, take_at, zero, zip, ℕ, ◌++◌, ◌+◌, ◌-◌, ◌/◌, ◌<◌, ◌∙◌}
+use Rattle.textwrap_text.proofs.Common.{◌∷◌, ◌≡◌, ◌≤◌}
 
 -- ---- the cells of a row: their lines, and what the columns show of them
 
@@ -92,12 +88,7 @@ module _ {X : Type 0} (count : ℕ) (items front rest : List X) where
 pub group-map : {X Y : Type 0} (f : X → Y) (count : ℕ) (items front rest : List X)
     → IsFirstGroup count items front rest
     → IsFirstGroup count (map f items) (map f front) (map f rest)
-group-map f count items front rest h = record {
-  some = h.some;
-  whole = ap (map f) h.whole ∙ map-append f front rest;
-  more = omega (arith, h.more, length-map items f);
-  size = omega (arith, h.size, length-map items f, length-map front f);
-}
+group-map f count items front rest h = search (rules, arith, map-append, length-map)
 
 -- the column and the text of one cell
 pub cell-at : {X : Type 0} (columns : List X) (texts : List (Bor (List ℕ))) (n : ℕ) (column : X)
@@ -127,6 +118,12 @@ module _ {X : Type 0} (Makes : X → List ℕ → List Line → Type 0) where
       ap (λ rows. group_rows gaps (map shape columns) cells ++ rows) given,
     )
 
+-- what holds of items place by place, of which more holds
+AllZip-weaker : {A B : Type 0} (R S : A → B → Type 0) → ((x : A) (y : B) → R x y → S x y)
+    → (xs : List A) (ys : List B) → AllZip R xs ys → AllZip S xs ys
+AllZip-weaker R S more (x ∷ xs) (y ∷ ys) (one, all) = (more x y one, AllZip-weaker R S more xs ys all)
+AllZip-weaker R S more _ _ all = all
+
 -- ---- columns of any kind, and others that make the same lines in the same shape
 
 module _ {X Y : Type 0} (Makes : X → List ℕ → List Line → Type 0)
@@ -141,32 +138,17 @@ module _ {X Y : Type 0} (Makes : X → List ℕ → List Line → Type 0)
   shapes-as : (columns : List X) (others : List Y) → MakeThose columns others
       → map shape columns ≡ map other_shape others
   shapes-as [] [] make = refl
-  shapes-as [] (y ∷ others) make = absurd make
-  shapes-as (x ∷ columns) [] make = absurd make
-  shapes-as (x ∷ columns) (y ∷ others) (first, make) =
-      let same = first.shape_is in
-      cc (shapes-as columns others make)
+  shapes-as (x ∷ columns) (y ∷ others) (first, make) = cc (first.shape_is, shapes-as columns others make)
+  shapes-as _ _ make = absurd make
 
   cells-as : (columns : List X) (others : List Y) → MakeThose columns others
       → (texts : List (List ℕ)) (cells : List (List (List ℕ)))
       → AreCells Makes columns texts cells → AreCells Others others texts cells
   cells-as [] [] make texts cells are = are
-  cells-as [] (y ∷ others) make texts cells are = absurd make
-  cells-as (x ∷ columns) [] make texts cells are = absurd make
-  cells-as (x ∷ columns) (y ∷ others) make [] cells are = are
-  cells-as (x ∷ columns) (y ∷ others) make (text ∷ texts) [] are = absurd are
-  cells-as (x ∷ columns) (y ∷ others) (first, make) (text ∷ texts) (cell ∷ cells)
-      ((lines, made, is), are) =
-      ((lines, first.makes text lines made, is), cells-as columns others make texts cells are)
-
-  groups-as : (columns : List X) (others : List Y) → MakeThose columns others
-      → (texts : List (List (List ℕ))) (groups : List (List (List (List ℕ))))
-      → AllZip (AreCells Makes columns) texts groups → AllZip (AreCells Others others) texts groups
-  groups-as columns others make [] [] are = are
-  groups-as columns others make [] (cells ∷ groups) are = absurd are
-  groups-as columns others make (group ∷ texts) [] are = absurd are
-  groups-as columns others make (group ∷ texts) (cells ∷ groups) (first, are) =
-      (cells-as columns others make group cells first, groups-as columns others make texts groups are)
+  cells-as (x ∷ columns) (y ∷ others) (first, make) (text ∷ texts) (cell ∷ cells) are =
+      search (rules, arith, first.makes, cells-as columns others make texts cells)
+  cells-as (x ∷ columns) (y ∷ others) make texts cells are = are
+  cells-as _ _ make texts cells are = absurd make
 
   pub table-map : (columns : List X) (others : List Y) → MakeThose columns others
       → (gaps : RowGaps) (texts rows : List (List ℕ))
@@ -174,7 +156,8 @@ module _ {X Y : Type 0} (Makes : X → List ℕ → List Line → Type 0)
       → IsTableBy Others other_shape others gaps texts rows
   table-map columns others make gaps texts rows (groups, are, given) = (
     groups,
-    groups-as columns others make (groups_of (length others) texts) groups
+    AllZip-weaker (AreCells Makes columns) (AreCells Others others) (cells-as columns others make)
+        (groups_of (length others) texts) groups
         (subst (λ n. AllZip (AreCells Makes columns) (groups_of n texts) groups)
         (sym (AllZip-long _ columns others make)) are),
     rw (← shapes-as columns others make) given,
@@ -185,16 +168,12 @@ module _ {X Y : Type 0} (Makes : X → List ℕ → List Line → Type 0)
 module _ {E C : Type 0} {e : _} {c : _} where
   parts-make : (columns : List (Column E C e c)) (parts : List ColumnParts) → HaveParts columns parts
       → MakeThose ColumnMakes PartsMake shape_of shape_of_parts columns parts
-  parts-make [] [] have = have
-  parts-make [] (p ∷ parts) have = absurd have
-  parts-make (column ∷ columns) [] have = absurd have
-  parts-make (column ∷ columns) (p ∷ parts) ((has, alignment), have) = (
-    record {
-      makes = lines-as column.options p.settings p.splitter p.algorithm has;
-      shape_is = let width = ap (λ s. s.width) has.settings_are in cc (alignment);
-    },
-    parts-make columns parts have,
-  )
+  parts-make =
+      AllZip-weaker _ _ (λ column p (have : HasParts column.options p.settings p.splitter p.algorithm
+      × (column.alignment ≡ p.alignment)). record {
+        makes = lines-as column.options p.settings p.splitter p.algorithm have.0;
+        shape_is = let width = ap (λ s. s.width) have.0.settings_are in cc (have.1);
+      })
 
   pub table-as : (columns : List (Column E C e c)) (parts : List ColumnParts)
       → HaveParts columns parts → (gaps : RowGaps) (texts rows : List (List ℕ))

@@ -1,24 +1,21 @@
 -- The rows of a table: their text, that they are even, and that they show each line once.
-use Rattle.textwrap_text.proofs.Common.{range_with_len, append_assoc, get_or_past, sum_by-cons, ◌≡◌}
-use Rattle.textwrap_text.proofs.Common.{length-map, join_with, All-cons, cases_lt, All-head, get_or}
-use Rattle.textwrap_text.proofs.Common.{All-tail, All-map, All-nil, length, sum_by, rules, arith, ℕ}
-use Rattle.textwrap_text.proofs.Common.{subst, List, ◌++◌, fold, refl, zero, ◌+◌, ◌-◌, ◌≤◌, max, []}
-use Rattle.textwrap_text.proofs.Common.{◌∷◌, All, inl, inr, map, sym, ◌<◌, ◌∙◌, suc, ◌*◌, zip, ap}
-use Rattle.std.proofs.Common.{replicate}
+use Rattle.std.proofs.{Common.replicate, Math.Nat.suc-mul, lemmas.Simd.map-map}
 use Rattle.textwrap.proofs.Text.Tables.{lines-kept}
-use Rattle.textwrap_display.specs.Laws.{cell_shown, row_of, ShowsEachLineOnce, KeepToColumns}
-use Rattle.textwrap_display.specs.Laws.{row_width}
-use Rattle.textwrap_display.specs.Tables.{cell_line, group_rows, height, RowGaps, Shape, shown_cell}
+use Rattle.textwrap_display.proofs.TableGroups.{length-padded, length-shown, shown-at}
+use Rattle.textwrap_display.{proofs.Widths.aligned-before, specs.Laws.KeepToColumns}
+use Rattle.textwrap_display.specs.Laws.{ShowsEachLineOnce, cell_shown, row_of, row_width}
+use Rattle.textwrap_display.specs.Tables.{RowGaps, Shape, cell_line, group_rows, height, shown_cell}
 use Rattle.textwrap_display.specs.Tables.{shown_cells, table_row}
-use Rattle.textwrap_display.proofs.TableGroups.{length-shown, shown-at, length-padded}
-use Rattle.std.proofs.Math.Nat.{suc-mul}
-use Rattle.std.proofs.lemmas.Simd.{map-map}
 use Rattle.textwrap_layout.proofs.Text.Paragraphs.{text_width-append}
-use Rattle.textwrap_words.proofs.Word.Words.{text_width-nil}
+use Rattle.textwrap_styles.{proofs.SequenceTexts.nil-whole, specs.Styled.IsWholeText}
+use Rattle.textwrap_text.proofs.Common.{All, All-cons, All-head, All-map, All-nil, All-tail, List}
+use Rattle.textwrap_text.proofs.Common.{[], ap, append_assoc, arith, cases_lt, fold, get_or}
+use Rattle.textwrap_text.proofs.Common.{get_or_past, inl, inr, join_with, length, length-map, map}
+use Rattle.textwrap_text.proofs.Common.{max, range_with_len, refl, rules, subst, suc, sum_by}
+use Rattle.textwrap_text.proofs.Common.{sum_by-cons, sym, zero, zip, ℕ, ◌*◌, ◌++◌, ◌+◌, ◌-◌, ◌<◌}
+use Rattle.textwrap_text.proofs.Common.{◌∙◌, ◌∷◌, ◌≡◌, ◌≤◌}
 use Rattle.textwrap_text.specs.Units.{text_width}
-use Rattle.textwrap_styles.specs.Styled.{IsWholeText}
-use Rattle.textwrap_display.proofs.Widths.{aligned-before}
-use Rattle.textwrap_styles.proofs.SequenceTexts.{nil-whole}
+use Rattle.textwrap_words.proofs.Word.Words.{text_width-nil}
 
 -- ---- the rows of a table show each line once
 
@@ -39,10 +36,7 @@ lines-shown lines rows high = grind (arith, lines-kept lines (rows - length line
 
 -- no cell is higher than its row, and none at all is no higher
 cell-high : (cells : List (List (List ℕ))) (at : ℕ) → length (get_or cells at []) ≤ height cells
-cell-high cells at = elim (cases_lt at (length cells)) [
-  | inl within ↦ (highest 0 cells).1 at [] within
-  | inr past ↦ omega (arith, ap length (get_or_past cells at [] past))
-]
+cell-high cells at = search (rules, arith, cases_lt, highest 0 cells, get_or_past)
 
 -- ---- what functions make of a list
 

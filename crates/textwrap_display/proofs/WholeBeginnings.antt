@@ -1,19 +1,19 @@
 -- Beginnings of a text that end in no escape sequence: the reader of characters is outside then.
-use Rattle.textwrap_text.proofs.Common.{append_assoc, cases_Bool, take-append-le, append-nil, All-cons, All-head}
-use Rattle.textwrap_text.proofs.Common.{All-tail, flat_map-append, characters, cases_lt, visible_of}
-use Rattle.textwrap_text.proofs.Common.{length_push, sum_by-append, Sequence, TextUnit, flat_map, []}
-use Rattle.textwrap_text.proofs.Common.{AreUnits, take_all, Visible, columns, length, sum_by}
-use Rattle.textwrap_text.proofs.Common.{All-nil, escape, arith, false, Bool, List, refl}
-use Rattle.textwrap_text.proofs.Common.{take, ◌++◌, All, inl, inr, sym, ◌+◌, ◌∙◌, ◌∷◌}
-use Rattle.textwrap_text.proofs.Common.{◌≡◌, ◌≢◌, ◌≤◌, ◌⊎◌, ap, ℕ}
-use Rattle.textwrap_text.specs.declared.escapes.State.TheVariants.{Command, Control, Escape, Text}
-use Rattle.textwrap_text.specs.Units.{IsOpen, visible}
 use Rattle.std.specs.Prelude.{chars}
-use Rattle.textwrap_display.proofs.Common.{units-append, IsWhole, State, units, ends}
-use Rattle.textwrap_layout.specs.Text.{HasWholeSequences}
-use Rattle.textwrap_text.proofs.Units.Reading.{columns_in, columns-printable, units_in-inside}
-use Rattle.textwrap_text.proofs.Units.Texts.{IsInUnits-units, units_unique, units-tile}
+use Rattle.textwrap_display.proofs.Common.{IsWhole, State, ends, units, units-append}
 use Rattle.textwrap_display.proofs.KeptWords.{IsReadTo}
+use Rattle.textwrap_layout.specs.Text.{HasWholeSequences}
+use Rattle.textwrap_text.proofs.Common.{All, All-cons, All-head, All-nil, All-tail, AreUnits, Bool}
+use Rattle.textwrap_text.proofs.Common.{List, Sequence, TextUnit, Visible, [], ap, append-nil}
+use Rattle.textwrap_text.proofs.Common.{append_assoc, arith, cases_Bool, cases_lt, characters}
+use Rattle.textwrap_text.proofs.Common.{columns, escape, false, flat_map, flat_map-append, inl, inr}
+use Rattle.textwrap_text.proofs.Common.{length, length_push, refl, rules, sum_by, sum_by-append}
+use Rattle.textwrap_text.proofs.Common.{take, take-append-le, take_all, visible_of, ℕ, ◌++◌, ◌+◌}
+use Rattle.textwrap_text.proofs.Common.{◌∙◌, ◌∷◌, ◌≡◌, ◌≢◌, ◌≤◌, ◌⊎◌}
+use Rattle.textwrap_text.proofs.Units.Reading.{columns-printable, columns_in, units_in-inside}
+use Rattle.textwrap_text.proofs.Units.Texts.{IsInUnits-units, units-tile, units_unique}
+use Rattle.textwrap_text.specs.Units.{IsOpen, visible}
+use Rattle.textwrap_text.specs.declared.escapes.State.TheVariants.{Text}
 
 -- ---- units of which the last has no end
 
@@ -50,11 +50,8 @@ whole-or-open (u ∷ v ∷ us) (whole, rest) = elim (whole-or-open (v ∷ us) re
 units-push : (us : List TextUnit) (u : TextUnit) → All IsWhole us → IsWhole u ⊎ IsOpen u
     → AreUnits (us ++ u ∷ [])
 units-push [] u whole is = is
-units-push (v ∷ []) u whole is = (All-head IsWhole v [] whole, is)
-units-push (v ∷ w ∷ us) u whole is = (
-  All-head IsWhole v (w ∷ us) whole,
-  units-push (w ∷ us) u (All-tail IsWhole v (w ∷ us) whole) is,
-)
+units-push (v ∷ []) u whole is = search (rules, arith, All-head)
+units-push (v ∷ w ∷ us) u whole is = search (rules, arith, All-head, All-tail, units-push (w ∷ us))
 
 -- one more character belongs to the last one, whether it ends it or not
 longer-unit : (body : List ℕ) (c : ℕ)
@@ -79,29 +76,17 @@ longer-unit body c opens =
 
 open-takes : (cs : List ℕ) (c : ℕ) → EndsOpen (units cs) → visible (cs ++ c ∷ []) ≡ visible cs
 open-takes cs c h =
-    let before = flat_map characters h.front in
-    let old = Sequence (escape ∷ h.body) in
     let new = Sequence (escape ∷ (h.body ++ c ∷ [])) in
-    let own : cs ≡ before ++ (escape ∷ h.body) =
-    sym (units-tile cs) ∙ ap (flat_map characters) h.are
-    ∙ flat_map-append characters h.front (old ∷ [])
-    ∙ ap (λ l. before ++ l) (append-nil (escape ∷ h.body)) in
     let tile : flat_map characters (h.front ++ new ∷ []) ≡ cs ++ c ∷ [] =
-    flat_map-append characters h.front (new ∷ [])
-    ∙ ap (λ l. before ++ l) (append-nil (escape ∷ (h.body ++ c ∷ [])))
-    ∙ sym (ap (λ l. l ++ c ∷ []) own ∙ append_assoc before (escape ∷ h.body) (c ∷ [])) in
+    grind (arith, units-tile cs, h.are, flat_map-append, append-nil, append_assoc) in
     let same = (units_unique (cs ++ c ∷ []) (h.front ++ new ∷ [])).0
     (tile, units-push h.front new h.whole (longer-unit h.body c h.opens)) in
-    ap (flat_map visible_of) (sym same) ∙ flat_map-append visible_of h.front (new ∷ [])
-    ∙ sym (ap (flat_map visible_of) h.are ∙ flat_map-append visible_of h.front (old ∷ []))
+    grind (arith, same, h.are, flat_map-append)
 
 -- ---- the reader of the characters of a text
 
 state-cases : (s : State) → (s ≡ Text) ⊎ (s ≢ Text)
-state-cases Text = inl refl
-state-cases Escape = inr (λ e. cc)
-state-cases Control = inr (λ e. cc)
-state-cases (Command last) = inr (λ e. cc)
+state-cases _ = search (rules, arith)
 
 -- a letter, which has a column outside of sequences alone
 letter-outside : columns_in Text (120 ∷ []) ≡ 1

@@ -1,25 +1,23 @@
 -- The words of a line whose gaps are widened.
-use Rattle.textwrap_text.proofs.Common.{IsCharBoundary, take-append-le, append_assoc, cases_Bool, ℕ}
-use Rattle.textwrap_text.proofs.Common.{onto_first, prefix_len, and_parts, cond_both, nat_tests, []}
-use Rattle.textwrap_text.proofs.Common.{cases_lt, eqb-true, take_at, IsUtf8, get_or, length, ne_eqb}
-use Rattle.textwrap_text.proofs.Common.{rules, arith, false, List, drop, refl, take, true, zero, ap}
-use Rattle.textwrap_text.proofs.Common.{◌++◌, ◌==◌, ◌||◌, inl, inr, map, min, not, suc, sym, ◌+◌}
-use Rattle.textwrap_text.proofs.Common.{◌-◌, ◌/◌, ◌<◌, ◌∙◌, ◌∷◌, ◌≡◌, ◌≢◌, ◌≤◌}
-use Rattle.std.proofs.lemmas.List.{replicate-append-replicate, drop-append-le, drop_at}
-use Rattle.textwrap_display.proofs.Common.{IsCharBoundary-start, length-prefix_len, BlanksBetween}
-use Rattle.textwrap_display.proofs.Common.{widened_words, final_blanks, chunks-from, slice_index}
-use Rattle.textwrap_display.proofs.Common.{JustifiedLineKeepsWords, indent_len, line_bytes}
-use Rattle.textwrap_display.proofs.Common.{line_words, WordText}
-use Rattle.textwrap_display.proofs.Common.{text_width, justified, is_blank, or_cases, word_of, flat}
-use Rattle.textwrap_display.proofs.Common.{blanks, chunks, is_cut, Slice, blank, tiled, gaps, ◌%◌}
-use Rattle.textwrap_text.proofs.Lists.Parts.{onto_first-length, flat-onto_first}
-use Rattle.textwrap_words.proofs.Word.Words.{tiled-map}
-use Rattle.textwrap_display.proofs.KeptWords.{trimmed_len-blanks}
-use Rattle.textwrap_display.proofs.Widths.{blanks-are}
+use Rattle.std.proofs.{Math.Nat.zero-div, Math.Nat.zero-mod, lemmas.List.Sums.prefix_len-drop_all}
+use Rattle.std.proofs.lemmas.List.Sums.{prefix_len-drop_no, prefix_len_is, prefix_len_stops}
+use Rattle.std.proofs.lemmas.List.{drop-append-le, drop_at, replicate-append-replicate}
+use Rattle.textwrap_display.proofs.Common.{BlanksBetween, IsCharBoundary-start}
+use Rattle.textwrap_display.proofs.Common.{JustifiedLineKeepsWords, WordText, blank, blanks, chunks}
+use Rattle.textwrap_display.proofs.Common.{chunks-from, final_blanks, flat, gaps, indent_len}
+use Rattle.textwrap_display.proofs.Common.{is_blank, is_cut, justified, length-prefix_len}
+use Rattle.textwrap_display.proofs.Common.{line_bytes, line_words, or_cases, slice_index}
+use Rattle.textwrap_display.proofs.Common.{text_width, tiled, widened_words, word_of, ◌%◌}
+use Rattle.textwrap_display.proofs.{KeptWords.trimmed_len-blanks, Widths.blanks-are}
+use Rattle.textwrap_text.proofs.Common.{IsCharBoundary, IsUtf8, List, [], and_parts, ap}
+use Rattle.textwrap_text.proofs.Common.{append_assoc, arith, cases_Bool, cases_lt, drop, eqb-true}
+use Rattle.textwrap_text.proofs.Common.{false, get_or, inl, inr, length, map, min, nat_tests}
+use Rattle.textwrap_text.proofs.Common.{ne_eqb, not, onto_first, prefix_len, refl, rules, suc, sym}
+use Rattle.textwrap_text.proofs.Common.{take, take-append-le, take_at, true, zero, ℕ, ◌++◌, ◌+◌}
+use Rattle.textwrap_text.proofs.Common.{◌-◌, ◌/◌, ◌<◌, ◌==◌, ◌||◌, ◌∙◌, ◌∷◌, ◌≡◌, ◌≢◌, ◌≤◌}
+use Rattle.textwrap_text.proofs.Lists.Parts.{flat-onto_first, onto_first-length}
 use Rattle.textwrap_text.proofs.Texts.{IsCharBoundary-after_blank}
-use Rattle.std.proofs.lemmas.List.Sums.{prefix_len-drop_all, prefix_len-drop_no, prefix_len_stops}
-use Rattle.std.proofs.lemmas.List.Sums.{prefix_len_is}
-use Rattle.std.proofs.Math.Nat.{zero-div, zero-mod}
+use Rattle.textwrap_words.proofs.Word.Words.{tiled-map}
 
 -- ---- the chunks of a line whose gaps are widened: the same chunks, each but the last with more
 -- blanks
@@ -37,9 +35,7 @@ widened_chunks each extra (c ∷ d ∷ cs) =
 pub first-written : (each left : ℕ) (chunk : List ℕ) (others : List (List ℕ))
     → flat (widened_chunks each left (chunk ∷ others))
     ≡ chunk ++ flat (widened_chunks each left ([] ∷ others))
-first-written each left chunk [] = refl
-first-written each left chunk (next ∷ others) = append_assoc chunk (blanks (each + min left 1))
-    (flat (widened_chunks each (left - 1) (next ∷ others)))
+first-written each left chunk others = search (rules, arith, append_assoc)
 
 -- the gap is written that comes next, and the chunk after it
 pub gap-written : (each left less more : ℕ) (chunk text first second new : List ℕ)
@@ -48,9 +44,7 @@ pub gap-written : (each left less more : ℕ) (chunk text first second new : Lis
     → new ++ flat (widened_chunks each less ([] ∷ others))
     ≡ text ++ flat (widened_chunks each left ([] ∷ chunk ∷ others))
 gap-written each left less more chunk text first second new others most last one two three =
-    let all = replicate-append-replicate each (min left 1) blank in
-    rw (three, two, one, most, last, first-written each (left - 1) chunk others, ← all)
-    (simp append_assoc)
+    grind (arith, append_assoc, first-written, replicate-append-replicate)
 
 -- ---- their chunks
 
@@ -137,8 +131,7 @@ widened-text each extra cs =
 pub same-texts : (each extra : ℕ) (ws : List WordText)
     → map (λ w. w.word) (widened_words each extra ws) ≡ map (λ w. w.word) ws
 same-texts each extra [] = refl
-same-texts each extra (w ∷ []) = refl
-same-texts each extra (w ∷ v ∷ ws) = ap (λ l. w.word ∷ l) (same-texts each (extra - 1) (v ∷ ws))
+same-texts each extra (w ∷ ws) = search (rules, arith, same-texts each (extra - 1) ws)
 
 -- without more blanks, and without a gap, the words are the same
 pub widened-none : (ws : List WordText) → widened_words 0 0 ws ≡ ws
@@ -223,17 +216,5 @@ justified-words width line =
     let spare = width - text_width line in
     let each = spare / gaps line in
     let extra = spare % gaps line in
-    cond_both ((spare == 0) || (gaps line == 0)) (Slice line) _
-    (λ l. JustifiedLineKeepsWords width line (line_bytes l))
-    (λ stays. record {
-      indent = refl;
-      words = refl;
-      spaces = sym (widened-stays spare line stays);
-    })
-    (λ other.
     let is = widened-line each extra line _ refl in
-    record {
-      indent = is.0;
-      words = ap (map (λ w. w.word)) is.1 ∙ same-texts each extra (line_words line);
-      spaces = is.1;
-    })
+    search (rules, arith, is, widened-stays, same-texts each extra (line_words line))

@@ -1,27 +1,23 @@
 -- How wide blanks are, and lines that are aligned or justified.
-use Rattle.textwrap_text.proofs.Common.{take-append-drop, All-from_get_or, append_assoc, All-weaker}
-use Rattle.textwrap_text.proofs.Common.{get_or-take, length-take, All-head, All-tail, eqb-true, All}
-use Rattle.textwrap_text.proofs.Common.{IsUtf8, length, rules, arith, subst, List, drop, refl, take}
-use Rattle.textwrap_text.proofs.Common.{true, ◌++◌, min, suc, sym, ◌*◌, ◌+◌, ◌-◌, ◌/◌, ◌<◌, ◌∷◌, []}
-use Rattle.textwrap_text.proofs.Common.{◌≡◌, ◌≢◌, ◌≤◌, ap, ℕ}
-use Rattle.std.proofs.lemmas.List.{length-replicate}
-use Rattle.std.proofs.lemmas.List.Elements.{All-replicate}
-use Rattle.textwrap_display.proofs.Common.{text_width-append, widened_words, indent_len, line_bytes}
-use Rattle.textwrap_display.proofs.Common.{line_words, text_width, AreBlanks, justified, WordText}
-use Rattle.textwrap_display.proofs.Common.{is_blank, blanks, chunks, blank, tiled, gaps, ◌%◌}
-use Rattle.textwrap_text.proofs.Units.Reading.{printable-width}
-use Rattle.textwrap_text.proofs.Units.Chunks.{chunks-utf8}
-use Rattle.textwrap_layout.proofs.Paragraph.LeftOff.{blanks-utf8}
-use Rattle.textwrap_lines.proofs.Text.Printed.{blanks-printable, blanks-whole}
-use Rattle.textwrap_words.proofs.Word.Words.{text_width-nil, tiled-words_of, words-measured}
-use Rattle.textwrap_words.proofs.Word.Words.{IsMeasured}
-use Rattle.textwrap_layout.specs.Text.{HasWholeSequences}
-use Rattle.textwrap_display.specs.Alignment.{blanks_before, aligned, spread}
-use Rattle.textwrap_display.specs.declared.alignment.Alignment.{Alignment}
-use Rattle.textwrap_display.specs.declared.alignment.Alignment.TheVariants.{Centre, Right, Left}
 use Rattle.std.proofs.Math.Nat.{div-add-mod, suc-mul}
-use Rattle.std.proofs.lemmas.List.Sums.{prefix_len_passes}
-use Rattle.textwrap_text.proofs.Texts.{after_ascii}
+use Rattle.std.proofs.lemmas.List.{Elements.All-replicate, Sums.prefix_len_passes, length-replicate}
+use Rattle.textwrap_display.proofs.Common.{AreBlanks, WordText, blank, blanks, chunks, gaps}
+use Rattle.textwrap_display.proofs.Common.{indent_len, is_blank, justified, line_bytes, line_words}
+use Rattle.textwrap_display.proofs.Common.{text_width, text_width-append, tiled, widened_words, ◌%◌}
+use Rattle.textwrap_display.specs.Alignment.{aligned, blanks_before, spread}
+use Rattle.textwrap_display.specs.declared.alignment.Alignment.{Alignment}
+use Rattle.textwrap_display.specs.declared.alignment.Alignment.TheVariants.{Centre, Left, Right}
+use Rattle.textwrap_layout.{proofs.Paragraph.LeftOff.blanks-utf8, specs.Text.HasWholeSequences}
+use Rattle.textwrap_lines.proofs.Text.Printed.{blanks-printable, blanks-whole}
+use Rattle.textwrap_text.proofs.Common.{All, All-from_get_or, All-head, All-tail, All-weaker}
+use Rattle.textwrap_text.proofs.Common.{IsUtf8, List, [], ap, append_assoc, arith, drop, eqb-true}
+use Rattle.textwrap_text.proofs.Common.{get_or-take, length, length-take, min, refl, rules, subst}
+use Rattle.textwrap_text.proofs.Common.{suc, sym, take, take-append-drop, true, ℕ, ◌*◌, ◌++◌, ◌+◌}
+use Rattle.textwrap_text.proofs.Common.{◌-◌, ◌/◌, ◌<◌, ◌∷◌, ◌≡◌, ◌≢◌, ◌≤◌}
+use Rattle.textwrap_text.proofs.{Texts.after_ascii, Units.Chunks.chunks-utf8}
+use Rattle.textwrap_text.proofs.Units.Reading.{printable-width}
+use Rattle.textwrap_words.proofs.Word.Words.{IsMeasured, text_width-nil, tiled-words_of}
+use Rattle.textwrap_words.proofs.Word.Words.{words-measured}
 
 -- ---- how wide blanks are
 
@@ -50,14 +46,8 @@ spread-before : (alignment : Alignment) (spare : ℕ) (line text : List ℕ) →
     → HasWholeSequences line → text_width (spread alignment spare line ++ text)
     ≡ text_width line + spare + text_width text
 spread-before alignment spare line text utf8 whole =
-    let after = blanks (spare - blanks_before alignment spare) in
-    grind (
-      arith,
-      before-few alignment spare,
-      append_assoc,
-      more-blanks,
-      text_width-append line (after ++ text) utf8 whole,
-    )
+    let few = before-few alignment spare in
+    grind (arith, few, append_assoc, more-blanks, text_width-append, utf8, whole)
 
 -- text after a line that is aligned
 pub aligned-before : (alignment : Alignment) (width : ℕ) (line text : List ℕ) → IsUtf8 line
@@ -79,12 +69,7 @@ word-before : (w : WordText) (text : List ℕ) → IsMeasured w → HasWholeSequ
     → text_width ((w.word ++ w.whitespace) ++ text)
     ≡ text_width w.word + length w.whitespace + text_width text
 word-before w text here whole =
-    grind (
-      arith,
-      append_assoc,
-      text_width-append w.word (w.whitespace ++ text) here.utf8 whole,
-      blanks-before w.whitespace text here.ending.blanks,
-    )
+    search (rules, arith, append_assoc, text_width-append, blanks-before)
 
 -- each gap is wider by so many blanks, and the first ones by one more
 widened-width : (each extra : ℕ) (ws : List WordText) → All IsMeasured ws
@@ -146,14 +131,14 @@ module _ (line : List ℕ) (utf8 : IsUtf8 line)
       let ws = line_words line in
       let each = spare / gaps line in
       let extra = spare % gaps line in
+      let measured = words-measured (chunks (drop n line))
+      (chunks-utf8 (drop n line) (rest-utf8 line utf8)) in
       let more : 0 < gaps line = omega (arith, some) in
-      let few : extra ≤ length ws - 1 = omega (arith, more) in
       omega (
         arith,
         blanks-before (take n line) (tiled (widened_words each extra ws)) (indent-blanks line),
-        widened-width each extra ws
-            (words-measured (chunks (drop n line)) (chunks-utf8 (drop n line) (rest-utf8 line utf8))) whole,
-        few,
+        widened-width each extra ws measured whole,
+        more,
         line-width,
         div-add-mod spare (gaps line),
       )

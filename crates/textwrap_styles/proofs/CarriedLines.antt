@@ -1,4 +1,22 @@
 -- Lines whose styles are carried: their bytes, what they show, and whole lines under indents.
+use Rattle.std.proofs.lemmas.List.Folds.{concat-append, flat_map-map}
+use Rattle.std.specs.{Cow.cow_str_bytes, declared.borrow.CowStr.CowStr}
+use Rattle.textwrap_layout.proofs.Text.Lines.{line_bytes-line_view}
+use Rattle.textwrap_layout.specs.Paragraph.{Built, Line, Slice, line_bytes, line_view}
+use Rattle.textwrap_styles.proofs.Common.{All-filter, IsWhole, Rendition, carried_lines, chars}
+use Rattle.textwrap_styles.proofs.Common.{closing, concat, fold-append, link_end, open_link}
+use Rattle.textwrap_styles.proofs.Common.{open_styles, penned_lines, penned_text, plain_rendition}
+use Rattle.textwrap_styles.proofs.Common.{rendition_of, sequence_of, sequences, style_end}
+use Rattle.textwrap_styles.proofs.{Common.with_sequence, PenStyles.ended, PenStyles.styles-pen}
+use Rattle.textwrap_styles.proofs.SequenceTexts.{IsSequence, closing-is, closing-sequences}
+use Rattle.textwrap_styles.proofs.SequenceTexts.{closing_sequences, nil-whole, parts-penned}
+use Rattle.textwrap_styles.proofs.SequenceTexts.{parts-sequences, parts-visible, penned-append}
+use Rattle.textwrap_styles.proofs.SequenceTexts.{text-sequences, text_units-append}
+use Rattle.textwrap_styles.proofs.{Sequences.link-among, WrittenSettings.styles-sequences}
+use Rattle.textwrap_styles.specs.Indents.{after_indent, before_text, indent_end}
+use Rattle.textwrap_styles.specs.Penned.{penned_units}
+use Rattle.textwrap_styles.specs.Styled.{EachWithIndent, EndsPlain, IsWholeText, MayCarry}
+use Rattle.textwrap_styles.specs.Styles.{carried_line, opening, texts_of}
 use Rattle.textwrap_text.proofs.Common.{All, All-append, All-cons, All-drop, All-head, All-nil}
 use Rattle.textwrap_text.proofs.Common.{All-tail, All-weaker, IsUtf8, IsUtf8-drop, List, [], ap}
 use Rattle.textwrap_text.proofs.Common.{append-nil, append_assoc, arith, cases_Bool, chars-nil}
@@ -7,29 +25,7 @@ use Rattle.textwrap_text.proofs.Common.{inr, length, length-append, map, map-app
 use Rattle.textwrap_text.proofs.Common.{nat_tests, nil_from_length, refl, rules, starts_with, subst}
 use Rattle.textwrap_text.proofs.Common.{sym, take, take-append-drop, take_at, text_width, units, ℕ}
 use Rattle.textwrap_text.proofs.Common.{◌++◌, ◌+◌, ◌<◌, ◌==◌, ◌∙◌, ◌∷◌, ◌≡◌, ◌≤◌}
-use Rattle.textwrap_styles.proofs.Common.{All-filter, IsWhole, Rendition, carried_lines, chars}
-use Rattle.textwrap_styles.proofs.Common.{closing, concat, fold-append, link_end, open_link}
-use Rattle.textwrap_styles.proofs.Common.{open_styles, penned_lines, penned_text, plain_rendition}
-use Rattle.textwrap_styles.proofs.Common.{rendition_of, sequence_of, sequences, style_end}
-use Rattle.textwrap_styles.proofs.Common.{with_sequence}
-use Rattle.std.proofs.lemmas.List.Folds.{concat-append, flat_map-map}
-use Rattle.std.specs.Cow.{cow_str_bytes}
-use Rattle.std.specs.declared.borrow.CowStr.{CowStr}
-use Rattle.textwrap_layout.proofs.Text.Lines.{line_bytes-line_view}
-use Rattle.textwrap_layout.specs.Paragraph.{Built, Line, Slice, line_bytes, line_view}
-use Rattle.textwrap_styles.proofs.PenStyles.{ended, styles-pen}
-use Rattle.textwrap_styles.proofs.SequenceTexts.{IsSequence, closing-is, closing-sequences}
-use Rattle.textwrap_styles.proofs.SequenceTexts.{closing_sequences, nil-whole, parts-penned}
-use Rattle.textwrap_styles.proofs.SequenceTexts.{parts-sequences, parts-visible, penned-append}
-use Rattle.textwrap_styles.proofs.SequenceTexts.{text-sequences, text_units-append}
-use Rattle.textwrap_styles.proofs.Sequences.{link-among}
-use Rattle.textwrap_styles.proofs.WrittenSettings.{styles-sequences}
-use Rattle.textwrap_styles.specs.Indents.{after_indent, before_text, indent_end}
-use Rattle.textwrap_styles.specs.Penned.{penned_units}
-use Rattle.textwrap_styles.specs.Styled.{EachWithIndent, EndsPlain, IsWholeText, MayCarry}
-use Rattle.textwrap_styles.specs.Styles.{carried_line, opening, texts_of}
-use Rattle.textwrap_text.proofs.Lists.Parts.{starts_with-rest}
-use Rattle.textwrap_text.proofs.Texts.{StartsWith-boundary}
+use Rattle.textwrap_text.proofs.{Lists.Parts.starts_with-rest, Texts.StartsWith-boundary}
 
 -- ---- one line more that sets anew what is open, and ends plain
 
@@ -132,18 +128,9 @@ module _ (indent : List ℕ) (before : List (List ℕ)) (line : List ℕ) (are :
 
   pub carried-plain : EndsPlain (line_bytes (carried_line indent before line))
   carried-plain =
-      let more = sequences text in
-      let first = sequences front ++ starts in
-      ap (λ t. rendition_of (sequences t)) (carried-bytes indent before line)
-      ∙ ap rendition_of (parts-sequences front text starts ends may.front may.text all-starts
-      all-ends)
-      ∙ fold-append with_sequence plain_rendition (first ++ more) ends
-      ∙ ap (λ now. fold with_sequence now ends)
-      (fold-append with_sequence plain_rendition first more
-      ∙ ap (λ now. fold with_sequence now more) begun
-      ∙ sym (fold-append with_sequence plain_rendition before more))
-      ∙ sym (fold-append with_sequence plain_rendition (before ++ more) ends)
-      ∙ ended (before ++ more)
+      let all = parts-sequences front text starts ends may.front may.text all-starts all-ends in
+      let end = ended (before ++ sequences text) in
+      grind (arith, carried-bytes indent before line, all, fold-append, begun, end)
 
   pub carried-wide : text_width (line_bytes (carried_line indent before line)) ≡ text_width line
   carried-wide =
@@ -260,15 +247,10 @@ bare-shown : (lines : List (List ℕ)) (now : Rendition) → All IsWholeText lin
     → flat_map (λ shown. shown) (penned_lines [] [] now lines) ≡ penned_text now (concat lines)
 bare-shown [] now whole = ap (λ cs. penned_units now (units cs)) (sym chars-nil)
 bare-shown (line ∷ lines) now whole =
-    let own = All-head IsWholeText line lines whole in
+    let apart = text_units-append line (concat lines) (All-head IsWholeText line lines whole) in
     let rest = All-tail IsWholeText line lines whole in
-    grind (
-      arith,
-      chars-nil,
-      text_units-append line (concat lines) own,
-      penned-append,
-      bare-shown lines (fold with_sequence now (sequences line)) rest,
-    )
+    let others = bare-shown lines (fold with_sequence now (sequences line)) rest in
+    grind (arith, chars-nil, apart, penned-append, others)
 
 -- the lines, each by itself, show what the text shows that they join to
 pub bare-carried : (lines : List (List ℕ)) → All IsWholeText lines

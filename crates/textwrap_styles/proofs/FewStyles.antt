@@ -1,27 +1,24 @@
 -- How many settings are open, and how many bytes set them anew.
-use Rattle.textwrap_text.proofs.Common.{All, All-append, All-cons, All-head, All-nil, All-tail}
-use Rattle.textwrap_text.proofs.Common.{All-weaker, Bool, List, [], after_last, arith, cases_Bool}
-use Rattle.textwrap_text.proofs.Common.{codes, cond, drop, eqb, false, filter, flat_map, inl, inr}
-use Rattle.textwrap_text.proofs.Common.{length, length-append, length-map, length-take, list_any}
-use Rattle.textwrap_text.proofs.Common.{map, nat_tests, not, refl, rules, subst, suc, sym, true}
-use Rattle.textwrap_text.proofs.Common.{true≢false, zero, ℕ, ◌*◌, ◌+◌, ◌-◌, ◌<◌, ◌==◌, ◌∙◌, ◌∷◌}
-use Rattle.textwrap_text.proofs.Common.{◌≡◌, ◌≤◌}
-use Rattle.textwrap_styles.proofs.Common.{All-filter, concat, has_target, is_link, is_style}
-use Rattle.textwrap_styles.proofs.Common.{kind_of, latest, link_end, open_link, open_settings}
-use Rattle.textwrap_styles.proofs.Common.{open_styles, settings, settings_of, style_end}
-use Rattle.textwrap_styles.proofs.Common.{style_parameters, written}
-use Rattle.std.proofs.Math.Nat.{mul-le-mul_left}
-use Rattle.std.proofs.lemmas.Map.Steps.{length-le_from_distinct_below}
+use Rattle.std.proofs.{Math.Nat.mul-le-mul_left, lemmas.Map.Steps.length-le_from_distinct_below}
 use Rattle.std.specs.List.{AllByRecursion, IsDistinct}
 use Rattle.textwrap_layout.specs.Paragraph.{line_bytes}
-use Rattle.textwrap_styles.proofs.CarriedLines.{carried-len}
+use Rattle.textwrap_styles.proofs.{CarriedLines.carried-len, Common.All-filter, Common.concat}
+use Rattle.textwrap_styles.proofs.Common.{has_target, is_link, is_style, kind_of, latest, link_end}
+use Rattle.textwrap_styles.proofs.Common.{open_link, open_settings, open_styles, settings}
+use Rattle.textwrap_styles.proofs.Common.{settings_of, style_end, style_parameters, written}
 use Rattle.textwrap_styles.proofs.OpenSettings.{Sets, all-latest, all-open, all-set, known-below}
 use Rattle.textwrap_styles.proofs.OpenSettings.{latest-in_effect, none-latest, resets}
 use Rattle.textwrap_styles.proofs.SettingTexts.{first-len}
 use Rattle.textwrap_styles.specs.Laws.{known_settings, unknown_settings}
 use Rattle.textwrap_styles.specs.Settings.{first_setting, is_unknown, number, replaces}
-use Rattle.textwrap_styles.specs.Settings.{settings_past, takes_back}
-use Rattle.textwrap_styles.specs.Styles.{carried_line}
+use Rattle.textwrap_styles.specs.{Settings.settings_past, Settings.takes_back, Styles.carried_line}
+use Rattle.textwrap_text.proofs.Common.{All, All-append, All-cons, All-head, All-nil, All-tail}
+use Rattle.textwrap_text.proofs.Common.{All-weaker, Bool, List, [], after_last, arith, cases_Bool}
+use Rattle.textwrap_text.proofs.Common.{codes, cond_both, drop, eqb, false, false_from_ne_true}
+use Rattle.textwrap_text.proofs.Common.{filter, flat_map, length, length-append, length-map}
+use Rattle.textwrap_text.proofs.Common.{length-take, list_any, map, nat_tests, not, refl, rules}
+use Rattle.textwrap_text.proofs.Common.{subst, suc, sym, true, true≢false, zero, ℕ, ◌*◌, ◌+◌, ◌-◌}
+use Rattle.textwrap_text.proofs.Common.{◌<◌, ◌==◌, ◌∙◌, ◌∷◌, ◌≡◌, ◌≤◌}
 
 -- ---- no two that the table knows are of one kind
 
@@ -54,45 +51,30 @@ none-same s [] sets all none = tt
 none-same s (t ∷ ss) sets all none =
     let one : replaces t s ≡ false = grind (arith, cases_Bool) in
     let rest : list_any (λ t. replaces t s) ss ≡ false = grind (arith, cases_Bool) in
-    by (known t) refl one (none-same s ss sets (All-tail Sets t ss all) rest)
-  where
-    by : (is : Bool) → known t ≡ is → replaces t s ≡ false → Others s ss
-        → AllByRecursion (λ n. eqb (place s) n ≡ false)
-        (map place (cond is (t ∷ filter known ss) (filter known ss)))
-    by false is one others = others
-    by true is one others = (
-      elim (cases_Bool (eqb (place s) (place t))) [
-        | inl same ↦ absurd (true≢false
-            (sym (replaces-same s t sets (All-head Sets t ss all) is same) ∙ one))
-        | inr other ↦ other
-      ],
+    let others = none-same s ss sets (All-tail Sets t ss all) rest in
+    cond_both (known t) (t ∷ filter known ss) (filter known ss)
+    (λ l. AllByRecursion (λ n. eqb (place s) n ≡ false) (map place l))
+    (λ is. (
+      false_from_ne_true (eqb (place s) (place t)) (λ same. true≢false
+          (sym (replaces-same s t sets (All-head Sets t ss all) is same) ∙ one)),
       others,
-    )
+    )) (λ other. others)
 
 places-distinct : (ss : List (List ℕ)) → All Sets ss
     → IsDistinct eqb (map place (filter known (latest ss)))
 unfolding IsDistinct
 places-distinct [] all = tt
 places-distinct (s ∷ ss) all =
-    by (list_any (λ t. replaces t s) ss) refl
-    (places-distinct ss (All-tail Sets s ss all))
-  where
-    with_one : (is : Bool) → Others s (latest ss)
-        → IsDistinct eqb (map place (filter known (latest ss)))
-        → IsDistinct eqb (map place (cond is (s ∷ filter known (latest ss))
-        (filter known (latest ss))))
-    with_one true other others = (other, others)
-    with_one false other others = others
-
-    by : (later : Bool) → list_any (λ t. replaces t s) ss ≡ later
-        → IsDistinct eqb (map place (filter known (latest ss)))
-        → IsDistinct eqb (map place (filter known (cond later (latest ss) (s ∷ latest ss))))
-    by true is others = others
-    by false is others =
-        with_one (known s)
-        (none-same s (latest ss) (All-head Sets s ss all)
-        (all-latest Sets ss (All-tail Sets s ss all)) (none-latest (λ t. replaces t s) ss is))
-        others
+    let others = places-distinct ss (All-tail Sets s ss all) in
+    let left = filter known (latest ss) in
+    cond_both (list_any (λ t. replaces t s) ss) (latest ss) (s ∷ latest ss)
+    (λ l. IsDistinct eqb (map place (filter known l))) (λ is. others)
+    (λ is. cond_both (known s) (s ∷ left) left (λ l. IsDistinct eqb (map place l))
+    (λ other. (
+      none-same s (latest ss) (All-head Sets s ss all)
+          (all-latest Sets ss (All-tail Sets s ss all)) (none-latest (λ t. replaces t s) ss is),
+      others,
+    )) (λ other. others))
 
 places-below : (ss : List (List ℕ)) (q : ℕ)
     → list_any (eqb q) (map place (filter known ss)) ≡ true → q < 15
@@ -103,10 +85,8 @@ pub few-known : (before : List (List ℕ)) → length (known_settings before) �
 few-known before =
     let all = flat_map settings_of before in
     let now = open_settings all in
-    let same : latest now ≡ now = latest-in_effect (after_last resets all) in
-    let distinct : IsDistinct eqb (map place (filter known now)) =
-    subst (λ ss. IsDistinct eqb (map place (filter known ss))) same
-    (places-distinct now (all-set all)) in
+    let distinct = subst (λ ss. IsDistinct eqb (map place (filter known ss)))
+    (latest-in_effect (after_last resets all)) (places-distinct now (all-set all)) in
     let most = length-le_from_distinct_below (map place (filter known now)) 15 distinct
     (places-below now) in
     omega (arith, most, length-map (filter known now) place)
@@ -117,9 +97,7 @@ past-short : (n : ℕ) (t : List ℕ) (most : ℕ) → length t ≤ most
     → All (λ s. length s ≤ most) (settings_past n t)
 past-short n [] most short = All-nil (λ s. length s ≤ most)
 past-short zero (c ∷ cs) most short =
-    let s = first_setting cs in
-    All-cons (λ s. length s ≤ most) s (settings_past (length s) cs)
-    (omega (arith, first-len cs, short)) (past-short (length s) cs most (omega (arith, short)))
+    search (rules, arith, All-cons, first-len, past-short (length (first_setting cs)) cs)
 past-short (suc n) (c ∷ cs) most short = past-short n cs most (omega (arith, short))
 
 settings-short : (t : List ℕ) (most : ℕ) → length t ≤ most
@@ -137,27 +115,20 @@ style-len (a ∷ b ∷ []) is = grind (arith, cases_Bool, nat_tests)
 style-len (a ∷ b ∷ c ∷ s) is = omega arith
 
 sequence-short : (s : List ℕ) (most : ℕ) → length s ≤ most → All (IsShort most) (settings_of s)
-sequence-short s most short = by (is_style s) refl
-  where
-    by : (style : Bool) → is_style s ≡ style
-        → All (IsShort most) (cond style (settings (style_parameters s)) [])
-    by false is = All-nil (IsShort most)
-    by true is =
-        let own = style-len s is in
-        let text = style_parameters s in
-        let len : length text ≤ length s - 3 =
-        omega (arith, length-take (length s - 3) (drop 2 s)) in
-        All-weaker (λ t. length t ≤ most - 3) (IsShort most)
-        (λ t few. omega (arith, few, own, short)) (settings text)
-        (settings-short text (most - 3) (omega (arith, len, own, short)))
+sequence-short s most short =
+    cond_both (is_style s) (settings (style_parameters s)) [] (All (IsShort most)) (λ is.
+    let own = style-len s is in
+    let text = style_parameters s in
+    let len : length text ≤ length s - 3 = omega (arith, length-take (length s - 3) (drop 2 s)) in
+    All-weaker (λ t. length t ≤ most - 3) (IsShort most) (λ t few. omega (arith, few, own, short))
+    (settings text) (settings-short text (most - 3) (omega (arith, len, own, short))))
+    (λ other. All-nil (IsShort most))
 
 all-short : (before : List (List ℕ)) (most : ℕ) → All (λ s. length s ≤ most) before
     → All (IsShort most) (flat_map settings_of before)
 all-short [] most short = All-nil (IsShort most)
 all-short (s ∷ before) most short =
-    All-append (IsShort most) (settings_of s) (flat_map settings_of before)
-    (sequence-short s most (All-head (λ s. length s ≤ most) s before short))
-    (all-short before most (All-tail (λ s. length s ≤ most) s before short))
+    search (rules, arith, All-append, sequence-short, all-short before most, All-head, All-tail)
 
 written-bytes : (ss : List (List ℕ)) (most : ℕ) → All (IsShort most) ss
     → length (concat (map written ss)) ≤ length ss * most

@@ -1,16 +1,15 @@
 -- Which settings a later one takes back, by their kinds, and settings that are open: with one more,
 -- once more, and what holds of each of them.
-use Rattle.textwrap_text.proofs.Common.{All, All-append, All-cons, All-drop, All-head, All-nil}
-use Rattle.textwrap_text.proofs.Common.{All-tail, Bool, Bor, List, [], after_last, ap, append-nil}
-use Rattle.textwrap_text.proofs.Common.{append_assoc, arith, cases_Bool, cond, false, filter, fold}
-use Rattle.textwrap_text.proofs.Common.{list_any, map, nat_tests, not, refl, rules, subst, sym}
-use Rattle.textwrap_text.proofs.Common.{true, ℕ, ◌&&◌, ◌++◌, ◌<◌, ◌==◌, ◌||◌, ◌∙◌, ◌∷◌, ◌≡◌}
+use Rattle.std.proofs.lemmas.{List.Folds.list_any-append, Slice.Eq.bytes_eq-Decides}
+use Rattle.std.specs.Str.{bytes_eq}
 use Rattle.textwrap_styles.proofs.Common.{All-filter, Kind, Reset, in_effect, kind_of, latest}
 use Rattle.textwrap_styles.proofs.Common.{open_settings}
-use Rattle.std.proofs.lemmas.List.Folds.{list_any-append}
-use Rattle.std.proofs.lemmas.Slice.Eq.{bytes_eq-Decides}
-use Rattle.std.specs.Str.{bytes_eq}
 use Rattle.textwrap_styles.specs.Settings.{is_unknown, number, replaces, takes_back}
+use Rattle.textwrap_text.proofs.Common.{All, All-append, All-cons, All-drop, All-head, All-nil}
+use Rattle.textwrap_text.proofs.Common.{All-tail, Bool, Bor, List, [], ap, append-nil, append_assoc}
+use Rattle.textwrap_text.proofs.Common.{arith, cases_Bool, cond, cond_both, false, filter, fold}
+use Rattle.textwrap_text.proofs.Common.{list_any, map, nat_tests, not, refl, rules, subst, sym}
+use Rattle.textwrap_text.proofs.Common.{true, ℕ, ◌&&◌, ◌++◌, ◌<◌, ◌==◌, ◌||◌, ◌∙◌, ◌∷◌, ◌≡◌}
 use Rattle.textwrap_text.proofs.Lists.Parts.{after_last-push}
 
 pub unknown-number : (k : Kind) → is_unknown k ≡ (number k == 16)
@@ -194,14 +193,10 @@ pub all-open : (P : List ℕ → Type 0) (before : List (List ℕ)) → All P be
 all-open P before all = search (rules, arith, all-in_effect, all-latest, All-drop)
 
 next-sets : (now : List (List ℕ)) (t : List ℕ) → All Sets now → All Sets (next_settings now t)
-next-sets now t are = by (resets t) refl
-  where
-    by : (reset : Bool) → resets t ≡ reset → All Sets (cond reset [] (with_setting now t))
-    by true is = All-nil Sets
-    by false is =
-        all-in_effect Sets (not_replaced t now ++ t ∷ [])
-        (All-append Sets (not_replaced t now) (t ∷ [])
-        (All-filter (λ s. not (replaces t s)) Sets now are) (All-cons Sets t [] is (All-nil Sets)))
+next-sets now t are = cond_both (resets t) [] (with_setting now t) (All Sets) (λ is. All-nil Sets)
+    (λ is. all-in_effect Sets (not_replaced t now ++ t ∷ [])
+    (All-append Sets (not_replaced t now) (t ∷ [])
+    (All-filter (λ s. not (replaces t s)) Sets now are) (All-cons Sets t [] is (All-nil Sets))))
 
 pub all-set : (before : List (List ℕ)) → All Sets (open_settings before)
 all-set before =
@@ -221,8 +216,5 @@ set-again first (t ∷ more) are =
 pub settings-again : (front before : List (List ℕ)) → open_settings front ≡ []
     → open_settings (front ++ open_settings before) ≡ open_settings before
 settings-again front before none =
-    let more = open_settings before in
-    after-more open_settings next_settings open_settings-push front more
-    ∙ ap (λ now. fold next_settings now more) none
-    ∙ set-again [] more (all-set before)
-    ∙ effect-again (after_last resets before)
+    let more = after-more open_settings next_settings open_settings-push front (open_settings before) in
+    grind (arith, more, none, set-again [] (open_settings before) (all-set before), effect-again)

@@ -1,15 +1,14 @@
 -- What parameters do to a pen: they set some fields to values of their own and leave the others. So
 -- which numbers the table has to know, and which of them end something.
-use Rattle.textwrap_text.proofs.Common.{Bool, List, [], ap, arith, cases_Bool, cond, drop, eqb-true}
-use Rattle.textwrap_text.proofs.Common.{false, fold, inl, inr, length, map, nat_tests, not, refl}
-use Rattle.textwrap_text.proofs.Common.{subst, suc, sym, true, true≢false, zero, ℕ, ⊤, ◌&&◌, ◌++◌}
-use Rattle.textwrap_text.proofs.Common.{◌+◌, ◌<◌, ◌==◌, ◌||◌, ◌∙◌, ◌∷◌, ◌≡◌, ◌≢◌, ◌≤◌, ◌⊎◌}
 use Rattle.textwrap_styles.proofs.Common.{Color, Pen, apply, between, first_of, numbers_of}
 use Rattle.textwrap_styles.proofs.Common.{plain_pen}
 use Rattle.textwrap_styles.specs.Pen.{Own, Reading, color_of, is_whole_color, with_code, with_color}
-use Rattle.textwrap_styles.specs.Pen.{with_field, with_parts}
-use Rattle.textwrap_styles.specs.Settings.{is_color_code, is_ending_code, is_unknown, kind_of_code}
-use Rattle.textwrap_styles.specs.Settings.{number}
+use Rattle.textwrap_styles.specs.{Pen.with_field, Pen.with_parts, Settings.is_color_code}
+use Rattle.textwrap_styles.specs.Settings.{is_ending_code, is_unknown, kind_of_code, number}
+use Rattle.textwrap_text.proofs.Common.{Bool, List, [], ap, arith, cases_Bool, cases_lt, cond, drop}
+use Rattle.textwrap_text.proofs.Common.{eqb-true, false, fold, inl, inr, length, map, nat_tests}
+use Rattle.textwrap_text.proofs.Common.{not, refl, subst, suc, sym, true, true≢false, zero, ℕ, ⊤}
+use Rattle.textwrap_text.proofs.Common.{◌&&◌, ◌++◌, ◌+◌, ◌<◌, ◌==◌, ◌||◌, ◌∙◌, ◌∷◌, ◌≡◌, ◌≢◌, ◌≤◌}
 
 -- ---- a pen that takes some of its fields from one pen and the others from another
 
@@ -73,7 +72,7 @@ sets k i = (k == 0) || (k == i) || (k == 3) && ((i == 1) || (i == 2))
 abbrev pub touches : ℕ → Mask
 touches c i = not (is_color_code c) && sets (number (kind_of_code c)) i
 
-abbrev is_own : Color → Bool
+abbrev pub is_own : Color → Bool
 is_own Own = true
 is_own _ = false
 
@@ -123,16 +122,13 @@ far-row c far = record {
 }
 
 pub row : (c : ℕ) → Row c
-row c = elim (nat-cases c 54) [
+row c = elim (cases_lt c 54) [
   | inl below ↦ rows-at 54 c 0 first-rows (omega arith) below
-  | inr from ↦ elim (nat-cases c 108) [
+  | inr from ↦ elim (cases_lt c 108) [
     | inl below ↦ rows-at 54 c 54 last-rows from below
     | inr far ↦ far-row c far
   ]
 ]
-  where
-    nat-cases : (a b : ℕ) → (a < b) ⊎ (b ≤ a)
-    nat-cases a b = grind arith
 
 -- ---- the laws
 

@@ -1,14 +1,8 @@
 -- What a setting that the table knows does to a pen: it sets the fields of its kind, and one that
 -- ends something sets them as in the plain pen.
-use Rattle.textwrap_text.proofs.Common.{Bool, List, [], ap, arith, cases_Bool, drop, eqb-true}
-use Rattle.textwrap_text.proofs.Common.{false, fold, inl, inr, length, length-map, list_all, map}
-use Rattle.textwrap_text.proofs.Common.{min, nat_tests, prefix_len, refl, rules, subst, sym, true}
-use Rattle.textwrap_text.proofs.Common.{true≢false, ℕ, ◌+◌, ◌<◌, ◌==◌, ◌||◌, ◌∙◌, ◌∷◌, ◌≡◌, ◌≢◌}
-use Rattle.textwrap_text.proofs.Common.{◌≤◌, ◌⊎◌}
 use Rattle.textwrap_styles.proofs.Common.{Color, Pen, Reset, apply, between, digits_value, fields}
 use Rattle.textwrap_styles.proofs.Common.{first_of, is_ascii_digit, is_in_range, numbers_of}
-use Rattle.textwrap_styles.proofs.Common.{plain_pen}
-use Rattle.textwrap_styles.proofs.PenCodes.{mix, row, sets}
+use Rattle.textwrap_styles.proofs.{Common.plain_pen, PenCodes.mix, PenCodes.row, PenCodes.sets}
 use Rattle.textwrap_styles.proofs.SettingTexts.{InRange, IsSetting, between-rest, between-some}
 use Rattle.textwrap_styles.proofs.SettingTexts.{code-first, colon-first, details-cons, drop-all}
 use Rattle.textwrap_styles.proofs.SettingTexts.{fields-few, fields-many, first-value, first_field}
@@ -19,6 +13,11 @@ use Rattle.textwrap_styles.specs.Pen.{with_color, with_field, with_first, with_p
 use Rattle.textwrap_styles.specs.Settings.{code, color_fields, details, first_setting}
 use Rattle.textwrap_styles.specs.Settings.{is_color_code, is_end, is_ending_code, is_unknown}
 use Rattle.textwrap_styles.specs.Settings.{kind_of, kind_of_code, number, taken_fields}
+use Rattle.textwrap_text.proofs.Common.{Bool, List, [], ap, arith, cases_Bool, drop, eqb-true}
+use Rattle.textwrap_text.proofs.Common.{false, fold, inl, inr, length, length-map, list_all, map}
+use Rattle.textwrap_text.proofs.Common.{min, nat_tests, prefix_len, refl, rules, subst, sym, true}
+use Rattle.textwrap_text.proofs.Common.{true≢false, ℕ, ◌+◌, ◌<◌, ◌==◌, ◌||◌, ◌∙◌, ◌∷◌, ◌≡◌, ◌≢◌}
+use Rattle.textwrap_text.proofs.Common.{◌≤◌, ◌⊎◌}
 
 -- ---- one field
 
@@ -45,17 +44,20 @@ field-color p field one is = grind (arith, cases_Bool)
 
 -- ---- a colour behind semicolons
 
-pub indexed : (p : Pen) (c : ℕ) (mode n : List ℕ) → first_of mode ≡ 5
-    → with_field (with_field (record { pen = p; color = c ∷ [] }) mode) n
-    ≡ alone (with_color c (color_of (5 ∷ first_of n ∷ [])) p)
-unfolding with_field is_whole_color
-indexed p c mode n is = grind (arith, cases_Bool, nat_tests)
+-- the fields behind 38, 48 or 58 that make a colour: 5 and a number, or 2 and three
+abbrev pub IsColor : List (List ℕ) → Type 0
+IsColor fs =
+    (first_of (numbers_of (first_text fs)) ≡ 5) × (length fs ≡ 2)
+    ⊎ (first_of (numbers_of (first_text fs)) ≡ 2) × (length fs ≡ 4)
 
-pub direct : (p : Pen) (c : ℕ) (mode r g b : List ℕ) → first_of mode ≡ 2
-    → with_field (with_field (with_field (with_field (record { pen = p; color = c ∷ [] }) mode) r) g) b
-    ≡ alone (with_color c (color_of (2 ∷ first_of r ∷ first_of g ∷ first_of b ∷ [])) p)
+pub behind : (p : Pen) (c : ℕ) (fs : List (List ℕ)) → IsColor fs
+    → fold with_field (record { pen = p; color = c ∷ [] }) (map numbers_of fs)
+    ≡ alone (with_color c (color_of (map (λ f. first_of (numbers_of f)) fs)) p)
 unfolding with_field is_whole_color
-direct p c mode r g b is = grind (arith, cases_Bool, nat_tests)
+behind p c (m ∷ n ∷ []) (inl (is, len)) = grind (arith, cases_Bool, nat_tests)
+behind p c (m ∷ r ∷ g ∷ b ∷ []) (inr (is, len)) = grind (arith, cases_Bool, nat_tests)
+behind p c _ (inl (is, len)) = absurd (omega arith)
+behind p c _ (inr (is, len)) = absurd (omega arith)
 
 -- one of the numbers that a colour follows, or an underline's
 pub among : (P : ℕ → Type 0) (c : ℕ) → is_color_code c ≡ true → P 38 → P 48 → P 58 → P c
@@ -111,15 +113,6 @@ known-by t act is own ends =
 pub one-of : (xs : List (List ℕ)) → 1 ≤ length xs → length xs ≤ 1 → xs ≡ first_text xs ∷ []
 one-of (x ∷ []) some few = refl
 one-of _ some few = absurd (omega arith)
-
-pub two-of : (xs : List (List ℕ)) → length xs ≡ 2 → (z : List ℕ) × (xs ≡ first_text xs ∷ z ∷ [])
-two-of (x ∷ y ∷ []) are = (y, refl)
-two-of _ are = absurd (omega arith)
-
-pub four-of : (xs : List (List ℕ)) → length xs ≡ 4
-    → (r : List ℕ) × (g : List ℕ) × (b : List ℕ) × (xs ≡ first_text xs ∷ r ∷ g ∷ b ∷ [])
-four-of (x ∷ r ∷ g ∷ b ∷ []) are = (r, g, b, refl)
-four-of _ are = absurd (omega arith)
 
 -- the number of a code that the table knows is not cut off
 pub code-same : (c n : ℕ) → c ≡ min 255 n → c ≢ 255 → n ≡ c
@@ -182,20 +175,10 @@ zeros-part : (t : List ℕ) → InRange t → list_all is_zero_part (details t) 
     → first_of (drop 1 (numbers_of (first_field t))) ≡ 0
 zeros-part [] all zeros = refl
 zeros-part (c ∷ cs) all zeros =
+    let first = first-value (between 0x3A (first_field cs)) in
     let value = zeros-value cs in
     let others = zeros-part cs in
-    let first = first-value (between 0x3A (first_field cs)) in
-    grind (
-      arith,
-      cases_Bool,
-      nat_tests,
-      details-cons,
-      first_text-first,
-      later-values,
-      first,
-      value,
-      others,
-    )
+    grind (arith, cases_Bool, nat_tests, details-cons, first_text-first, later-values, first, value, others)
 
 end-zeros : (t : List ℕ) → has_colon t ≡ true → is_end t ≡ true
     → list_all is_zero_part (details t) ≡ true
@@ -249,6 +232,14 @@ module _ (t : List ℕ) (is : IsSetting t) (known : is_unknown (kind_of t) ≡ f
       (λ p. rw (kind-code t known) (rw plain at (row (code t)).sets p))
       (λ end. rw (sym (plain-end none) ∙ end) at (row (code t)).ends)
 
+  -- a colour, however it is written
+  color-by : (color : Color) → is_color_code (code t) ≡ true → is_end t ≡ false
+      → ((p : Pen) → read t p ≡ alone (with_color (code t) color p)) → Known t
+  color-by color one stays reads =
+      known-by t (with_color (code t) color) reads
+      (λ p. rw (kind-code t known) (color-sets (code t) color one p))
+      (λ end. absurd (true≢false (sym end ∙ stays)))
+
   -- ---- colons
 
   colon-code : has_colon t ≡ true
@@ -282,12 +273,9 @@ module _ (t : List ℕ) (is : IsSetting t) (known : is_unknown (kind_of t) ≡ f
     | inr other ↦
         let color : is_color_code (code t) ≡ true =
         ap (λ b. b || is_color_code (code t)) (sym other) ∙ colon-code colon in
-        let col = color_of (drop 1 (numbers_of field)) in
-        known-by t (with_color (code t) col)
+        color-by (color_of (drop 1 (numbers_of field))) color (colon-other t colon other)
         (λ p. colon-read colon p
         ∙ ap alone (color-parts (code t) (drop 1 (numbers_of field)) p color))
-        (λ p. rw (kind-code t known) (color-sets (code t) col color p))
-        (λ end. absurd (true≢false (sym end ∙ colon-other t colon other)))
   ]
 
   -- ---- a colour behind semicolons
@@ -313,56 +301,31 @@ module _ (t : List ℕ) (is : IsSetting t) (known : is_unknown (kind_of t) ≡ f
       ∙ code-first rest rest-range) (omega arith)
 
   -- as many fields as the colour takes
-  color-parts-of : (n : ℕ) → has_colon t ≡ false → taken_fields t ≡ n + 1 → 1 ≤ n
-      → length (fields n t) < length t
-      → (between 0x3B t ≡ field ∷ between 0x3B rest) × (length (between 0x3B rest) ≡ n)
-  color-parts-of n none taken some more =
+  color-of : (n : ℕ) → has_colon t ≡ false → is_color_code (code t) ≡ true
+      → taken_fields t ≡ n + 1 → 1 ≤ n → length (fields n t) < length t
+      → (length (between 0x3B rest) ≡ n → IsColor (between 0x3B rest)) → Known t
+  color-of n none color taken some more makes =
       let many = fields-many n t some more in
       let few = fields-few (n + 1) t (omega arith)
       (own-fields t (n + 1) is taken (omega arith)) in
       let all = between-rest t is.range none (omega arith) in
       let len : length (between 0x3B t) ≡ length (between 0x3B rest) + 1 =
       ap length all ∙ omega arith in
-      (all, omega arith)
-
-  indexed-known : has_colon t ≡ false → is_color_code (code t) ≡ true → taken_fields t ≡ 3
-      → (code rest == 5) ≡ true → length (fields 2 t) < length t → Known t
-  indexed-known none color taken five more =
-      let parts = color-parts-of 2 none taken (omega arith) more in
-      let (z, zs) = two-of (between 0x3B rest) parts.1 in
-      let y = first_field rest in
-      let col = color_of (5 ∷ first_of (numbers_of z) ∷ []) in
-      let all : between 0x3B t ≡ field ∷ y ∷ z ∷ [] =
-      parts.0 ∙ ap (λ fs. field ∷ fs) zs in
-      known-by t (with_color (code t) col)
+      color-by (color_of (map (λ f. first_of (numbers_of f)) (between 0x3B rest))) color
+      (plain-end none ∙ color-open (code t) color)
       (λ p. ap (λ fs. fold with_field (alone p) (map numbers_of fs)) all
-      ∙ ap (λ r. with_field (with_field r (numbers_of y)) (numbers_of z)) (color-first none color p)
-      ∙ indexed p (code t) (numbers_of y) (numbers_of z) (mode-is 5 five (omega arith)))
-      (λ p. rw (kind-code t known) (color-sets (code t) col color p))
-      (λ end. absurd (true≢false (sym end ∙ plain-end none ∙ color-open (code t) color)))
-
-  direct-known : has_colon t ≡ false → is_color_code (code t) ≡ true → taken_fields t ≡ 5
-      → (code rest == 2) ≡ true → length (fields 4 t) < length t → Known t
-  direct-known none color taken two more =
-      let parts = color-parts-of 4 none taken (omega arith) more in
-      let (r, g, b, zs) = four-of (between 0x3B rest) parts.1 in
-      let y = first_field rest in
-      let col = color_of (2 ∷ first_of (numbers_of r) ∷ first_of (numbers_of g)
-      ∷ first_of (numbers_of b) ∷ []) in
-      let all : between 0x3B t ≡ field ∷ y ∷ r ∷ g ∷ b ∷ [] =
-      parts.0 ∙ ap (λ fs. field ∷ fs) zs in
-      known-by t (with_color (code t) col)
-      (λ p. ap (λ fs. fold with_field (alone p) (map numbers_of fs)) all
-      ∙ ap (λ r0. with_field (with_field (with_field (with_field r0 (numbers_of y)) (numbers_of r))
-      (numbers_of g)) (numbers_of b)) (color-first none color p)
-      ∙ direct p (code t) (numbers_of y) (numbers_of r) (numbers_of g) (numbers_of b)
-      (mode-is 2 two (omega arith)))
-      (λ p. rw (kind-code t known) (color-sets (code t) col color p))
-      (λ end. absurd (true≢false (sym end ∙ plain-end none ∙ color-open (code t) color)))
+      ∙ ap (λ r. fold with_field r (map numbers_of (between 0x3B rest))) (color-first none color p)
+      ∙ behind p (code t) (between 0x3B rest) (makes (omega arith)))
 
   color-known : has_colon t ≡ false → is_color_code (code t) ≡ true → Known t
   color-known none color =
-      search (rules, arith, color-taken, color-cases, taken-some, indexed-known, direct-known)
+      let taken = color-taken none color in
+      elim (color-cases t (code rest) (ap (λ n. n == 0) (sym taken) ∙ taken-some t known)) [
+        | inl (five, count, more) ↦ color-of 2 none color (taken ∙ count) (omega arith) more
+            (λ len. inl (mode-is 5 five (omega arith), len))
+        | inr (two, count, more) ↦ color-of 4 none color (taken ∙ count) (omega arith) more
+            (λ len. inr (mode-is 2 two (omega arith), len))
+      ]
 
   pub all-known : Known t
   all-known = grind (arith, cases_Bool, nat_tests, has_colon, colon-known, color-known, plain-known)

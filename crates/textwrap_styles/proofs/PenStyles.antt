@@ -1,9 +1,5 @@
 -- What is open gives, set anew, the pen and the link of all sequences, and what ends it gives a plain
 -- pen and no link.
-use Rattle.textwrap_text.proofs.Common.{All, All-head, All-tail, Bool, List, [], ap, arith, cond}
-use Rattle.textwrap_text.proofs.Common.{eqb-true, false, flat_map, fold, length, ltb-false}
-use Rattle.textwrap_text.proofs.Common.{nil_from_length, refl, rules, sym, true, ℕ, ◌++◌, ◌==◌, ◌∙◌}
-use Rattle.textwrap_text.proofs.Common.{◌∷◌, ◌≡◌}
 use Rattle.textwrap_styles.proofs.Common.{Pen, Rendition, apply, fold-append, is_link, is_style}
 use Rattle.textwrap_styles.proofs.Common.{link_end, open_link, open_styles, plain_pen}
 use Rattle.textwrap_styles.proofs.Common.{plain_rendition, rendition_of, settings_of, style_end}
@@ -14,8 +10,10 @@ use Rattle.textwrap_styles.proofs.SequenceTexts.{closing_sequences}
 use Rattle.textwrap_styles.proofs.Sequences.{link-plain, next_link, open_link-push}
 use Rattle.textwrap_styles.proofs.WrittenSettings.{all-settings, open-back, styles-no_link}
 use Rattle.textwrap_styles.specs.Pen.{with_code, with_field}
-use Rattle.textwrap_styles.specs.Penned.{with_link, with_style}
-use Rattle.textwrap_styles.specs.Styles.{link_target}
+use Rattle.textwrap_styles.specs.{Penned.with_link, Penned.with_style, Styles.link_target}
+use Rattle.textwrap_text.proofs.Common.{All, All-head, All-tail, Bool, List, [], ap, arith, cond}
+use Rattle.textwrap_text.proofs.Common.{eqb-true, false, flat_map, fold, ltb-false, nil_from_length}
+use Rattle.textwrap_text.proofs.Common.{refl, rules, true, ℕ, ◌++◌, ◌∙◌, ◌∷◌, ◌≡◌}
 
 -- ---- the pen and the link, each by itself
 
@@ -59,10 +57,7 @@ sequence-pen s p = search (rules, arith, pen_by, parameters-pen)
 sequences-pen : (before : List (List ℕ)) (p : Pen)
     → fold with_style p before ≡ pen_by p (flat_map settings_of before)
 sequences-pen [] p = refl
-sequences-pen (s ∷ before) p =
-    ap (λ q. fold with_style q before) (sequence-pen s p)
-    ∙ sequences-pen before (pen_by p (settings_of s))
-    ∙ sym (run-append p (settings_of s) (flat_map settings_of before))
+sequences-pen (s ∷ before) p = grind (arith, sequence-pen, sequences-pen before, run-append)
 
 -- what they set gives the pen that all sequences gave
 open-styles-pen : (before : List (List ℕ))
@@ -91,20 +86,12 @@ open-link before =
 
 -- ---- both
 
+ruleset apart = (fold-append, links-apart, open-link, open-styles-pen, pens-apart)
+
 pub styles-pen : (before : List (List ℕ))
     → rendition_of (open_link before ++ open_styles before) ≡ rendition_of before
 styles-pen before =
-    let link = open_link before in
-    let styles = open_styles before in
-    both (rendition_of (link ++ styles)) (rendition_of before)
-    (pens-apart (link ++ styles) plain_rendition
-    ∙ fold-append with_style plain_pen link styles
-    ∙ ap (λ p. fold with_style p styles) (pens-stay link plain_pen (link-plain before))
-    ∙ open-styles-pen before ∙ sym (pens-apart before plain_rendition))
-    (links-apart (link ++ styles) plain_rendition
-    ∙ fold-append with_link [] link styles
-    ∙ links-stay styles (fold with_link [] link) (styles-no_link before)
-    ∙ open-link before ∙ sym (links-apart before plain_rendition))
+    search (rules, arith, apart, both, pens-stay, links-stay, link-plain, styles-no_link)
 
 -- ---- what ends them
 
@@ -118,12 +105,4 @@ ends-plain now x1 x2 pen link = search (rules, arith, both)
 pub ended : (before : List (List ℕ))
     → rendition_of (before ++ closing_sequences before) ≡ plain_rendition
 ended before =
-    fold-append with_sequence plain_rendition before (closing_sequences before)
-    ∙ ends-plain (rendition_of before) (length (open_styles before) == 0)
-    (length (open_link before) == 0)
-    (λ none. pens-apart before plain_rendition ∙ sym (open-styles-pen before)
-    ∙ ap (fold with_style plain_pen)
-    (nil_from_length (open_styles before) (eqb-true (length (open_styles before)) 0 none)))
-    (λ none. links-apart before plain_rendition ∙ sym (open-link before)
-    ∙ ap (fold with_link [])
-    (nil_from_length (open_link before) (eqb-true (length (open_link before)) 0 none)))
+    search (rules, arith, apart, ends-plain, nil_from_length, eqb-true)

@@ -2,8 +2,7 @@
 use Rattle.textwrap_styles.proofs.CarriedLines.{all-may_carry, carried, plain-stay}
 use Rattle.textwrap_styles.proofs.FewStyles.{few-known, styles-short}
 use Rattle.textwrap_styles.proofs.PenCodes.{other-something, unknown-nothing}
-use Rattle.textwrap_styles.proofs.PenStyles.{styles-pen}
-use Rattle.textwrap_styles.proofs.WrittenSettings.{styles-anew}
+use Rattle.textwrap_styles.proofs.{PenStyles.styles-pen, WrittenSettings.styles-anew}
 
 pub ruleset lines = (all-may_carry, carried, plain-stay, styles-short)
 

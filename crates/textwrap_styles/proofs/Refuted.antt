@@ -1,12 +1,10 @@
 -- What the wrong bodies of must-fail/ answer on worked rows, and that no pen allows it: each theorem
 -- bears the name of its edit.
-use Rattle.textwrap_text.proofs.Common.{Bool, List, [], ap, codes, false, map, true, true≢false, ℕ}
-use Rattle.textwrap_text.proofs.Common.{◌∷◌, ◌≡◌}
-use Rattle.textwrap_styles.proofs.Common.{Color, Pen, penned_lines, penned_text, plain_pen}
-use Rattle.textwrap_styles.proofs.Common.{plain_rendition}
 use Rattle.std.specs.Str.{chars}
-use Rattle.textwrap_styles.specs.Pen.{Direct, Indexed, Other, Own, with_code, with_field}
-use Rattle.textwrap_styles.specs.Penned.{PennedCharacter}
+use Rattle.textwrap_styles.proofs.Common.{Pen, penned_lines, penned_text, plain_pen}
+use Rattle.textwrap_styles.proofs.{Common.plain_rendition, PenCodes.is_own}
+use Rattle.textwrap_styles.specs.{Pen.with_code, Pen.with_field, Penned.PennedCharacter}
+use Rattle.textwrap_text.proofs.Common.{List, [], ap, codes, map, true≢false, ℕ, ◌∷◌, ◌≡◌}
 use lib.Utf8.{encode}
 
 abbrev first_pen : List PennedCharacter → Pen
@@ -29,12 +27,6 @@ pub faint_left_by_22 :
     → ⊥
 unfolding chars encode with_field with_code
 faint_left_by_22 same = true≢false (ap (λ lines. (last_pen lines).faint) same)
-
-abbrev is_own : Color → Bool
-is_own Own = true
-is_own (Indexed n) = false
-is_own (Direct r g b) = false
-is_own (Other ns) = false
 
 -- Of "a" in red on green, 39 and "b", and "c" the last line is on green.
 pub background_ended_by_39 :

@@ -1,4 +1,10 @@
 -- Texts of whole sequences and texts between them: their units, and what they show.
+use Rattle.std.{proofs.lemmas.Bool.agree_below_at, specs.Str.chars}
+use Rattle.textwrap_layout.proofs.Text.Paragraphs.{units-append}
+use Rattle.textwrap_styles.proofs.Common.{IsWhole, Rendition, closing, concat, link_end, open_link}
+use Rattle.textwrap_styles.proofs.Common.{open_styles, penned_text, plain_rendition, rendition_of}
+use Rattle.textwrap_styles.proofs.Common.{sequence_of, sequences, style_end, with_sequence}
+use Rattle.textwrap_styles.specs.{Penned.penned_units, Styled.IsWholeText}
 use Rattle.textwrap_text.proofs.Common.{All, All-append, All-cons, All-head, All-nil, All-tail}
 use Rattle.textwrap_text.proofs.Common.{Bool, IsUtf8, IsUtf8-append, IsUtf8-nil, List, Sequence}
 use Rattle.textwrap_text.proofs.Common.{TextUnit, Visible, [], ap, append-nil, arith, cases_Bool}
@@ -6,17 +12,8 @@ use Rattle.textwrap_text.proofs.Common.{characters, chars-append, chars-nil, cha
 use Rattle.textwrap_text.proofs.Common.{codes, cond, encode_utf8_all, encodes-chars, false}
 use Rattle.textwrap_text.proofs.Common.{flat_map, flat_map-append, fold, inl, length, map, refl}
 use Rattle.textwrap_text.proofs.Common.{rules, subst, sym, take, true, units, visible_of, ℕ, ◌++◌}
-use Rattle.textwrap_text.proofs.Common.{◌==◌, ◌∙◌, ◌∷◌, ◌≡◌}
-use Rattle.textwrap_styles.proofs.Common.{IsWhole, Rendition, closing, concat, link_end, open_link}
-use Rattle.textwrap_styles.proofs.Common.{open_styles, penned_text, plain_rendition, rendition_of}
-use Rattle.textwrap_styles.proofs.Common.{sequence_of, sequences, style_end, with_sequence}
-use Rattle.std.proofs.lemmas.Bool.{agree_below_at}
-use Rattle.std.specs.Str.{chars}
-use Rattle.textwrap_layout.proofs.Text.Paragraphs.{units-append}
-use Rattle.textwrap_styles.specs.Penned.{penned_units}
-use Rattle.textwrap_styles.specs.Styled.{IsWholeText}
-use Rattle.textwrap_text.proofs.Texts.{utf8-back, utf8-front}
-use Rattle.textwrap_text.proofs.Units.Texts.{units-tile, units_unique}
+use Rattle.textwrap_text.proofs.{Common.◌==◌, Common.◌∙◌, Common.◌∷◌, Common.◌≡◌, Texts.utf8-back}
+use Rattle.textwrap_text.proofs.{Texts.utf8-front, Units.Texts.units-tile, Units.Texts.units_unique}
 use Rattle.textwrap_text.specs.Units.{ends, visible}
 use lib.Utf8.{encode}
 
@@ -42,31 +39,27 @@ pub record IsSequence (s : List ℕ) : Type 0 where
   pub unit : units (chars s) ≡ Sequence (chars s) ∷ []
   pub whole : IsWhole (Sequence (chars s))
 
-unit-sequence : (cs : List ℕ) → IsUtf8 (encode_utf8_all cs) → IsWhole (Sequence cs)
-    → IsSequence (encode_utf8_all cs)
-unit-sequence cs utf8 whole =
-    let same : cs ≡ chars (encode_utf8_all cs) =
-    chars_from_encodes cs (encode_utf8_all cs) utf8 refl in
+pub unit-sequence : (s cs : List ℕ) → IsUtf8 s → chars s ≡ cs → IsWhole (Sequence cs)
+    → IsSequence s
+unit-sequence s cs utf8 are whole =
     let own : Sequence cs ∷ [] ≡ units cs =
     (units_unique cs (Sequence cs ∷ [])).0 (append-nil cs, inl whole) in
     record {
       utf8 = utf8;
-      unit = sym (ap units same) ∙ sym own ∙ ap (λ l. Sequence l ∷ []) same;
-      whole = subst (λ l. IsWhole (Sequence l)) same whole;
+      unit = ap units are ∙ sym own ∙ ap (λ l. Sequence l ∷ []) (sym are);
+      whole = subst (λ l. IsWhole (Sequence l)) (sym are) whole;
     }
 
 units-sequences : (us : List TextUnit) → IsUtf8 (encode_utf8_all (flat_map characters us))
     → All IsWhole us → All IsSequence (flat_map sequence_of us)
 units-sequences [] utf8 whole = All-nil IsSequence
 units-sequences (Visible c ∷ us) utf8 whole =
-    units-sequences us (utf8-back (c ∷ []) (flat_map characters us) utf8)
-    (All-tail IsWhole (Visible c) us whole)
+    search (rules, arith, units-sequences us, utf8-back, All-tail)
 units-sequences (Sequence cs ∷ us) utf8 whole =
-    All-cons IsSequence (encode_utf8_all cs) (flat_map sequence_of us)
-    (unit-sequence cs (utf8-front cs (flat_map characters us) utf8)
-    (All-head IsWhole (Sequence cs) us whole))
-    (units-sequences us (utf8-back cs (flat_map characters us) utf8)
-    (All-tail IsWhole (Sequence cs) us whole))
+    let one : IsUtf8 (encode_utf8_all cs) → IsWhole (Sequence cs) → IsSequence (encode_utf8_all cs) =
+    λ own. unit-sequence (encode_utf8_all cs) cs own
+    (sym (chars_from_encodes cs (encode_utf8_all cs) own refl)) in
+    search (rules, units-sequences us, utf8-back, utf8-front, one, All-cons, All-head, All-tail)
 
 -- the sequences of a text
 pub text-sequences : (text : List ℕ) → IsWholeText text → All IsSequence (sequences text)
@@ -94,8 +87,7 @@ nil-whole = (IsUtf8-nil, subst (λ cs. All IsWhole (units cs)) (sym chars-nil) (
 pub concat-whole : (xs : List (List ℕ)) → All IsSequence xs → IsWholeText (concat xs)
 concat-whole [] are = nil-whole
 concat-whole (s ∷ xs) are =
-    whole_text-append s (concat xs) (sequence-whole s (All-head IsSequence s xs are))
-    (concat-whole xs (All-tail IsSequence s xs are))
+    search (rules, arith, whole_text-append, sequence-whole, concat-whole xs, All-head, All-tail)
 
 pub units-again : (xs : List (List ℕ)) → All IsSequence xs
     → flat_map sequence_of (sequence_units xs) ≡ xs
@@ -122,14 +114,14 @@ style_end-is : IsSequence style_end
 unfolding chars encode
 style_end-is =
     let body = codes "[0m" in
-    unit-sequence style_end (style_end, (refl, refl))
+    unit-sequence style_end style_end (style_end, (refl, refl)) refl
     (body, refl, refl, λ k. agree_below_at (λ i. ends (take i body)) (λ i. false) 3 k refl)
 
 link_end-is : IsSequence link_end
 unfolding chars encode
 link_end-is =
     let body = codes "]8;;\u{1b}\\" in
-    unit-sequence link_end (link_end, (refl, refl))
+    unit-sequence link_end link_end (link_end, (refl, refl)) refl
     (body, refl, refl, λ k. agree_below_at (λ i. ends (take i body)) (λ i. false) 6 k refl)
 
 pub closing-sequences : (before : List (List ℕ)) → All IsSequence (closing_sequences before)
@@ -182,35 +174,11 @@ module _ (front text : List ℕ) (starts ends : List (List ℕ)) (front_whole : 
   pub parts-visible : visible (chars (front ++ concat starts ++ text ++ concat ends))
       ≡ visible (chars (front ++ text))
   parts-visible =
-      grind (
-        arith,
-        parts-units,
-        flat_map-four,
-        none-visible,
-        append-nil,
-        flat_map-append,
-        text_units-append,
-      )
+      search (rules, arith, parts-units, flat_map-four, none-visible, flat_map-append, text_units-append)
 
   -- where what sets anew what is open gives this
   pub parts-penned : (now : Rendition) → rendition_of (sequences front ++ starts) ≡ now
       → penned_text plain_rendition (front ++ concat starts ++ text ++ concat ends)
       ≡ penned_text plain_rendition front ++ penned_text now text
   parts-penned now is =
-      let us = units (chars front) in
-      let ss = sequence_units starts in
-      let vs = units (chars text) in
-      let all = us ++ ss ++ vs in
-      let begun : rendition_of (flat_map sequence_of (us ++ ss)) ≡ now =
-      ap rendition_of (flat_map-append sequence_of us ss
-      ∙ ap (λ xs. sequences front ++ xs) (units-again starts are_starts)) ∙ is in
-      let first : penned_units plain_rendition (us ++ ss) ≡ penned_text plain_rendition front =
-      search (rules, arith, penned-append, sequences-show, append-nil) in
-      ap (penned_units plain_rendition) parts-units
-      ∙ penned-append all (sequence_units ends) plain_rendition
-      ∙ ap (λ cs. penned_units plain_rendition all ++ cs)
-      (sequences-show ends (rendition_of (flat_map sequence_of all)))
-      ∙ append-nil (penned_units plain_rendition all)
-      ∙ penned-append (us ++ ss) vs plain_rendition
-      ∙ ap (λ r. penned_units plain_rendition (us ++ ss) ++ penned_units r vs) begun
-      ∙ ap (λ cs. cs ++ penned_text now text) first
+      search (rules, arith, parts-units, penned-append, sequences-show, flat_map-append, units-again)

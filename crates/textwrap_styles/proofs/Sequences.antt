@@ -1,32 +1,27 @@
 -- Escape sequences, what they do, the reader of them, and the link that is open after some.
+use Rattle.std.proofs.lemmas.{List.Elements.filter_passes, Str.IsCharBoundary-from_rest}
+use Rattle.std.specs.{Option.MatchOption, Option.option_or, Prelude.encode_utf8, Str.NoCharPasses}
+use Rattle.std.specs.Str.{NonePass, Pattern.FindsTextSuffix, Pattern.StripsSuffix}
+use Rattle.textwrap_styles.proofs.Common.{All-filter, chars, has_target, is_in_range, is_link}
+use Rattle.textwrap_styles.proofs.Common.{is_style, open_link, sequence_of, sequences}
+use Rattle.textwrap_styles.{proofs.Common.style_parameters, specs.Styles.link_fields}
 use Rattle.textwrap_text.proofs.Common.{All, All-drop, All-weaker, Bool, Bor, IsCharBoundary}
 use Rattle.textwrap_text.proofs.Common.{IsUtf8, IsUtf8-drop, List, None, Option, Some, []}
-use Rattle.textwrap_text.specs.declared.escapes.State.{State}
 use Rattle.textwrap_text.proofs.Common.{and_parts, ap, append-nil, append_assoc, arith, cases_Bool}
 use Rattle.textwrap_text.proofs.Common.{chars-append, chars_from_encodes, chars_past_char, codes}
 use Rattle.textwrap_text.proofs.Common.{cond, drop, drop-append-add, drop-drop, drop_at}
 use Rattle.textwrap_text.proofs.Common.{encode_ascii, encode_utf8_all, ends_with, eqb, escape_len}
 use Rattle.textwrap_text.proofs.Common.{false, filter, filter-append, flat_map, length}
 use Rattle.textwrap_text.proofs.Common.{length-append, list_all, list_any, nat_eq, next_of, refl}
-use Rattle.textwrap_text.proofs.Common.{rules, slice_range, subst, suc, sym, take, take-append-drop}
-use Rattle.textwrap_text.proofs.Common.{take_all, take_at, taken_in, true, units, ℕ, ◌++◌, ◌+◌, ◌-◌}
+use Rattle.textwrap_text.proofs.Common.{rules, slice_range, subst, sym, take, take-append-drop}
+use Rattle.textwrap_text.proofs.Common.{take_all, take_at, taken_in, true, units, ℕ, ◌++◌, ◌+◌}
 use Rattle.textwrap_text.proofs.Common.{◌==◌, ◌||◌, ◌∙◌, ◌∷◌, ◌≡◌, ◌≢◌}
-use Rattle.textwrap_styles.proofs.Common.{All-filter, chars, has_target, is_in_range, is_link}
-use Rattle.textwrap_styles.proofs.Common.{is_style, open_link, sequence_of, sequences}
-use Rattle.textwrap_styles.proofs.Common.{style_parameters}
-use Rattle.std.proofs.lemmas.List.Elements.{filter_passes}
-use Rattle.std.proofs.lemmas.Str.{IsCharBoundary-from_rest}
-use Rattle.std.specs.Option.{MatchOption, option_or}
-use Rattle.std.specs.Prelude.{encode_utf8}
-use Rattle.std.specs.Str.{NoCharPasses, NonePass}
-use Rattle.std.specs.Str.Pattern.{FindsTextSuffix, StripsSuffix}
-use Rattle.textwrap_styles.specs.Styles.{link_fields}
 use Rattle.textwrap_text.proofs.Lists.Parts.{ends_with-after, ends_with-other, ends_with-true}
 use Rattle.textwrap_text.proofs.Lists.Parts.{last_one-push, starts_with-rest, stripped_suffix}
 use Rattle.textwrap_text.proofs.Texts.{AsciiSeam, IsCut, ascii_seam, cut_text}
 use Rattle.textwrap_text.proofs.Units.Reading.{IsRead, read-ahead, read-all, read-next, read-none}
 use Rattle.textwrap_text.proofs.Units.Reading.{read-start, taken-step}
-use Rattle.textwrap_text.specs.declared.escapes.State.TheVariants.{Escape, Text}
+use Rattle.textwrap_text.specs.declared.escapes.State.{State, TheVariants.Escape, TheVariants.Text}
 use Rattle.textwrap_words.proofs.Word.Breaking.{units_past-skip}
 
 -- ---- a style is no link
@@ -235,17 +230,10 @@ module _ (text before after : List ℕ) (utf8 : IsUtf8 text)
       (subst (λ l. IsCharBoundary l (tail_len after)) (sym past) cut.boundary)
 
   left : drop end_of text ≡ encode_utf8_all rest
-  left = sym (drop-drop (tail_len after) (length before + 1) text) ∙ ap (drop (tail_len after)) past
-      ∙ cut.back
+  left = grind (arith, drop-drop, past, cut.back)
 
   sequence : slice_range text (length before) end_of ≡ encode_utf8_all (27 ∷ taken)
-  sequence =
-      let from : drop (length before) text ≡ 27 ∷ after =
-      ap (drop (length before)) whole ∙ drop_at before (27 ∷ after) (length before) refl in
-      let len : end_of - length before ≡ suc (tail_len after) = omega arith in
-      ap (λ n. take n (drop (length before) text)) len ∙ ap (take (suc (tail_len after))) from
-      ∙ ap (λ l. 27 ∷ l) cut.front
-      ∙ ap (λ l. l ++ encode_utf8_all taken) (sym (encode_ascii 27 (omega arith)))
+  sequence = grind (arith, whole, drop_at, cut.front, encode_ascii)
 
   characters : chars text ≡ chars before ++ 27 ∷ chars after
   characters = ap chars whole ∙ chars-append before (27 ∷ after) seam.front
@@ -274,9 +262,7 @@ open_link-push before s = grind (arith, cases_Bool, filter-append, last_one-push
 -- it is one of the sequences, so what holds of these holds of it
 pub link-among : (P : List ℕ → Type 0) (before : List (List ℕ)) → All P (filter is_link before)
     → All P (open_link before)
-link-among P before all =
-    let links = filter is_link before in
-    All-filter has_target P (drop (length links - 1) links) (All-drop P (length links - 1) links all)
+link-among P before all = search (rules, arith, All-filter, All-drop)
 
 -- and it sets no style
 pub link-plain : (before : List (List ℕ)) → All (λ s. is_style s ≡ false) (open_link before)

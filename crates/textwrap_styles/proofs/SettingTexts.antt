@@ -1,17 +1,18 @@
 -- The fields of parameters, as the table of the settings and as a pen read them, and settings, each
 -- of which is its own first one.
-use Rattle.textwrap_text.proofs.Common.{All, All-cons, All-nil, Bool, List, [], and_parts, ap}
-use Rattle.textwrap_text.proofs.Common.{arith, cases_Bool, codes, cond, drop, false, length}
-use Rattle.textwrap_text.proofs.Common.{list_all, map, min, nat_eq, nat_tests, not, refl, rules}
-use Rattle.textwrap_text.proofs.Common.{starts_with, suc, sym, take, take_all, take_while, true}
-use Rattle.textwrap_text.proofs.Common.{zero, ℕ, ◌++◌, ◌+◌, ◌-◌, ◌<◌, ◌==◌, ◌∙◌, ◌∷◌, ◌≡◌, ◌≢◌, ◌≤◌}
+use Rattle.std.proofs.lemmas.List.Sums.{AllPass-from_list_all, list_all-from_AllPass}
+use Rattle.std.{proofs.lemmas.List.Sums.take_while-cons, specs.Prelude.nat_le}
 use Rattle.textwrap_styles.proofs.Common.{between, digits_value, fields, first_of, is_ascii_digit}
 use Rattle.textwrap_styles.proofs.Common.{is_in_range, numbers_of, settings}
-use Rattle.std.proofs.lemmas.List.Sums.{take_while-cons}
-use Rattle.std.specs.Prelude.{nat_le}
-use Rattle.textwrap_styles.specs.Pen.{with_first}
-use Rattle.textwrap_styles.specs.Settings.{code, color_fields, details, first_setting}
-use Rattle.textwrap_styles.specs.Settings.{settings_past, taken_fields}
+use Rattle.textwrap_styles.specs.{Pen.with_first, Settings.code, Settings.color_fields}
+use Rattle.textwrap_styles.specs.Settings.{details, first_setting, settings_past, taken_fields}
+use Rattle.textwrap_text.proofs.Common.{All, All-cons, All-drop, All-nil, All-take, Bool, List, []}
+use Rattle.textwrap_text.proofs.Common.{and_parts, ap, arith, cases_Bool, codes, cond, cond_both}
+use Rattle.textwrap_text.proofs.Common.{drop, drop_all, drop_more, false, length, length-take}
+use Rattle.textwrap_text.proofs.Common.{list_all, map, min, nat_eq, nat_tests, not, refl, rules}
+use Rattle.textwrap_text.proofs.Common.{starts_with, subst, suc, sym, take, take_all, take_while}
+use Rattle.textwrap_text.proofs.Common.{true, zero, ℕ, ◌++◌, ◌+◌, ◌-◌, ◌<◌, ◌==◌, ◌∙◌, ◌∷◌, ◌≡◌}
+use Rattle.textwrap_text.proofs.Common.{◌≢◌, ◌≤◌}
 
 -- ---- the first fields of parameters
 
@@ -19,18 +20,9 @@ pub fields-take : (n : ℕ) (t : List ℕ) → take (length (fields n t)) t ≡ 
 fields-take n [] = refl
 fields-take n (c ∷ cs) = grind (arith, cases_Bool, fields-take n cs, fields-take (n - 1) cs)
 
-pub fields-len : (n : ℕ) (t : List ℕ) → length (fields n t) ≤ length t
-fields-len n [] = omega arith
-fields-len n (c ∷ cs) = grind (arith, cases_Bool, fields-len n cs, fields-len (n - 1) cs)
-
 fields-again : (n : ℕ) (t : List ℕ) → fields n (fields n t) ≡ fields n t
 fields-again n [] = refl
 fields-again n (c ∷ cs) = grind (arith, cases_Bool, fields-again n cs, fields-again (n - 1) cs)
-
-pub fields-all : (p : ℕ → Bool) (n : ℕ) (t : List ℕ) → list_all p t ≡ true
-    → list_all p (fields n t) ≡ true
-fields-all p n [] all = refl
-fields-all p n (c ∷ cs) all = search (rules, arith, fields-all p n cs, fields-all p (n - 1) cs)
 
 -- a semicolon is no digit
 semicolon-no_digit : (c : ℕ) → (c == 0x3B) ≡ true → is_ascii_digit c ≡ false
@@ -40,18 +32,13 @@ semicolon-no_digit c is = grind (arith, cases_Bool, nat_tests)
 fields-digits : (n : ℕ) (t : List ℕ)
     → take_while is_ascii_digit (fields n t) ≡ take_while is_ascii_digit t
 fields-digits n [] = refl
-fields-digits n (c ∷ cs) = by (c == 0x3B) refl (fields-digits n cs)
-  where
-    by : (b : Bool) → (c == 0x3B) ≡ b
-        → take_while is_ascii_digit (fields n cs) ≡ take_while is_ascii_digit cs
-        → take_while is_ascii_digit
-        (cond b (cond (nat_le n 1) [] (c ∷ fields (n - 1) cs)) (c ∷ fields n cs))
-        ≡ take_while is_ascii_digit (c ∷ cs)
-    by false is others =
-        take_while-cons is_ascii_digit c (fields n cs)
-        ∙ ap (λ l. cond (is_ascii_digit c) (c ∷ l) []) others
-        ∙ sym (take_while-cons is_ascii_digit c cs)
-    by true is others = grind (arith, cases_Bool, semicolon-no_digit c is, take_while-cons)
+fields-digits n (c ∷ cs) =
+    cond_both (c == 0x3B) (cond (nat_le n 1) [] (c ∷ fields (n - 1) cs)) (c ∷ fields n cs)
+    (λ l. take_while is_ascii_digit l ≡ take_while is_ascii_digit (c ∷ cs))
+    (λ is. grind (arith, cases_Bool, semicolon-no_digit c is, take_while-cons))
+    (λ other. take_while-cons is_ascii_digit c (fields n cs)
+    ∙ ap (λ l. cond (is_ascii_digit c) (c ∷ l) []) (fields-digits n cs)
+    ∙ sym (take_while-cons is_ascii_digit c cs))
 
 fields-code : (n : ℕ) (t : List ℕ) → code (fields n t) ≡ code t
 unfolding code
@@ -70,40 +57,7 @@ details-nil = refl
 fields-details : (n : ℕ) (t : List ℕ) → details (fields n t) ≡ fields n (details t)
 fields-details n [] = details-nil ∙ ap (fields n) (sym details-nil)
 fields-details n (c ∷ cs) =
-    by (c == 0x3B) (nat_le n 1) (is_ascii_digit c) refl refl refl (fields-details n cs)
-  where
-    by : (semicolon last digit : Bool) → (c == 0x3B) ≡ semicolon → nat_le n 1 ≡ last
-        → is_ascii_digit c ≡ digit → details (fields n cs) ≡ fields n (details cs)
-        → details (cond semicolon (cond last [] (c ∷ fields (n - 1) cs)) (c ∷ fields n cs))
-        ≡ fields n (details (c ∷ cs))
-    by false last true is ends digit others =
-        details-cons c (fields n cs)
-        ∙ ap (λ b. cond b (details (fields n cs)) (c ∷ fields n cs)) digit
-        ∙ others
-        ∙ ap (fields n) (sym (details-cons c cs
-        ∙ ap (λ b. cond b (details cs) (c ∷ cs)) digit))
-    by false last false is ends other others =
-        let rest : details (c ∷ cs) ≡ c ∷ cs =
-        details-cons c cs ∙ ap (λ b. cond b (details cs) (c ∷ cs)) other in
-        details-cons c (fields n cs)
-        ∙ ap (λ b. cond b (details (fields n cs)) (c ∷ fields n cs)) other
-        ∙ sym (ap (fields n) rest ∙ ap (λ b. cond b (cond (nat_le n 1) [] (c ∷ fields (n - 1) cs))
-        (c ∷ fields n cs)) is)
-    by true last digit is ends own others =
-        let other = semicolon-no_digit c is in
-        let rest : details (c ∷ cs) ≡ c ∷ cs =
-        details-cons c cs ∙ ap (λ b. cond b (details cs) (c ∷ cs)) other in
-        let one : details (c ∷ fields (n - 1) cs) ≡ c ∷ fields (n - 1) cs =
-        details-cons c (fields (n - 1) cs)
-        ∙ ap (λ b. cond b (details (fields (n - 1) cs)) (c ∷ fields (n - 1) cs)) other in
-        both last one
-        ∙ sym (ap (fields n) rest ∙ ap (λ b. cond b (cond (nat_le n 1) [] (c ∷ fields (n - 1) cs))
-        (c ∷ fields n cs)) is ∙ ap (λ b. cond b [] (c ∷ fields (n - 1) cs)) ends)
-      where
-        both : (b : Bool) → details (c ∷ fields (n - 1) cs) ≡ c ∷ fields (n - 1) cs
-            → details (cond b [] (c ∷ fields (n - 1) cs)) ≡ cond b [] (c ∷ fields (n - 1) cs)
-        both true one = details-nil
-        both false one = one
+    grind (arith, cases_Bool, semicolon-no_digit, details-cons, details-nil, fields-details n cs)
 
 fields-colon : (n : ℕ) (t : List ℕ)
     → starts_with nat_eq (fields n t) (codes ":") ≡ starts_with nat_eq t (codes ":")
@@ -161,31 +115,34 @@ unfolding first_setting
 first-take t = grind (arith, cases_Bool, nat_tests, fields-take, take_all)
 
 pub first-len : (t : List ℕ) → length (first_setting t) ≤ length t
-unfolding first_setting
-first-len t = grind (arith, cases_Bool, fields-len (taken_fields t) t)
+first-len t = omega (arith, ap length (first-take t), length-take (length (first_setting t)) t)
 
-first-all : (p : ℕ → Bool) (t : List ℕ) → list_all p t ≡ true
-    → list_all p (first_setting t) ≡ true
-unfolding first_setting
-first-all p t all = grind (arith, cases_Bool, fields-all p (taken_fields t) t all)
+-- ---- characters that pass a test
+
+pub take-all : (p : ℕ → Bool) (n : ℕ) (s : List ℕ) → list_all p s ≡ true
+    → list_all p (take n s) ≡ true
+take-all p n s all =
+    list_all-from_AllPass p (take n s) (All-take (λ c. p c ≡ true) n s (AllPass-from_list_all p s all))
 
 pub drop-all : (p : ℕ → Bool) (n : ℕ) (s : List ℕ) → list_all p s ≡ true
     → list_all p (drop n s) ≡ true
-drop-all p zero s all = all
-drop-all p (suc n) [] all = refl
-drop-all p (suc n) (c ∷ cs) all = drop-all p n cs (and_parts (p c) (list_all p cs) all).1
+drop-all p n s all =
+    list_all-from_AllPass p (drop n s) (All-drop (λ c. p c ≡ true) n s (AllPass-from_list_all p s all))
+
+first-all : (p : ℕ → Bool) (t : List ℕ) → list_all p t ≡ true
+    → list_all p (first_setting t) ≡ true
+first-all p t all =
+    subst (λ s. list_all p s ≡ true) (first-take t) (take-all p (length (first_setting t)) t all)
 
 -- ---- all settings of parameters
-
-past-all : (n : ℕ) (t : List ℕ) → length t ≤ n → settings_past n t ≡ []
-past-all n [] all = refl
-past-all zero (c ∷ cs) all = absurd (omega arith)
-past-all (suc n) (c ∷ cs) all = past-all n cs (omega arith)
 
 past-drop : (n : ℕ) (t : List ℕ) → settings_past n t ≡ settings_past 0 (drop n t)
 past-drop zero t = refl
 past-drop (suc n) [] = refl
 past-drop (suc n) (c ∷ cs) = past-drop n cs
+
+past-all : (n : ℕ) (t : List ℕ) → length t ≤ n → settings_past n t ≡ []
+past-all n t all = past-drop n t ∙ ap (settings_past 0) (drop_all n t all)
 
 pub settings-one : (s : List ℕ) → length s ≤ length (first_setting s)
     → settings s ≡ first_setting s ∷ []
@@ -195,15 +152,7 @@ pub settings-next : (s : List ℕ) → length (first_setting s) < length s
     → settings s ≡ first_setting s ∷ settings (drop (length (first_setting s) + 1) s)
 settings-next s more =
     let n = length (first_setting s) in
-    ap (λ ss. first_setting s ∷ ss) (past-drop n s ∙ by n s more)
-  where
-    by : (n : ℕ) (t : List ℕ) → n < length t
-        → settings_past 0 (drop n t) ≡ settings (drop (n + 1) t)
-    by n [] within = absurd (omega arith)
-    by zero (c ∷ cs) within = refl
-    by (suc n) (c ∷ cs) within =
-        let next : suc (n + 1) ≡ suc n + 1 = omega arith in
-        by n cs (omega arith) ∙ ap (λ k. settings (drop k (c ∷ cs))) next
+    ap (λ ss. first_setting s ∷ ss) (past-drop n s ∙ ap (settings_past 0) (drop_more s n 0 more))
 
 -- a setting by itself, of digits, colons and semicolons
 pub record IsSetting (s : List ℕ) : Type 0 where
@@ -214,15 +163,8 @@ past-settings : (n : ℕ) (t : List ℕ) → list_all (is_in_range 0x30 0x3B) t 
     → All IsSetting (settings_past n t)
 past-settings n [] all = All-nil IsSetting
 past-settings zero (c ∷ cs) all =
-    let rest = (and_parts (is_in_range 0x30 0x3B c) (list_all (is_in_range 0x30 0x3B) cs) all).1 in
-    let s = first_setting cs in
-    All-cons IsSetting s (settings_past (length s) cs) (record {
-      own = first-again cs;
-      range = first-all (is_in_range 0x30 0x3B) cs rest;
-    }) (past-settings (length s) cs rest)
-past-settings (suc n) (c ∷ cs) all =
-    past-settings n cs
-    (and_parts (is_in_range 0x30 0x3B c) (list_all (is_in_range 0x30 0x3B) cs) all).1
+    search (rules, arith, All-cons, first-again, first-all, past-settings (length (first_setting cs)) cs)
+past-settings (suc n) (c ∷ cs) all = search (rules, arith, past-settings n cs)
 
 pub are-settings : (t : List ℕ) → list_all (is_in_range 0x30 0x3B) t ≡ true
     → All IsSetting (settings t)
@@ -333,22 +275,12 @@ pub colon-first : (t : List ℕ) → InRange t
     → has_colon t ≡ not (length (between 0x3A (first_field t)) == 1)
 colon-first [] all = ap (λ l. starts_with nat_eq l (codes ":")) details-nil
 colon-first (c ∷ cs) all =
-    let parts = and_parts (is_in_range 0x30 0x3B c) (list_all (is_in_range 0x30 0x3B) cs) all in
-    let others = colon-first cs parts.1 in
-    let range = parts.0 in
     let some = between-some 0x3A (first_field cs) in
-    grind (arith, cases_Bool, nat_tests, others, range, details-cons, first_text-first, some, texts-len)
+    grind (arith, cases_Bool, nat_tests, colon-first cs, details-cons, first_text-first, some, texts-len)
 
 pub between-rest : (t : List ℕ) → InRange t → has_colon t ≡ false → 1 < length (between 0x3B t)
     → between 0x3B t ≡ first_field t ∷ between 0x3B (drop 1 (details t))
 between-rest [] all none more = absurd (omega arith)
 between-rest (c ∷ cs) all none more =
-    let parts = and_parts (is_in_range 0x30 0x3B c) (list_all (is_in_range 0x30 0x3B) cs) all in
-    let range = parts.0 in
-    let some = between-some 0x3B cs in
-    let len = texts-len c (between 0x3B cs) some in
-    let rest = details-cons c cs in
-    let others : has_colon cs ≡ false → 1 < length (between 0x3B cs)
-    → between 0x3B cs ≡ first_field cs ∷ between 0x3B (drop 1 (details cs)) =
-    between-rest cs parts.1 in
-    grind (arith, cases_Bool, nat_tests, others, range, rest, len)
+    let len = texts-len c (between 0x3B cs) (between-some 0x3B cs) in
+    grind (arith, cases_Bool, nat_tests, between-rest cs, details-cons, len)

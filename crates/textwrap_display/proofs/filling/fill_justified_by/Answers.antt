@@ -1,13 +1,12 @@
 use Rattle.textwrap_display.proofs.filling.fill_justified_by.Goals as goal
-use Rattle.textwrap_text.proofs.Common.{length-append, length-map, string_bytes, length, arith}
-use Rattle.textwrap_text.proofs.Common.{drop, ◌++◌, ◌∙◌, ◌≤◌, ap}
 use Rattle.std.proofs.lemmas.Slice.{between_to_end}
-use Rattle.textwrap_display.proofs.Common.{paragraphs_left, layout_view}
-use Rattle.textwrap_lines.proofs.Paragraph.KeepsTo.{passed-on}
-use Rattle.textwrap_layout.proofs.Text.Lines.{paragraphs_left-split}
-use Rattle.textwrap_layout.specs.Paragraph.{DividesWith}
-use Rattle.textwrap_display.proofs.JustifiedLines.{so_far-start, so_far-more, so_far-end}
+use Rattle.textwrap_display.proofs.Common.{layout_view, paragraphs_left}
+use Rattle.textwrap_display.proofs.JustifiedLines.{so_far-end, so_far-more, so_far-start}
 use Rattle.textwrap_display.proofs.filling.fill_justified_by.Goals.{After-deref}
+use Rattle.textwrap_layout.{proofs.Text.Lines.paragraphs_left-split, specs.Paragraph.DividesWith}
+use Rattle.textwrap_lines.proofs.Paragraph.KeepsTo.{passed-on}
+use Rattle.textwrap_text.proofs.Common.{ap, arith, drop, length, length-append, length-map}
+use Rattle.textwrap_text.proofs.Common.{string_bytes, ◌++◌, ◌∙◌, ◌≤◌}
 
 pub loop-rest-init : goal.loop-rest-init
 loop-rest-init g c =

@@ -1,8 +1,8 @@
 use Rattle.textwrap_display.proofs.filling.fill_justified_by.Given as goal
-use Rattle.textwrap_text.proofs.Common.{string_bytes, length, nat_lt}
-use Rattle.textwrap_display.proofs.Common.{paragraphs_left, layout_view, bytes_left}
+use Rattle.textwrap_display.proofs.Common.{bytes_left, layout_view, paragraphs_left}
 use Rattle.textwrap_display.proofs.JustifiedLines.{IsJustifiedSoFar}
 use Rattle.textwrap_layout.specs.Paragraph.{DividesWith}
+use Rattle.textwrap_text.proofs.Common.{length, nat_lt, string_bytes}
 
 -- with right lines of the paragraphs that are left, it is the whole
 abbrev pub invariant-loop-rest : goal.invariant-loop-rest

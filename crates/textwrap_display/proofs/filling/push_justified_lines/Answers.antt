@@ -1,8 +1,8 @@
-use Rattle.textwrap_text.proofs.Common.{nil_from_length, string_bytes, drop_more, rules, arith, sym}
-use Rattle.textwrap_text.proofs.Common.{drop, ◌++◌, ◌+◌, ◌∙◌, ◌∷◌, [], ap}
 use Rattle.textwrap_display.proofs.filling.push_justified_lines.Goals as goal
 use Rattle.textwrap_display.proofs.Common.{layout_view}
-use Rattle.textwrap_display.proofs.JustifiedLines.{added-step, added}
+use Rattle.textwrap_display.proofs.JustifiedLines.{added, added-step}
+use Rattle.textwrap_text.proofs.Common.{[], ap, arith, drop, drop_more, nil_from_length, rules}
+use Rattle.textwrap_text.proofs.Common.{string_bytes, sym, ◌++◌, ◌+◌, ◌∙◌, ◌∷◌}
 
 pub loop-line-preserved : goal.loop-line-preserved
 loop-line-preserved g c =

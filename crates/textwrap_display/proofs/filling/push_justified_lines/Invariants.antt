@@ -1,7 +1,6 @@
 use Rattle.textwrap_display.proofs.filling.push_justified_lines.Given as goal
-use Rattle.textwrap_text.proofs.Common.{string_bytes, drop, ◌++◌, ◌∷◌, ◌≡◌, []}
-use Rattle.textwrap_display.proofs.Common.{layout_view}
-use Rattle.textwrap_display.proofs.JustifiedLines.{added}
+use Rattle.textwrap_display.proofs.{Common.layout_view, JustifiedLines.added}
+use Rattle.textwrap_text.proofs.Common.{[], drop, string_bytes, ◌++◌, ◌∷◌, ◌≡◌}
 
 -- with the lines that are left, it is the whole
 abbrev pub invariant-loop-line : goal.invariant-loop-line

@@ -1,6 +1,6 @@
-use Rattle.textwrap_text.proofs.Common.{◌≡◌, ◌*◌, ◌^◌, ◌≤◌, sum_by, take}
-use Rattle.textwrap_display.specs.Fitting.{widest_line, widest_word}
 use Rattle.textwrap_display.proofs.fitting.sums_of.Given as goal
+use Rattle.textwrap_display.specs.Fitting.{widest_line, widest_word}
+use Rattle.textwrap_text.proofs.Common.{sum_by, take, ◌*◌, ◌^◌, ◌≡◌, ◌≤◌}
 
 -- the sums of the columns so far, which are few enough to fit
 abbrev pub invariant-loop-need : goal.invariant-loop-need

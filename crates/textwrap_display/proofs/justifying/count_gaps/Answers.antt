@@ -1,6 +1,6 @@
-use Rattle.textwrap_text.proofs.Common.{rules, arith}
 use Rattle.textwrap_display.proofs.justifying.count_gaps.Goals as goal
 use Rattle.textwrap_display.proofs.WidenedWords.{chunks-few}
+use Rattle.textwrap_text.proofs.Common.{arith, rules}
 
 pub overflow_add-words : goal.overflow_add-words
 overflow_add-words c =

@@ -1,6 +1,6 @@
 use Rattle.textwrap_display.proofs.justifying.push_widened.Goals as goal
-use Rattle.textwrap_text.proofs.Common.{◌∙◌, append_assoc, append-nil, arith, string_bytes}
 use Rattle.textwrap_display.proofs.WidenedWords.{first-written, gap-written, widened-text}
+use Rattle.textwrap_text.proofs.Common.{append-nil, append_assoc, arith, string_bytes, ◌∙◌}
 
 pub loop-word-init : goal.loop-word-init
 loop-word-init g c = grind (arith, append_assoc, first-written, widened-text)

@@ -1,9 +1,9 @@
-use Rattle.textwrap_text.proofs.Common.{slice_index, length, rules, arith, subst, drop, take, ◌<◌}
-use Rattle.textwrap_text.proofs.Common.{◌∙◌, ◌≡◌, ◌≢◌, ap}
 use Rattle.textwrap_display.proofs.justifying.split_indent.Goals as goal
-use Rattle.textwrap_display.proofs.justifying.split_indent.Goals.{After-blanks_end}
-use Rattle.textwrap_display.proofs.Common.{BlanksBetween, indent_len, blank}
+use Rattle.textwrap_display.proofs.Common.{BlanksBetween, blank, indent_len}
 use Rattle.textwrap_display.proofs.WidenedWords.{indent-boundary, indent-is}
+use Rattle.textwrap_display.proofs.justifying.split_indent.Goals.{After-blanks_end}
+use Rattle.textwrap_text.proofs.Common.{ap, arith, drop, length, rules, slice_index, subst, take}
+use Rattle.textwrap_text.proofs.Common.{◌<◌, ◌∙◌, ◌≡◌, ◌≢◌}
 
 blanks : (c : After-blanks_end) → BlanksBetween c.args.line.now 0 c.blanks_end.result
 blanks c = subst (λ t. BlanksBetween t 0 c.blanks_end.result) c.as_bytes.ensures.value c.blanks_end.ensures.blanks

@@ -1,9 +1,8 @@
-use Rattle.textwrap_text.proofs.Common.{◌≡◌, max}
-use Rattle.std.specs.List.{flat_map}
-use Rattle.std.specs.Slice.Iter.{chunks_rest, chunks_size}
 use Rattle.textwrap_display.proofs.needs.column_need.Given as goal
+use Rattle.std.specs.{List.flat_map, Slice.Iter.chunks_rest, Slice.Iter.chunks_size}
 use Rattle.textwrap_display.specs.Needs.{column_texts, lines_in, widest, words_in}
 use Rattle.textwrap_display.specs.Tables.{texts_in}
+use Rattle.textwrap_text.proofs.Common.{max, ◌≡◌}
 
 -- with what is left, the widest so far are the widest of all
 abbrev pub invariant-loop-row : goal.invariant-loop-row

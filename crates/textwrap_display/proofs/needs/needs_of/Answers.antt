@@ -1,7 +1,6 @@
 use Rattle.textwrap_display.proofs.needs.needs_of.Goals as goal
+use Rattle.textwrap_display.specs.{Needs.column_texts, Needs.need_of, Tables.texts_in}
 use Rattle.textwrap_text.proofs.Common.{arith, map-range_with_len_more, sym}
-use Rattle.textwrap_display.specs.Needs.{column_texts, need_of}
-use Rattle.textwrap_display.specs.Tables.{texts_in}
 
 pub loop-column-preserved : goal.loop-column-preserved
 loop-column-preserved g c =

@@ -1,8 +1,7 @@
-use Rattle.textwrap_text.proofs.Common.{◌≡◌, map}
-use Rattle.std.specs.List.{range_with_len}
 use Rattle.textwrap_display.proofs.needs.needs_of.Given as goal
-use Rattle.textwrap_display.specs.Needs.{column_texts, need_of}
-use Rattle.textwrap_display.specs.Tables.{texts_in}
+use Rattle.std.specs.List.{range_with_len}
+use Rattle.textwrap_display.specs.{Needs.column_texts, Needs.need_of, Tables.texts_in}
+use Rattle.textwrap_text.proofs.Common.{map, ◌≡◌}
 
 abbrev pub invariant-loop-column : goal.invariant-loop-column
 invariant-loop-column g l =

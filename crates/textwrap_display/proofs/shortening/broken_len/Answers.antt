@@ -1,15 +1,10 @@
 use Rattle.textwrap_display.proofs.shortening.broken_len.Goals as goal
-use Rattle.textwrap_text.proofs.Common.{characters_left, length, arith, sym, ◌+◌, ◌∙◌}
 use Rattle.textwrap_display.proofs.Common.{encode_utf8}
-use Rattle.textwrap_display.proofs.CutWords.{read_word-start, found-past, turn-hidden, found-cut}
-use Rattle.textwrap_display.proofs.CutWords.{turn-full, turn-wide, turn-word, turn-end, turn-le}
-use Rattle.textwrap_display.proofs.CutWords.{IsFoundCut, word-all, IsTurn, turn}
-use Rattle.textwrap_display.proofs.shortening.broken_len.Goals.{then-taken-gt0+then-taken-left+then-width-gt0}
-use Rattle.textwrap_display.proofs.shortening.broken_len.Goals.{else-taken-gt0-via-then-taken-gt0+then-taken-left+else-width-gt0}
-use Rattle.textwrap_display.proofs.shortening.broken_len.Goals.{else-taken-gt0-via-then-taken-gt0+else-taken-left}
-use Rattle.textwrap_display.proofs.shortening.broken_len.Goals.{else-taken-gt0-via-else-taken-gt0}
-use Rattle.textwrap_display.proofs.shortening.broken_len.Goals.{Joined-taken-gt0, else-taken-gt0}
-use Rattle.textwrap_display.proofs.shortening.broken_len.Goals.{In-Some}
+use Rattle.textwrap_display.proofs.CutWords.{IsFoundCut, IsTurn, found-cut, found-past}
+use Rattle.textwrap_display.proofs.CutWords.{read_word-start, turn, turn-end, turn-full}
+use Rattle.textwrap_display.proofs.CutWords.{turn-hidden, turn-le, turn-wide, turn-word, word-all}
+use Rattle.textwrap_display.proofs.shortening.broken_len.Goals.{In-Some, Joined-taken-gt0}
+use Rattle.textwrap_text.proofs.Common.{arith, characters_left, length, sym, ◌+◌, ◌∙◌}
 
 pub loop-character-init : goal.loop-character-init
 loop-character-init c =
@@ -49,17 +44,17 @@ found c =
     let t : IsTurn c.args.left c.args.text.now c.in-Some.character (characters_left c.next.new.self)
     c.loop-character.taken c.loop-character.cut = turn _ _ _ _ _ _ (grind arith) in
     elim c.if-taken-gt0.branch [
-      | then-taken-gt0+then-taken-left+then-width-gt0 w ↦ rw w.cut-is
+      | goal.then-taken-gt0+then-taken-left+then-width-gt0 w ↦ rw w.cut-is
           (found-cut c.utf8.text t (sym t.shown ∙ c.if-character.true)
           (omega (arith, w.if-width-gt0.true, c.columns-width.ensures)) w.if-taken-gt0.true
           w.if-taken-left.true)
-      | else-taken-gt0 w ↦ rw w.cut-is
+      | goal.else-taken-gt0 w ↦ rw w.cut-is
           (found-past c.utf8.text t (λ shown wide some room. elim w.else-taken-gt0.branch [
-            | else-taken-gt0-via-then-taken-gt0+then-taken-left+else-width-gt0 w' ↦
+            | goal.else-taken-gt0-via-then-taken-gt0+then-taken-left+else-width-gt0 w' ↦
                 absurd (omega (arith, wide, w'.if-width-gt0.false, c.columns-width.ensures))
-            | else-taken-gt0-via-then-taken-gt0+else-taken-left w' ↦
+            | goal.else-taken-gt0-via-then-taken-gt0+else-taken-left w' ↦
                 absurd (omega (arith, room, w'.if-taken-left.false))
-            | else-taken-gt0-via-else-taken-gt0 w' ↦
+            | goal.else-taken-gt0-via-else-taken-gt0 w' ↦
                 absurd (omega (arith, some, w'.if-taken-gt0.false))
           ]))
     ]

@@ -1,6 +1,6 @@
 use Rattle.textwrap_display.proofs.shortening.broken_len.Given as goal
-use Rattle.textwrap_text.proofs.Common.{characters_left, ◌≤◌}
 use Rattle.textwrap_display.proofs.CutWords.{IsReadWord}
+use Rattle.textwrap_text.proofs.Common.{characters_left, ◌≤◌}
 
 -- the iterator has left what the reader has not read
 abbrev pub invariant-loop-character : goal.invariant-loop-character

@@ -1,7 +1,6 @@
 use Rattle.textwrap_display.proofs.shortening.push_whole.Goals as goal
+use Rattle.textwrap_display.proofs.{Common.line_view, KeptLines.views-more}
 use Rattle.textwrap_text.proofs.Common.{map}
-use Rattle.textwrap_display.proofs.Common.{line_view}
-use Rattle.textwrap_display.proofs.KeptLines.{views-more}
 
 pub loop-line-preserved : goal.loop-line-preserved
 loop-line-preserved g c =

@@ -1,6 +1,6 @@
 use Rattle.textwrap_display.proofs.shortening.push_whole.Given as goal
-use Rattle.textwrap_text.proofs.Common.{take, ◌++◌, map, ◌≡◌}
-use Rattle.textwrap_display.proofs.Common.{line_view, texts_of, Slice}
+use Rattle.textwrap_display.proofs.Common.{Slice, line_view, texts_of}
+use Rattle.textwrap_text.proofs.Common.{map, take, ◌++◌, ◌≡◌}
 
 -- the lines so far were added
 abbrev pub invariant-loop-line : goal.invariant-loop-line

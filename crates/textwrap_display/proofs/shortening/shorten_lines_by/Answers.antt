@@ -1,17 +1,13 @@
 use Rattle.textwrap_display.proofs.shortening.shorten_lines_by.Goals as goal
-use Rattle.textwrap_text.proofs.Common.{string_bytes, arith, subst, take, ◌++◌, map, sym, ◌+◌, ◌∙◌}
-use Rattle.textwrap_text.proofs.Common.{◌∷◌, ◌≡◌, [], ap}
-use Rattle.textwrap_display.proofs.Common.{AreShortened, IsShortened, line_view, texts_of, Built}
-use Rattle.textwrap_display.proofs.Common.{Slice}
-use Rattle.textwrap_display.proofs.KeptLines.{views-push, cut-lines}
-use Rattle.textwrap_display.proofs.shortening.shorten_lines_by.Goals.{else-lines-most+in-Some+in_ok-push_whole-2+in_ok-last+in_ok-push}
-use Rattle.textwrap_display.proofs.shortening.shorten_lines_by.Goals.{then-lines-most+in_ok-push_whole}
-use Rattle.textwrap_display.proofs.shortening.shorten_lines_by.Goals.{else-lines-most+in_default}
+use Rattle.textwrap_display.proofs.Common.{AreShortened, Built, IsShortened, Slice, line_view}
+use Rattle.textwrap_display.proofs.{Common.texts_of, KeptLines.cut-lines, KeptLines.views-push}
+use Rattle.textwrap_text.proofs.Common.{[], ap, arith, map, string_bytes, subst, sym, take, ◌++◌}
+use Rattle.textwrap_text.proofs.Common.{◌+◌, ◌∙◌, ◌∷◌, ◌≡◌}
 
 pub returns-clause-cut : goal.returns-clause-cut
 returns-clause-cut g c = λ some fewer. elim c.if-lines-most.branch [
-  | then-lines-most+in_ok-push_whole w ↦ absurd (omega arith)
-  | else-lines-most+in-Some+in_ok-push_whole-2+in_ok-last+in_ok-push w ↦
+  | goal.then-lines-most+in_ok-push_whole w ↦ absurd (omega arith)
+  | goal.else-lines-most+in-Some+in_ok-push_whole-2+in_ok-last+in_ok-push w ↦
       let lines = c.args.lines.now in
       let breaks = c.args.shortening.now.break_words in
       let width = c.args.shortening.now.width in
@@ -29,5 +25,5 @@ returns-clause-cut g c = λ some fewer. elim c.if-lines-most.branch [
       w.index-lines-whole.result last number (omega (arith, number)) w.index-lines-whole.is
       (subst (λ l. IsShortened breaks width placeholder l last) w.deref.ensures.value
       w.in_ok-last.ensures))
-  | else-lines-most+in_default w ↦ absurd (omega arith)
+  | goal.else-lines-most+in_default w ↦ absurd (omega arith)
 ]

@@ -1,12 +1,9 @@
-use Rattle.textwrap_text.proofs.Common.{rules, arith}
 use Rattle.textwrap_display.proofs.shortening.shortened.Goals as goal
 use Rattle.textwrap_display.proofs.KeptParts.{kept-boundary}
+use Rattle.textwrap_text.proofs.Common.{arith, rules}
 
 pub range-kept-requires-clause-end_boundary : goal.range-kept-requires-clause-end_boundary
-range-kept-requires-clause-end_boundary g c =
-    let shortening = c.args.shortening.now in
-    kept-boundary shortening.break_words shortening.width shortening.placeholder.now c.args.line.now
-    c.utf8.line c.kept_len.result c.kept_len.ensures
+range-kept-requires-clause-end_boundary g c = kept-boundary c.kept_len.ensures c.utf8.line
 
 pub returns : goal.returns
 returns g c =

@@ -1,17 +1,11 @@
 use Rattle.textwrap_display.proofs.shortening.words_len.Goals as goal
-use Rattle.textwrap_text.proofs.Common.{arith, char_indices_offset, eqb, false≢true, length, refl}
-use Rattle.textwrap_text.proofs.Common.{inl, inr, sym, ◌+◌, ◌∙◌, ◌≡◌}
-use Rattle.textwrap_display.proofs.Common.{char_indices_rest, added}
-use Rattle.textwrap_display.proofs.KeptLines.{found-blank, found-here, found-kept, found-whole}
-use Rattle.textwrap_display.proofs.KeptLines.{IsFound, found-none, found-on, found-open, found-past}
-use Rattle.textwrap_display.proofs.KeptWords.{read_to-start, read_to-step, IsReadTo, read-le}
-use Rattle.textwrap_display.proofs.shortening.words_len.Goals.{Joined-is_visible, else-is_visible}
-use Rattle.textwrap_display.proofs.shortening.words_len.Goals.{then-ch-eq32+then-not-after_blank+then-outside}
-use Rattle.textwrap_display.proofs.shortening.words_len.Goals.{else-ch-eq32-via-then-ch-eq32+then-not-after_blank+else-outside}
-use Rattle.textwrap_display.proofs.shortening.words_len.Goals.{else-ch-eq32-via-then-ch-eq32+else-not-after_blank}
-use Rattle.textwrap_display.proofs.shortening.words_len.Goals.{else-ch-eq32-via-else-ch-eq32}
-use Rattle.textwrap_display.proofs.shortening.words_len.Goals.{then-is_visible, Joined-ch-eq32}
-use Rattle.textwrap_display.proofs.shortening.words_len.Goals.{else-ch-eq32}
+use Rattle.textwrap_display.proofs.{Common.added, Common.char_indices_rest, KeptLines.IsFound}
+use Rattle.textwrap_display.proofs.KeptLines.{found-blank, found-here, found-kept, found-none}
+use Rattle.textwrap_display.proofs.KeptLines.{found-on, found-open, found-past, found-whole}
+use Rattle.textwrap_display.proofs.KeptWords.{IsReadTo, read-le, read_to-start, read_to-step}
+use Rattle.textwrap_display.proofs.shortening.words_len.Goals.{Joined-ch-eq32, Joined-is_visible}
+use Rattle.textwrap_text.proofs.Common.{arith, char_indices_offset, eqb, false≢true, inl, inr, refl}
+use Rattle.textwrap_text.proofs.Common.{sym, ◌+◌, ◌∙◌, ◌≡◌}
 
 pub loop-at-init : goal.loop-at-init
 loop-at-init c =
@@ -23,10 +17,9 @@ loop-at-init c =
     })
 
 pub returns-then-taken-room : goal.returns-then-taken-room
-returns-then-taken-room c =
+returns-then-taken-room c = λ width placeholder is.
     let h = c.loop-at.invariant in
-    λ width placeholder is. found-kept c.args.room width placeholder c.args.line.now c.loop-at.kept is
-    (found-past c.utf8.line h.read h.found c.if-taken-room.true)
+    found-kept is (found-past c.utf8.line h.read h.found c.if-taken-room.true)
 
 read : (c : Joined-is_visible)
     → IsReadTo c.args.line.now (char_indices_offset c.next.new.self)
@@ -36,9 +29,9 @@ read c =
     let s = c.in-Some.ensures.steps in
     let more : added c.loop-at.state c.in-Some.ch ≡ c.if-is_visible.taken =
     elim c.if-is_visible.branch [
-      | then-is_visible w ↦ rw (rw c.step-next.ensures at w.if-is_visible.true)
+      | goal.then-is_visible w ↦ rw (rw c.step-next.ensures at w.if-is_visible.true)
           (sym (w.taken-is ∙ w.columns.ensures))
-      | else-is_visible w ↦ rw (rw c.step-next.ensures at w.if-is_visible.false) (sym w.taken-is)
+      | goal.else-is_visible w ↦ rw (rw c.step-next.ensures at w.if-is_visible.false) (sym w.taken-is)
     ] in
     rw (c.step-next.ensures, ← more)
     (read_to-step c.utf8.line c.loop-at.invariant.read _ c.in-Some.ch _ s.1 s.2)
@@ -55,18 +48,18 @@ found c =
     let h = c.loop-at.invariant in
     let end = char_indices_offset c.next.new.self in
     elim c.if-ch-eq32.branch [
-      | then-ch-eq32+then-not-after_blank+then-outside w ↦ rw (w.kept-is, s.0)
+      | goal.then-ch-eq32+then-not-after_blank+then-outside w ↦ rw (w.kept-is, s.0)
           (found-here c.utf8.line h.read h.found c.in-Some.ch _ s.1 end (omega (arith, s.2))
           c.if-taken-room.false w.if-ch-eq32.true w.if-not-after_blank.true
           (c.is_outside-outside.ensures.0 w.if-outside.true))
-      | else-ch-eq32 w ↦ rw w.kept-is
+      | goal.else-ch-eq32 w ↦ rw w.kept-is
           (found-on c.utf8.line h.read h.found c.in-Some.ch _ s.1 end (omega (arith, s.2))
           (λ blank some outside. elim w.else-ch-eq32.branch [
-            | else-ch-eq32-via-then-ch-eq32+then-not-after_blank+else-outside w' ↦ absurd
+            | goal.else-ch-eq32-via-then-ch-eq32+then-not-after_blank+else-outside w' ↦ absurd
                 (false≢true (sym w'.if-outside.false ∙ c.is_outside-outside.ensures.1 outside))
-            | else-ch-eq32-via-then-ch-eq32+else-not-after_blank w' ↦
+            | goal.else-ch-eq32-via-then-ch-eq32+else-not-after_blank w' ↦
                 absurd (false≢true (sym some ∙ w'.if-not-after_blank.false))
-            | else-ch-eq32-via-else-ch-eq32 w' ↦ absurd (w'.if-ch-eq32.false blank)
+            | goal.else-ch-eq32-via-else-ch-eq32 w' ↦ absurd (w'.if-ch-eq32.false blank)
           ]))
     ]
 
@@ -80,9 +73,7 @@ pub returns-then-not-outside : goal.returns-then-not-outside
 returns-then-not-outside c =
     let h = c.loop-at.invariant in
     let ended = c.in-None.ensures.steps.0 in
-    λ width placeholder is.
-    found-kept c.args.room width placeholder c.args.line.now c.loop-at.kept is
-    (elim c.if-not-outside.either [
+    λ width placeholder is. found-kept is (elim c.if-not-outside.either [
       | inl past ↦ found-past c.utf8.line h.read h.found past
       | inr within ↦ elim within [
         | inl (_, blank) ↦ found-blank c.utf8.line h.read h.found ended blank
@@ -95,7 +86,6 @@ pub returns-else-not-outside : goal.returns-else-not-outside
 returns-else-not-outside c =
     let h = c.loop-at.invariant in
     let (room, some, outside) = c.if-not-outside.false in
-    λ width placeholder is.
-    found-kept c.args.room width placeholder c.args.line.now (length c.args.line.now) is
+    λ width placeholder is. found-kept is
     (found-whole c.utf8.line h.read h.found c.in-None.ensures.steps.0 room some
     (c.is_outside-outside-2.ensures.0 outside))

@@ -1,8 +1,6 @@
 use Rattle.textwrap_display.proofs.shortening.words_len.Given as goal
+use Rattle.textwrap_display.proofs.{Common.char_indices_rest, KeptLines.IsFound, KeptWords.IsReadTo}
 use Rattle.textwrap_text.proofs.Common.{char_indices_offset}
-use Rattle.textwrap_display.proofs.Common.{char_indices_rest}
-use Rattle.textwrap_display.proofs.KeptLines.{IsFound}
-use Rattle.textwrap_display.proofs.KeptWords.{IsReadTo}
 
 -- the iterator has left what the reader has not read
 abbrev pub invariant-loop-at : goal.invariant-loop-at

@@ -1,13 +1,13 @@
 use Rattle.textwrap_display.proofs.tables.table_by.Goals as goal
-use Rattle.textwrap_display.proofs.tables.table_by.Goals.{In-Some}
-use Rattle.textwrap_text.proofs.Common.{string_bytes, append_assoc, append-nil, length-map, length}
-use Rattle.textwrap_text.proofs.Common.{All-head, All-tail, arith, rules, subst, ◌++◌, ◌∙◌, map, []}
 use Rattle.std.specs.Slice.Iter.{chunks_rest}
-use Rattle.textwrap_lines.proofs.Paragraph.KeepsTo.{passed-on}
-use Rattle.textwrap_display.specs.Tables.{NonePasses, cell_texts, group_rows, gaps_view, IsTableBy}
+use Rattle.textwrap_display.proofs.TableGroups.{IsFirstGroup, group-map, groups-more, table-more}
+use Rattle.textwrap_display.proofs.{TableGroups.table-none, tables.table_by.Goals.In-Some}
+use Rattle.textwrap_display.specs.Tables.{IsTableBy, NonePasses, cell_texts, gaps_view, group_rows}
 use Rattle.textwrap_display.specs.Tables.{texts_in}
-use Rattle.textwrap_display.proofs.TableGroups.{group-map, groups-more, IsFirstGroup}
-use Rattle.textwrap_display.proofs.TableGroups.{table-more, table-none}
+use Rattle.textwrap_lines.proofs.Paragraph.KeepsTo.{passed-on}
+use Rattle.textwrap_text.proofs.Common.{All-head, All-tail, [], append-nil, append_assoc, arith}
+use Rattle.textwrap_text.proofs.Common.{length, length-map, map, rules, string_bytes, subst, ◌++◌}
+use Rattle.textwrap_text.proofs.Common.{◌∙◌}
 
 pub loop-texts-init : goal.loop-texts-init
 loop-texts-init g c = search (rules, arith)

@@ -1,7 +1,7 @@
 use Rattle.textwrap_display.proofs.tables.table_by.Given as goal
-use Rattle.textwrap_text.proofs.Common.{◌≡◌, ℕ, List, ◌++◌, All, length, map, string_bytes}
 use Rattle.std.specs.Slice.Iter.{chunks_rest, chunks_size}
-use Rattle.textwrap_display.specs.Tables.{NonePasses, gaps_view, groups_of, IsTableBy, texts_in}
+use Rattle.textwrap_display.specs.Tables.{IsTableBy, NonePasses, gaps_view, groups_of, texts_in}
+use Rattle.textwrap_text.proofs.Common.{All, List, length, map, string_bytes, ℕ, ◌++◌, ◌≡◌}
 
 -- with any table of the texts that are left, the rows so far are that of all; and if all texts fit,
 -- those that are left do

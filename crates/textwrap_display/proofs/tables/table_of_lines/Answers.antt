@@ -1,10 +1,10 @@
 use Rattle.textwrap_display.proofs.tables.table_of_lines.Goals as goal
-use Rattle.textwrap_text.proofs.Common.{append_assoc, append-nil, length-map, length, arith, rules}
-use Rattle.textwrap_text.proofs.Common.{◌∙◌, map}
 use Rattle.std.specs.Slice.Iter.{chunks_rest}
-use Rattle.textwrap_styles.specs.Styles.{texts_of}
-use Rattle.textwrap_display.specs.Tables.{cell_texts, gaps_view, shape_of}
 use Rattle.textwrap_display.proofs.TableGroups.{cells-rows-more, cells-rows-none, group-map}
+use Rattle.textwrap_display.specs.Tables.{cell_texts, gaps_view, shape_of}
+use Rattle.textwrap_styles.specs.Styles.{texts_of}
+use Rattle.textwrap_text.proofs.Common.{append-nil, append_assoc, arith, length, length-map, map}
+use Rattle.textwrap_text.proofs.Common.{rules, ◌∙◌}
 
 pub loop-group-init : goal.loop-group-init
 loop-group-init g c = search (rules, arith)

@@ -1,7 +1,7 @@
 use Rattle.textwrap_display.proofs.tables.table_of_lines.Given as goal
-use Rattle.textwrap_text.proofs.Common.{◌≡◌, ◌++◌, length, map, string_bytes}
 use Rattle.std.specs.Slice.Iter.{chunks_rest, chunks_size}
 use Rattle.textwrap_display.specs.Tables.{cell_texts, gaps_view, rows_of_cells, shape_of}
+use Rattle.textwrap_text.proofs.Common.{length, map, string_bytes, ◌++◌, ◌≡◌}
 
 -- with the rows of the cells that are left, the rows so far are those of all
 abbrev pub invariant-loop-group : goal.invariant-loop-group

@@ -1,16 +1,15 @@
 use Rattle.textwrap_display.proofs.tables.wrap_cells.Goals as goal
-use Rattle.textwrap_display.proofs.tables.wrap_cells.Goals.{In-Some}
-use Rattle.textwrap_text.proofs.Common.{◌≡◌, ◌<◌, arith, get_or, length, length-map, length_push}
-use Rattle.textwrap_text.proofs.Common.{map, map-append, refl, rules, subst, sym, take, take_all}
-use Rattle.textwrap_text.proofs.Common.{take_more, zip}
 use Rattle.std.proofs.lemmas.Slice.Zip.{all_zipped_more, length-zip, zip_end, zip_turn}
 use Rattle.std.specs.Iterator.Adapters.{zip_first, zip_second}
 use Rattle.std.specs.Slice.Iter.{iter_rest}
+use Rattle.textwrap_display.proofs.{TableGroups.cell-at, tables.wrap_cells.Goals.In-Some}
+use Rattle.textwrap_display.specs.Tables.{IsCell, cell_texts, texts_in}
 use Rattle.textwrap_layout.proofs.Common.{line_view}
 use Rattle.textwrap_lines.proofs.Paragraph.KeepsTo.{passed-on}
 use Rattle.textwrap_styles.specs.Styles.{texts_of}
-use Rattle.textwrap_display.specs.Tables.{cell_texts, IsCell, texts_in}
-use Rattle.textwrap_display.proofs.TableGroups.{cell-at}
+use Rattle.textwrap_text.proofs.Common.{arith, get_or, length, length-map, length_push, map}
+use Rattle.textwrap_text.proofs.Common.{map-append, refl, rules, subst, sym, take, take_all}
+use Rattle.textwrap_text.proofs.Common.{take_more, zip, ◌<◌, ◌≡◌}
 
 -- which text this is, and which column
 turn : (g : _) (c : In-Some g) → let n = length c.loop-text.yielded in

@@ -1,7 +1,7 @@
 use Rattle.textwrap_display.proofs.tables.wrap_cells.Given as goal
-use Rattle.textwrap_text.proofs.Common.{length, take, zip}
 use Rattle.std.specs.List.{AllZip}
-use Rattle.textwrap_display.specs.Tables.{cell_texts, IsCell, texts_in}
+use Rattle.textwrap_display.specs.Tables.{IsCell, cell_texts, texts_in}
+use Rattle.textwrap_text.proofs.Common.{length, take, zip}
 
 -- the cells so far are those of the first texts
 abbrev pub invariant-loop-text : goal.invariant-loop-text

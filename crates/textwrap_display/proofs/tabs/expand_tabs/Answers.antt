@@ -1,8 +1,7 @@
-use Rattle.textwrap_text.proofs.Common.{rules, arith, ◌++◌, sym, ◌∙◌, ap}
 use Rattle.textwrap_display.proofs.tabs.expand_tabs.Goals as goal
-use Rattle.textwrap_display.proofs.TabTexts.{has-tab}
+use Rattle.textwrap_display.{proofs.TabTexts.has-tab, specs.Tabs.expanded_tabs}
 use Rattle.textwrap_layout.specs.Paragraph.{Built}
-use Rattle.textwrap_display.specs.Tabs.{expanded_tabs}
+use Rattle.textwrap_text.proofs.Common.{ap, arith, rules, sym, ◌++◌, ◌∙◌}
 
 pub returns-then-not-contains : goal.returns-then-not-contains
 returns-then-not-contains g c =

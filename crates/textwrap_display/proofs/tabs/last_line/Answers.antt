@@ -1,6 +1,6 @@
-use Rattle.textwrap_text.proofs.Common.{rules, arith}
 use Rattle.textwrap_display.proofs.tabs.last_line.Goals as goal
 use Rattle.textwrap_display.proofs.TabTexts.{last_line-behind, last_line-none}
+use Rattle.textwrap_text.proofs.Common.{arith, rules}
 
 pub returns-in-Some : goal.returns-in-Some
 returns-in-Some c = search (rules, arith, last_line-behind, c.in-Some.ensures.cases)

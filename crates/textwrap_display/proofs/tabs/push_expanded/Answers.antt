@@ -1,8 +1,7 @@
 use Rattle.textwrap_display.proofs.tabs.push_expanded.Goals as goal
-use Rattle.textwrap_text.proofs.Common.{None, refl, rules, Some, string_bytes}
-use Rattle.std.proofs.Common.{lit<}
-use Rattle.std.proofs.lemmas.Str.Pattern.{split_once_first}
+use Rattle.std.proofs.{Common.lit<, lemmas.Str.Pattern.split_once_first}
 use Rattle.textwrap_display.proofs.TabTexts.{expanded-last, expanded-step}
+use Rattle.textwrap_text.proofs.Common.{None, Some, refl, rules, string_bytes}
 
 pub loop-part-init : goal.loop-part-init
 loop-part-init g c = record { whole = refl; utf8 = c.utf8.text }

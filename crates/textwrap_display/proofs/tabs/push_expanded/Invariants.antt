@@ -1,6 +1,6 @@
 use Rattle.textwrap_display.proofs.tabs.push_expanded.Given as goal
-use Rattle.textwrap_text.proofs.Common.{length, shadow, string_bytes, Utf8, ◌++◌, ◌≡◌}
 use Rattle.textwrap_display.specs.Tabs.{expanded_tabs}
+use Rattle.textwrap_text.proofs.Common.{Utf8, length, shadow, string_bytes, ◌++◌, ◌≡◌}
 
 -- what is expanded so far, and then what is left, is what was there and the whole
 abbrev pub invariant-loop-part : goal.invariant-loop-part

@@ -1,11 +1,10 @@
 use Rattle.textwrap_styles.proofs.settings.code.Goals as goal
-use Rattle.textwrap_text.proofs.Common.{List, ap, arith, cases_Bool, get_or, get_or-take, length}
-use Rattle.textwrap_text.proofs.Common.{length-take-le, nat_tests, prefix_len, take, true, ℕ, ◌-◌}
-use Rattle.textwrap_text.proofs.Common.{◌<◌, ◌∙◌, ◌≡◌, ◌≤◌}
+use Rattle.std.proofs.lemmas.{Int.Digits.digits_value_more, List.Sums.prefix_len-le-length}
+use Rattle.std.{proofs.lemmas.List.Sums.prefix_len_passes, specs.Char.digit_value}
 use Rattle.textwrap_styles.proofs.Common.{is_ascii_digit}
-use Rattle.std.proofs.lemmas.Int.Digits.{digits_value_more}
-use Rattle.std.proofs.lemmas.List.Sums.{prefix_len-le-length, prefix_len_passes}
-use Rattle.std.specs.Char.{digit_value}
+use Rattle.textwrap_text.proofs.Common.{List, arith, get_or, get_or-take, length, length-take-le}
+use Rattle.textwrap_text.proofs.Common.{nat_tests, prefix_len, rules, take, true, ℕ, ◌-◌, ◌<◌, ◌≡◌}
+use Rattle.textwrap_text.proofs.Common.{◌≤◌}
 
 -- an ASCII digit and its value
 record IsDigit (c : ℕ) : Type 0 where
@@ -14,21 +13,13 @@ record IsDigit (c : ℕ) : Type 0 where
   value : digit_value c ≡ c - 48
 
 digit : (c : ℕ) → is_ascii_digit c ≡ true → IsDigit c
-digit c is =
-    let low : 48 ≤ c = grind (arith, cases_Bool, nat_tests) in
-    let high : c ≤ 57 = grind (arith, cases_Bool, nat_tests) in
-    record { least = low; most = high; value = grind (arith, cases_Bool, nat_tests) }
+digit c is = search (rules, arith, nat_tests)
 
 -- one of the digits that these begin with
 digit-at : (bs : List ℕ) (n k : ℕ) → n ≡ prefix_len is_ascii_digit bs → k < length (take n bs)
     → IsDigit (get_or (take n bs) k 0)
 digit-at bs n k is within =
-    let most = prefix_len-le-length is_ascii_digit bs in
-    let len = length-take-le n bs (omega (arith, is, most)) in
-    let less : k < n = omega (arith, within, len) in
-    digit (get_or (take n bs) k 0)
-    (ap is_ascii_digit (get_or-take n bs k 0 less)
-    ∙ prefix_len_passes is_ascii_digit bs k 0 (omega (arith, less, is)))
+    search (rules, arith, digit, get_or-take, prefix_len_passes, prefix_len-le-length, length-take-le)
 
 pub overflow_sub-byte : goal.overflow_sub-byte
 overflow_sub-byte c =

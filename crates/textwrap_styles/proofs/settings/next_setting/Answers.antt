@@ -1,19 +1,16 @@
 use Rattle.textwrap_styles.proofs.settings.next_setting.Goals as goal
-use Rattle.textwrap_text.proofs.Common.{List, [], ap, arith, drop, length, sym, take, take_all, ℕ}
-use Rattle.textwrap_text.proofs.Common.{◌+◌, ◌-◌, ◌<◌, ◌∙◌, ◌∷◌, ◌≡◌, ◌≤◌}
 use Rattle.textwrap_styles.proofs.Common.{is_in_range, settings}
 use Rattle.textwrap_styles.proofs.SettingTexts.{drop-all, first-take, settings-next, settings-one}
 use Rattle.textwrap_styles.specs.Settings.{first_setting}
+use Rattle.textwrap_text.proofs.Common.{List, [], ap, arith, drop, length, sym, take, take_all, ℕ}
+use Rattle.textwrap_text.proofs.Common.{◌+◌, ◌-◌, ◌<◌, ◌∙◌, ◌∷◌, ◌≡◌, ◌≤◌}
 
 -- the first setting, where it ends at a place, and those behind the next one
 next : (s first rest : List ℕ) (n : ℕ) → n ≡ length (first_setting s) → n < length s
     → first ≡ take (n - 0) s → rest ≡ drop (n + 1) s → settings s ≡ first ∷ settings rest
 next s first rest n is more front back =
-    let own : first ≡ first_setting s =
-    front ∙ ap (λ k. take k s) (omega (arith, is)) ∙ first-take s in
-    settings-next s (omega (arith, is, more))
-    ∙ ap (λ k. first_setting s ∷ settings (drop (k + 1) s)) (sym is)
-    ∙ ap (λ f. f ∷ settings (drop (n + 1) s)) (sym own) ∙ ap (λ r. first ∷ settings r) (sym back)
+    let own : n - 0 ≡ n = omega arith in
+    grind (arith, settings-next, first-take, own)
 
 -- where it takes all
 only : (s : List ℕ) (n : ℕ) → n ≡ length (first_setting s) → length s ≤ n → settings s ≡ s ∷ []

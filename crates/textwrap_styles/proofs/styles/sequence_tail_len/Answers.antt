@@ -1,8 +1,6 @@
 use Rattle.textwrap_styles.proofs.styles.sequence_tail_len.Goals as goal
-use Rattle.textwrap_text.proofs.Common.{◌≢◌}
 use Rattle.textwrap_styles.proofs.Sequences.{read_to-end, read_to-start, read_to-step}
-use Rattle.textwrap_styles.proofs.styles.sequence_tail_len.Goals.{in-Text, in_default}
-use Rattle.textwrap_text.specs.declared.escapes.State.TheVariants.{Text}
+use Rattle.textwrap_text.{proofs.Common.◌≢◌, specs.declared.escapes.State.TheVariants.Text}
 
 pub loop-at-init : goal.loop-at-init
 loop-at-init c =
@@ -14,8 +12,8 @@ pub loop-at-preserved : goal.loop-at-preserved
 loop-at-preserved c =
     let s = c.in-Some.ensures.steps in
     let inside : c.loop-at.state ≢ Text = elim c.match-matches.branch [
-      | in-Text w ↦ absurd (cc (w.matches-is, c.if-matches.false))
-      | in_default w ↦ w.in_default.not-Text
+      | goal.in-Text w ↦ absurd (cc (w.matches-is, c.if-matches.false))
+      | goal.in_default w ↦ w.in_default.not-Text
     ] in
     rw c.step-next.ensures
     (read_to-step c.args.after.now _ _ _ c.loop-at.invariant _ c.in-Some.ch _ inside s.1 s.2)

@@ -1,8 +1,8 @@
 use Rattle.textwrap_styles.proofs.styles.style_parameters.Goals as goal
-use Rattle.textwrap_text.proofs.Common.{ap, codes, list_all, sym, ◌++◌, ◌∙◌, ◌≡◌}
 use Rattle.textwrap_styles.proofs.Common.{is_in_range, is_style}
 use Rattle.textwrap_styles.proofs.Sequences.{not_style, style-is}
 use Rattle.textwrap_styles.proofs.styles.style_parameters.Goals.{In_ok-parameters}
+use Rattle.textwrap_text.proofs.Common.{ap, arith, codes, list_all, sym, ◌∙◌, ◌≡◌}
 use Rattle.textwrap_text.proofs.Lists.Parts.{stripped_prefix, stripped_suffix}
 
 pub returns-in_err-parameters-clause-style : goal.returns-in_err-parameters-clause-style
@@ -17,12 +17,9 @@ style : (c : In_ok-parameters)
     → list_all (is_in_range 0x30 0x3B) c.in_ok-parameters.parameters.now
     ≡ is_style c.args.sequence.now
 style c =
-    let rest = c.in_ok-strip_prefix.field-0.now in
-    let parameters = c.in_ok-parameters.parameters.now in
-    let end = stripped_suffix (codes "m") rest parameters c.in_ok-parameters.ensures.cases in
-    sym (ap is_style (stripped_prefix (codes "\u{1b}[") c.args.sequence.now rest
-    c.in_ok-strip_prefix.ensures.cases ∙ ap (λ l. codes "\u{1b}[" ++ l) end)
-    ∙ style-is parameters)
+    let front = c.in_ok-strip_prefix.ensures.cases in
+    let back = c.in_ok-parameters.ensures.cases in
+    grind (arith, stripped_prefix, stripped_suffix, style-is, front, back)
 
 pub returns-then-are_style_parameters-clause-style :
     goal.returns-then-are_style_parameters-clause-style

@@ -1,7 +1,6 @@
 use Rattle.textwrap_display.proofs.tables.GroupRowCells.columns.Goals as goal
+use Rattle.textwrap_display.{proofs.TableGroups.length-shown, specs.Tables.cell_texts}
 use Rattle.textwrap_text.proofs.Common.{length-map, map, ◌∙◌}
-use Rattle.textwrap_display.specs.Tables.{cell_texts}
-use Rattle.textwrap_display.proofs.TableGroups.{length-shown}
 
 pub returns-clause-all : goal.returns-clause-all
 returns-clause-all g c = λ r.

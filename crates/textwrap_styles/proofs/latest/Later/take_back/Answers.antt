@@ -1,7 +1,7 @@
 use Rattle.textwrap_styles.proofs.latest.Later.take_back.Goals as goal
-use Rattle.textwrap_text.proofs.Common.{arith, cases_Bool}
 use Rattle.textwrap_styles.proofs.OpenSettings.{any-known, known-below}
 use Rattle.textwrap_styles.specs.Settings.{number}
+use Rattle.textwrap_text.proofs.Common.{arith, cases_Bool}
 
 pub returns-then-self-number : goal.returns-then-self-number
 unfolding number
@@ -33,13 +33,4 @@ unfolding number
 returns-else-is_weight g c = λ later are.
     let any = any-known c.args.kind later c.requires in
     let one = are.kinds (number c.args.kind) (known-below c.args.kind c.requires) in
-    grind (
-      arith,
-      cases_Bool,
-      any,
-      one,
-      c.number.ensures.place,
-      c.if-self-number.false,
-      c.is_weight.ensures,
-      c.if-is_weight.false,
-    )
+    grind (arith, cases_Bool, any, one, c.number.ensures.place, c.is_weight.ensures, c)

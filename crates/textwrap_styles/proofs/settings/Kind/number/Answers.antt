@@ -1,8 +1,7 @@
 use Rattle.textwrap_styles.proofs.settings.Kind.number.Goals as goal
-use Rattle.textwrap_text.proofs.Common.{refl, ◌≡◌}
-use Rattle.textwrap_styles.proofs.Common.{Kind, Reset}
-use Rattle.textwrap_styles.specs.Settings.{number}
+use Rattle.textwrap_styles.{proofs.Common.Kind, proofs.Common.Reset, specs.Settings.number}
 use Rattle.textwrap_styles.specs.contracts.settings.Kind.{the_type}
+use Rattle.textwrap_text.proofs.Common.{refl, ◌≡◌}
 use denote.Enum.Declared.{tag_of}
 
 tag : (k : Kind) → tag_of the_type k ≡ number k

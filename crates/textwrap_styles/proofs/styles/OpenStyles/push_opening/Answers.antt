@@ -1,10 +1,9 @@
 use Rattle.textwrap_styles.proofs.styles.OpenStyles.push_opening.Goals as goal
+use Rattle.std.proofs.lemmas.List.Folds.{concat-append}
+use Rattle.textwrap_styles.proofs.{Common.concat, Common.written, OpenSettings.texts}
 use Rattle.textwrap_text.proofs.Common.{Bor, List, append-nil, append_assoc, arith, codes, get_or}
 use Rattle.textwrap_text.proofs.Common.{length, map, map-append, take, take_more, ℕ, ◌++◌, ◌+◌, ◌<◌}
 use Rattle.textwrap_text.proofs.Common.{◌≡◌}
-use Rattle.textwrap_styles.proofs.Common.{concat, written}
-use Rattle.std.proofs.lemmas.List.Folds.{concat-append}
-use Rattle.textwrap_styles.proofs.OpenSettings.{texts}
 
 -- the settings so far, one after the other, and one more
 written-more : (ss : List (Bor (List ℕ))) (n : ℕ) (d : Bor (List ℕ))
@@ -14,8 +13,7 @@ written-more : (ss : List (Bor (List ℕ))) (n : ℕ) (d : Bor (List ℕ))
     → new ≡ front ++ concat (map written (texts (take (n + 1) ss)))
 written-more ss n d front old begun filled new within is starts sets ends =
     let next = take_more ss n d within in
-    let more : new ≡ old ++ written (get_or ss n d).now = grind (arith, append_assoc) in
-    grind (arith, append-nil, append_assoc, map-append, concat-append, next, more)
+    grind (arith, append-nil, append_assoc, map-append, concat-append, next)
 
 pub loop-setting-preserved : goal.loop-setting-preserved
 loop-setting-preserved g c =

@@ -1,12 +1,11 @@
 use Rattle.textwrap_styles.proofs.styles.OpenStyles.read.Goals as goal
-use Rattle.textwrap_text.proofs.Common.{List, [], after_last, ap, append-nil, append_assoc}
-use Rattle.textwrap_text.proofs.Common.{flat_map, refl, rules, subst, sym, ℕ, ◌++◌, ◌∙◌, ◌∷◌, ◌≡◌}
+use Rattle.textwrap_layout.proofs.Text.Sinks.{on_ok_both}
 use Rattle.textwrap_styles.proofs.Common.{IsKeptAfter, in_effect, latest, open_link, open_settings}
 use Rattle.textwrap_styles.proofs.Common.{sequences, settings_of}
-use Rattle.textwrap_layout.proofs.Text.Sinks.{on_ok_both}
 use Rattle.textwrap_styles.proofs.OpenSettings.{effect-again, resets}
-use Rattle.textwrap_styles.specs.OpenStyles.{IsReadTo}
-use Rattle.textwrap_styles.specs.declared.styles.OpenStyles.{OpenStyles}
+use Rattle.textwrap_styles.specs.{OpenStyles.IsReadTo, declared.styles.OpenStyles.OpenStyles}
+use Rattle.textwrap_text.proofs.Common.{List, [], after_last, ap, append-nil, append_assoc}
+use Rattle.textwrap_text.proofs.Common.{flat_map, refl, rules, subst, sym, ℕ, ◌++◌, ◌∙◌, ◌∷◌, ◌≡◌}
 
 -- what is kept where a line begins is read up to there
 kept-read : {Z : Type 0} (before : List (List ℕ)) (state : OpenStyles Z)

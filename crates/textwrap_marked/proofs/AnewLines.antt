@@ -1,25 +1,18 @@
 -- Lines that stay, with the ending that is asked for.
-use Rattle.textwrap_marked.proofs.LineNames.{◌≡◌, ℕ, ◌+◌, ◌-◌, ◌⊎◌, ◌&&◌, Bool, true, false, List, []}
-use Rattle.textwrap_marked.proofs.LineNames.{◌∷◌, ◌++◌, All-append, All-cons, All-nil, ap, append_assoc}
-use Rattle.textwrap_marked.proofs.LineNames.{arith, codes, ends_with, flat_map, get_or, inl, inr}
-use Rattle.textwrap_marked.proofs.LineNames.{length, map, nat_eq, None, Option, refl, reverse, Some}
-use Rattle.textwrap_marked.proofs.LineNames.{suc, suffix_len, sym, take, take_more, zero, ⊤, ◌∙◌, ap₂}
-use Rattle.textwrap_marked.proofs.LineNames.{suffix_len-le-length, ending_bytes, FenceText, is_return}
-use Rattle.textwrap_marked.proofs.LineNames.{line_as_read, LineText, new_fence, passed, StateText}
-use Rattle.textwrap_marked.proofs.LineNames.{without_returns, spaced_words}
-use Rattle.textwrap_text.specs.declared.line_ending.LineEnding.{LineEnding}
-use Rattle.textwrap_text.specs.declared.line_ending.LineEnding.TheVariants.{CRLF, LF}
-use Rattle.textwrap_marked.proofs.Common.{ending_if, kept_line}
-use Rattle.textwrap_marks.specs.declared.options.ReflowOptions.{ReflowOptions}
-use Rattle.textwrap_text.proofs.Common.{All-take}
+use Rattle.std.proofs.lemmas.List.Sums.{suffix_len-take_no, prefix_len_stops}
 use Rattle.std.proofs.lemmas.List.{get_or-reverse, length-reverse}
-use Rattle.std.proofs.lemmas.List.Sums.{prefix_len_stops}
-use Rattle.textwrap_marked.proofs.BegunAlike.{return-ends}
-use Rattle.textwrap_marked.proofs.Feedless.{IsFeedless, NoFeed}
-use Rattle.textwrap_marked.proofs.ReturnsOff.{EndsWell, return_if, returns-off}
+use Rattle.textwrap_marked.proofs.Common.{ReflowOptions, append_assoc, ending_bytes, line_as_read, All-cons}
+use Rattle.textwrap_marked.proofs.Common.{ending_if, ends_with, is_return, kept_line, new_fence, LineText}
+use Rattle.textwrap_marked.proofs.Common.{flat_map, All-nil, reverse, Option, get_or, length, nat_eq, arith}
+use Rattle.textwrap_marked.proofs.Common.{passed, codes, false, CRLF, List, None, Some, refl, take, true, ℕ}
+use Rattle.textwrap_marked.proofs.Common.{spaced_words, All-append, LineEnding, suffix_len, StateText, Bool}
+use Rattle.textwrap_marked.proofs.Common.{suffix_len-le-length, line_from_words, without_returns, FenceText}
+use Rattle.textwrap_marked.proofs.Common.{zero, ◌&&◌, ◌++◌, ap₂, map, suc, sym, ◌-◌, ◌∙◌, ◌∷◌, ◌≡◌, LF, []}
+use Rattle.textwrap_marked.proofs.ReturnsOff.{return-ends, returns-off, return_if}
 use Rattle.textwrap_marked.proofs.TextBlocks.{AreOneBlock, last_line}
-use Rattle.textwrap_marked.specs.Lines.{line_from_words}
+use Rattle.textwrap_marked.proofs.{Common.ap, Common.⊤, Feedless.IsFeedless, Feedless.NoFeed}
 use Rattle.textwrap_marks.specs.Prefixes.{prefix_ends}
+use Rattle.textwrap_text.proofs.Common.{All-take}
 
 abbrev pub returns_by : LineEnding → Bool
 returns_by LF = false
@@ -44,44 +37,28 @@ anew e returns line = record line { raw = anew_raw e returns line.fed line.raw }
 
 -- ---- its content
 
-content-ends : (raw : List ℕ) → (without_returns raw ≡ []) ⊎ EndsWell (without_returns raw)
-content-ends raw = cut (length raw - suffix_len is_return raw) refl
+content-none : (raw : List ℕ) → suffix_len is_return (without_returns raw) ≡ 0
+content-none raw = cut (length raw - suffix_len is_return raw) refl
   where
     cut : (n : ℕ) → length raw - suffix_len is_return raw ≡ n
-        → (without_returns raw ≡ []) ⊎ EndsWell (without_returns raw)
-    cut zero is = inl (ap (λ k. take k raw) is)
+        → suffix_len is_return (without_returns raw) ≡ 0
+    cut zero is = ap (λ k. suffix_len is_return (take k raw)) is
     cut (suc m) is =
         let le = suffix_len-le-length is_return raw in
-        let place : length raw - 1 - suffix_len is_return raw ≡ m = omega (arith, is) in
-        let next : length raw - suffix_len is_return raw ≡ m + 1 = omega (arith, is) in
-        inr (
-          take m raw,
-          get_or raw m 0,
-          ap (λ k. take k raw) next ∙ take_more raw m 0 (omega (arith, is)),
-          sym (ap is_return (get_or-reverse raw (suffix_len is_return raw) 0 (omega (arith, is))
-              ∙ ap (λ k. get_or raw k 0) place))
-              ∙ prefix_len_stops is_return (reverse raw) 0 (omega (arith, is, length-reverse raw)),
-        )
+        let place : length raw - 1 - suffix_len is_return raw ≡ suc m - 1 = omega (arith, is) in
+        ap (λ k. suffix_len is_return (take k raw)) is
+        ∙ suffix_len-take_no is_return raw (suc m) 0 (omega arith) (omega (arith, is))
+        (sym (ap is_return (get_or-reverse raw (suffix_len is_return raw) 0 (omega (arith, is))
+        ∙ ap (λ k. get_or raw k 0) place))
+        ∙ prefix_len_stops is_return (reverse raw) 0 (omega (arith, is, length-reverse raw)))
 
 content-same : (raw : List ℕ) (b : Bool)
     → without_returns (without_returns raw ++ return_if b) ≡ without_returns raw
-content-same raw b = cut (content-ends raw) b
-  where
-    cut : (without_returns raw ≡ []) ⊎ EndsWell (without_returns raw) → (b : Bool)
-        → without_returns (without_returns raw ++ return_if b) ≡ without_returns raw
-    cut (inl none) true = ap (λ t. without_returns (t ++ 13 ∷ [])) none ∙ sym none
-    cut (inl none) false = ap (λ t. without_returns (t ++ [])) none ∙ sym none
-    cut (inr ends) b = returns-off (without_returns raw) b ends
+content-same raw b = returns-off (without_returns raw) b (content-none raw)
 
 pub content-return : (raw : List ℕ) (b : Bool)
     → ends_with nat_eq (without_returns raw ++ return_if b) (codes "\r") ≡ b
-content-return raw b = cut (content-ends raw) b
-  where
-    cut : (without_returns raw ≡ []) ⊎ EndsWell (without_returns raw) → (b : Bool)
-        → ends_with nat_eq (without_returns raw ++ return_if b) (codes "\r") ≡ b
-    cut (inl none) true = ap (λ t. ends_with nat_eq (t ++ 13 ∷ []) (codes "\r")) none
-    cut (inl none) false = ap (λ t. ends_with nat_eq (t ++ []) (codes "\r")) none
-    cut (inr ends) b = return-ends (without_returns raw) b ends
+content-return raw b = return-ends (without_returns raw) b (content-none raw)
 
 pub anew-content : (e : Option LineEnding) (returns fed : Bool) (raw : List ℕ)
     → without_returns (anew_raw e returns fed raw) ≡ without_returns raw

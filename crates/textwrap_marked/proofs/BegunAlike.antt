@@ -1,13 +1,10 @@
 -- How a new text begins, and how its first line ends.
-use Rattle.textwrap_marked.proofs.LineNames.{◌≡◌, ℕ, ◌<◌, ◌≤◌, ◌⊎◌, ◌&&◌, ◌||◌, Bool, true, false, List}
-use Rattle.textwrap_marked.proofs.LineNames.{[], ◌∷◌, ◌++◌, ap, append-nil, append_assoc, arith, codes}
-use Rattle.textwrap_marked.proofs.LineNames.{ends_with, inl, inr, join_with_byte, length, nat_eq}
-use Rattle.textwrap_marked.proofs.LineNames.{nat_lt, nat_tests, cases_Bool, ne_eqb, refl, starts_with}
-use Rattle.textwrap_marked.proofs.LineNames.{sym, true≢false, ⊤, ◌∙◌, is_return, is_white}
-use Rattle.textwrap_marked.proofs.Common.{byte_order_mark}
-use Rattle.textwrap_text.proofs.Lists.Parts.{ends_with-other, ends_with-true}
-use Rattle.textwrap_marked.proofs.FenceLeft.{EndsWord}
-use Rattle.textwrap_marked.proofs.ReturnsOff.{EndsWell, return_if}
+use Rattle.textwrap_marked.proofs.Common.{List, refl, true, ◌&&◌, ◌++◌, ◌||◌, inr, sym, ◌<◌, ◌∙◌, ◌∷◌, ap}
+use Rattle.textwrap_marked.proofs.Common.{append-nil, cases_Bool, ends_with, is_return, nat_tests, length}
+use Rattle.textwrap_marked.proofs.Common.{byte_order_mark, join_with_byte, append_assoc, starts_with, inl}
+use Rattle.textwrap_marked.proofs.Common.{is_white, nat_eq, nat_lt, ne_eqb, arith, codes, false, Bool, []}
+use Rattle.textwrap_marked.proofs.Common.{◌≡◌, ◌≤◌, ◌⊎◌, ℕ, ⊤}
+use Rattle.textwrap_marked.proofs.{FenceLeft.EndsText, FenceLeft.EndsWord, ReturnsOff.return_if}
 
 -- a first line in the place of another: what both begin with goes up to the end of a word, and if lines
 -- follow, it ends in a carriage return where the others do
@@ -29,14 +26,10 @@ AreBegun returns (raw ∷ raws) (new ∷ news) =
     ((raw ≡ new) × (nat_lt 0 (length raws) ≡ nat_lt 0 (length news)))
     ⊎ IsInPlace returns raw new news
 
--- ---- the ending of a line
-
-pub return-ends : (text : List ℕ) (b : Bool) → EndsWell text
-    → ends_with nat_eq (text ++ return_if b) (codes "\r") ≡ b
-return-ends text true ends = ends_with-true (13 ∷ []) (text ++ 13 ∷ []) text refl
-return-ends text false (front, c, is, other) =
-    ends_with-other (text ++ []) front c 13
-    (λ same. true≢false (ap is_return (sym same) ∙ other)) (append-nil text ∙ is)
+pub ends-word : (tail : List ℕ) (r : Bool) → EndsText tail → EndsWord (tail ++ return_if r)
+ends-word [] true ends = refl
+ends-word [] false ends = tt
+ends-word (c ∷ tail) r ends = ap (λ b. b || is_return c) ends
 
 -- ---- a byte order mark
 

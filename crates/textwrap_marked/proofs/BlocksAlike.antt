@@ -1,11 +1,9 @@
 -- Blocks in the place of others that begin alike.
-use Rattle.textwrap_marked.proofs.LineNames.{Option, ◌≡◌, ◌||◌, not, Bool, List, [], ◌∷◌, ap, refl}
-use Rattle.textwrap_marked.proofs.LineNames.{subst, sym, ◌∙◌, flat, LineText}
-use Rattle.textwrap_text.specs.declared.line_ending.LineEnding.{LineEnding}
-use Rattle.textwrap_marked.proofs.Common.{goes_on, is_beside, stays, AreSameParts, IsSameBy, Part}
-use Rattle.textwrap_marked.proofs.Common.{parts_of_blocks}
-use Rattle.textwrap_marked.proofs.BlockOrder.{AreBlocks, StopsAt}
-use Rattle.textwrap_marked.proofs.KeptLines.{AreHeads, IsHeadAlike}
+use Rattle.textwrap_marked.proofs.Common.{IsSameBy, LineText, goes_on, Option, subst, Bool, List, not}
+use Rattle.textwrap_marked.proofs.Common.{Part, flat, refl, ◌||◌, sym, ◌∙◌, ◌∷◌, ◌≡◌, [], ap}
+use Rattle.textwrap_marked.proofs.Common.{parts_of_blocks, AreSameParts, LineEnding, is_beside, stays}
+use Rattle.textwrap_marked.proofs.TextParts.{AreBlocks, StopsAt}
+use Rattle.textwrap_marked.proofs.{KeptLines.AreHeads, ParagraphLines.IsHeadAlike}
 
 -- all that the lines behind it ask of a line
 pub record IsBackAlike (line other : LineText) : Type 0 where

@@ -1,19 +1,16 @@
 -- What stays of a text, with an ending that is asked for, whichever endings its lines had before.
-use Rattle.textwrap_marked.proofs.LineNames.{◌≡◌, ℕ, ◌<◌, Bool, true, false, List, [], ◌∷◌, ◌++◌, All}
-use Rattle.textwrap_marked.proofs.LineNames.{All-head, All-tail, ap, append_assoc, append-nil, arith}
-use Rattle.textwrap_marked.proofs.LineNames.{flat_map, length, length-slice_split, lt-ltb, nat_lt, None}
-use Rattle.textwrap_marked.proofs.LineNames.{Option, refl, slice_split, Some, subst, sym, ⊤, ◌==◌, ◌∙◌}
-use Rattle.textwrap_marked.proofs.LineNames.{ending_bytes, entered, first_state, flat, line_as_read}
-use Rattle.textwrap_marked.proofs.LineNames.{lines_of_text, LineText, passed, read_lines, StateText}
-use Rattle.textwrap_marked.proofs.LineNames.{with_titles, without_returns}
-use Rattle.textwrap_text.specs.declared.line_ending.LineEnding.{LineEnding}
-use Rattle.textwrap_marked.proofs.Common.{AreSameParts, blocks, ending_if, is_beside, IsSameBy}
-use Rattle.textwrap_marked.proofs.Common.{kept_line, Part, parts_of_blocks, text_parts}
-use Rattle.textwrap_marks.specs.declared.options.ReflowOptions.{ReflowOptions}
-use Rattle.std.proofs.lemmas.List.Splits.{slice_split_at, slice_split_none}
-use Rattle.textwrap_marked.proofs.AnewLines.{anew-content, anew-feedless, anew-text, anew_raw, IsTold, returns_by}
-use Rattle.textwrap_marked.proofs.Feedless.{IsFeedless, split-feedless}
-use Rattle.textwrap_marked.proofs.TextParts.{blocks-flat}
+use Rattle.std.proofs.lemmas.List.Splits.{slice_split_at}
+use Rattle.textwrap_marked.proofs.AnewLines.{anew-feedless, anew-content, returns_by, anew-text, anew_raw}
+use Rattle.textwrap_marked.proofs.Common.{IsSameBy, LineText, flat_map, Option, blocks, length, lt-ltb, ⊤}
+use Rattle.textwrap_marked.proofs.Common.{Some, flat, refl, true, ◌++◌, ◌==◌, All, sym, ◌<◌, ◌∙◌, ◌∷◌}
+use Rattle.textwrap_marked.proofs.Common.{append_assoc, ending_bytes, line_as_read, first_state, All-tail}
+use Rattle.textwrap_marked.proofs.Common.{length-slice_split, slice_split_none, parts_of_blocks, All-head}
+use Rattle.textwrap_marked.proofs.Common.{nat_lt, passed, arith, false, subst, Bool, List, None, Part, ap}
+use Rattle.textwrap_marked.proofs.Common.{slice_split, with_titles, LineEnding, append-nil, read_lines, ℕ}
+use Rattle.textwrap_marked.proofs.Common.{text_parts, StateText, ending_if, is_beside, kept_line, entered}
+use Rattle.textwrap_marked.proofs.Common.{without_returns, ReflowOptions, lines_of_text, AreSameParts, []}
+use Rattle.textwrap_marked.proofs.Feedless.{split-feedless, IsFeedless}
+use Rattle.textwrap_marked.proofs.{AnewLines.IsTold, Common.◌≡◌, TextParts.blocks-flat}
 
 -- lines without a line feed, behind each of which one follows, but for the last
 abbrev AreFed : List LineText → Type 0

@@ -1,22 +1,14 @@
 -- How filled lines of a new text end.
-use Rattle.textwrap_marked.proofs.LineNames.{Option, Some, ◌≡◌, ℕ, ◌&&◌, Bool, true, false, cond, List}
-use Rattle.textwrap_marked.proofs.LineNames.{[], ◌∷◌, ◌++◌, ◌==◌, All, All-head, ap, append_assoc}
-use Rattle.textwrap_marked.proofs.LineNames.{arith, codes, ends_with, flat_map, inl, inr, length}
-use Rattle.textwrap_marked.proofs.LineNames.{nat_eq, nat_lt, None, refl, slice_split, subst, sym}
-use Rattle.textwrap_marked.proofs.LineNames.{true≢false, ◌∙◌, all-left, all-right, length-slice_split}
-use Rattle.textwrap_marked.proofs.LineNames.{LineText}
-use Rattle.textwrap_text.specs.declared.line_ending.LineEnding.{LineEnding}
-use Rattle.textwrap_text.specs.declared.line_ending.LineEnding.TheVariants.{CRLF, LF}
-use Rattle.textwrap_marked.proofs.Common.{stays, break_white, ending_if, filled_end, filled_ending}
-use Rattle.textwrap_marked.proofs.Common.{first_room, AreOfBlocks, IsOfBlock, later_room, line_text}
-use Rattle.textwrap_marked.proofs.Common.{line_texts, printed, shown_lines}
-use Rattle.textwrap_marks.specs.declared.options.ReflowOptions.{ReflowOptions}
-use Rattle.textwrap_marked.proofs.BegunAlike.{AreBegun}
-use Rattle.textwrap_marked.proofs.Feedless.{NoFeed}
-use Rattle.textwrap_marked.proofs.PrintedLines.{texts_more}
-use Rattle.textwrap_marked.proofs.PrintedText.{filled-last}
-use Rattle.textwrap_marked.proofs.AnewLines.{returns_by}
-use Rattle.textwrap_marked.proofs.TextBack.{IsTextBack}
+use Rattle.textwrap_marked.proofs.Common.{ReflowOptions, filled_ending, append_assoc, AreOfBlocks, Option}
+use Rattle.textwrap_marked.proofs.Common.{all-left, flat_map, printed, length, nat_eq, nat_lt, codes, All}
+use Rattle.textwrap_marked.proofs.Common.{all-right, ending_if, ends_with, line_text, All-head, LineText}
+use Rattle.textwrap_marked.proofs.Common.{break_white, shown_lines, slice_split, LineEnding, filled_end}
+use Rattle.textwrap_marked.proofs.Common.{false, stays, subst, CRLF, List, None, Some, cond, refl, true}
+use Rattle.textwrap_marked.proofs.Common.{first_room, later_room, line_texts, true≢false, IsOfBlock, Bool}
+use Rattle.textwrap_marked.proofs.Common.{◌&&◌, ◌++◌, ◌==◌, inl, inr, sym, ◌∙◌, ◌∷◌, ◌≡◌, LF, [], ap, ℕ}
+use Rattle.textwrap_marked.proofs.{AnewLines.returns_by, PrintedLines.texts_more}
+use Rattle.textwrap_marked.proofs.{BegunAlike.AreBegun, TextBack.IsTextBack}
+use Rattle.textwrap_marked.proofs.{Feedless.split-some, Feedless.NoFeed, PrintedText.filled-last}
 use Rattle.textwrap_marked.specs.Reflow.{ending_of_line, first_ending}
 
 -- ---- the first line says it, if lines follow
@@ -39,18 +31,11 @@ first-ends : (text : List ℕ) (raw : List ℕ) (raws : List (List ℕ))
     → AreBegun (returns_by (first_ending (slice_split (λ c. c == 10) text)))
     (slice_split (λ c. c == 10) text) (raw ∷ raws) → nat_lt 0 (length raws) ≡ true
     → first_ending (raw ∷ raws) ≡ first_ending (slice_split (λ c. c == 10) text)
-first-ends text raw raws begun some = first (slice_split (λ c. c == 10) text) refl begun
-  where
-    first : (parts : List (List ℕ)) → slice_split (λ c. c == 10) text ≡ parts
-        → AreBegun (returns_by (first_ending (slice_split (λ c. c == 10) text)))
-        (slice_split (λ c. c == 10) text) (raw ∷ raws)
-        → first_ending (raw ∷ raws) ≡ first_ending (slice_split (λ c. c == 10) text)
-    first [] is begun =
-        absurd (omega (arith, length-slice_split (λ c. c == 10) text, ap length is))
-    first (part ∷ parts) is begun =
-        first-same part raw parts raws
-        (subst (λ l. AreBegun (returns_by (first_ending l)) l (raw ∷ raws)) is begun) some
-        ∙ ap first_ending (sym is)
+first-ends text raw raws begun some =
+    let (part, parts, is) = split-some text in
+    first-same part raw parts raws
+    (subst (λ l. AreBegun (returns_by (first_ending l)) l (raw ∷ raws)) is begun) some
+    ∙ ap first_ending (sym is)
 
 ends-by : (e : Option LineEnding) (text reflowed raw : List ℕ) (raws : List (List ℕ))
     → slice_split (λ c. c == 10) reflowed ≡ raw ∷ raws

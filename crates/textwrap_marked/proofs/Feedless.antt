@@ -1,19 +1,17 @@
 -- The words, the prefixes and the hanging forms of the lines of a text have no line feed.
-use Rattle.textwrap_marked.proofs.LineNames.{◌≡◌, ℕ, ◌-◌, Bool, true, false, cond, List, [], ◌∷◌, ◌++◌}
-use Rattle.textwrap_marked.proofs.LineNames.{◌==◌, All, All-append, All-cons, All-head, All-map}
-use Rattle.textwrap_marked.proofs.LineNames.{All-nil, All-tail, ap, codes, length, map, nat_lt, refl}
-use Rattle.textwrap_marked.proofs.LineNames.{slice_split, subst, join_with_byte, onto_first, suffix_len}
-use Rattle.textwrap_marked.proofs.LineNames.{sym, ◌∙◌, all-left, all-right, All-replicate, text_width}
-use Rattle.textwrap_marked.proofs.LineNames.{without_returns, as_title, entered, is_return, line_as_read}
-use Rattle.textwrap_marked.proofs.LineNames.{LineText, passed, StateText, is_comment_opening, blanks}
-use Rattle.textwrap_marked.proofs.LineNames.{hanging_bullets, hanging_comments, spaced_text, SpacedText}
-use Rattle.textwrap_marks.specs.declared.options.ReflowOptions.{ReflowOptions}
-use Rattle.textwrap_text.proofs.Common.{All-take}
-use Rattle.std.proofs.lemmas.List.Splits.{slice_split_at, slice_split_none}
-use Rattle.textwrap_marked.proofs.LaterLines.{line-read}
-use Rattle.textwrap_marked.proofs.LineKinds.{line-is}
-use Rattle.textwrap_marked.proofs.TextBlocks.{line_at, read, read-more, title_of}
+use Rattle.std.proofs.lemmas.List.Splits.{slice_split_at}
+use Rattle.textwrap_marked.proofs.Common.{All-append, All-weaker, SpacedText, onto_first, suffix_len, All}
+use Rattle.textwrap_marked.proofs.Common.{All-replicate, ReflowOptions, slice_split, spaced_text, All-map}
+use Rattle.textwrap_marked.proofs.Common.{as_title, blanks, length, codes, false, subst, Bool, List, cond}
+use Rattle.textwrap_marked.proofs.Common.{is_comment_opening, length-slice_split, hanging_comments, arith}
+use Rattle.textwrap_marked.proofs.Common.{is_return, All-cons, All-head, All-tail, LineText, all-left, []}
+use Rattle.textwrap_marked.proofs.Common.{refl, true, ◌++◌, ◌==◌, map, sym, ◌-◌, ◌∙◌, ◌∷◌, ◌≡◌, ap, ℕ}
+use Rattle.textwrap_marked.proofs.Common.{slice_split_none, hanging_bullets, join_with_byte, line_as_read}
+use Rattle.textwrap_marked.proofs.Common.{text_width, StateText, all-right, each-flat, flat-each, All-nil}
+use Rattle.textwrap_marked.proofs.LaterLines.{read-split, read_marks, line-read, read-line}
+use Rattle.textwrap_marked.proofs.{HangingForms.bullets-all, TextBlocks.read-all, TextBlocks.read}
 use Rattle.textwrap_marked.specs.Hanging.{hanging_mark}
+use Rattle.textwrap_text.proofs.Common.{All-take}
 
 abbrev pub NoFeed : ℕ → Type 0
 NoFeed c = (c == 10) ≡ false
@@ -26,97 +24,53 @@ pub record IsFeedlessLine (line : LineText) : Type 0 where
   pub hanging : IsFeedless line.hanging
   pub words : All IsFeedless (map (λ w. w.word) line.words)
 
--- both the word and the white behind it
+-- with the white behind it
 abbrev IsFeedlessWord : SpacedText → Type 0
-IsFeedlessWord w = IsFeedless w.word × IsFeedless w.white
-
-words-of-text : (ws : List SpacedText) → IsFeedless (spaced_text ws) → All IsFeedlessWord ws
-words-of-text [] all = All-nil IsFeedlessWord
-words-of-text (w ∷ ws) all =
-    let here = all-left NoFeed (w.word ++ w.white) (spaced_text ws) all in
-    All-cons IsFeedlessWord w ws (all-left NoFeed w.word w.white here, all-right NoFeed w.word w.white here)
-    (words-of-text ws (all-right NoFeed (w.word ++ w.white) (spaced_text ws) all))
-
-text-of-words : (ws : List SpacedText) → All IsFeedlessWord ws → IsFeedless (spaced_text ws)
-text-of-words [] all = All-nil NoFeed
-text-of-words (w ∷ ws) all =
-    let here = All-head IsFeedlessWord w ws all in
-    All-append NoFeed (w.word ++ w.white) (spaced_text ws) (All-append NoFeed w.word w.white here.0 here.1)
-    (text-of-words ws (All-tail IsFeedlessWord w ws all))
-
-blanks-feedless : (n : ℕ) → IsFeedless (blanks n)
-blanks-feedless n = All-replicate NoFeed n 32 refl
-
-bullets-feedless : (bs : List SpacedText) → All IsFeedlessWord bs → IsFeedless (hanging_bullets bs)
-bullets-feedless [] all = All-nil NoFeed
-bullets-feedless (b ∷ bs) all =
-    All-append NoFeed (blanks (text_width b.word) ++ b.white) (hanging_bullets bs)
-    (All-append NoFeed (blanks (text_width b.word)) b.white (blanks-feedless (text_width b.word))
-    (All-head IsFeedlessWord b bs all).1)
-    (bullets-feedless bs (All-tail IsFeedlessWord b bs all))
+IsFeedlessWord w = IsFeedless (w.word ++ w.white)
 
 mark-feedless : (bare : Bool) (word : List ℕ) → IsFeedless word → IsFeedless (hanging_mark bare word)
 mark-feedless bare word all = cut (is_comment_opening word) bare
   where
     cut : (o b : Bool) → IsFeedless (cond o (cond b (blanks (text_width word)) (codes " *")) word)
-    cut true true = blanks-feedless (text_width word)
+    cut true true = All-replicate NoFeed (text_width word) 32 refl
     cut true false = All-cons NoFeed 32 (42 ∷ []) refl (All-cons NoFeed 42 [] refl (All-nil NoFeed))
     cut false b = all
 
-comments-feedless : (bare : Bool) (cs : List SpacedText) → All IsFeedlessWord cs
-    → IsFeedless (hanging_comments bare cs)
-comments-feedless bare [] all = All-nil NoFeed
-comments-feedless bare (c ∷ cs) all =
-    let here = All-head IsFeedlessWord c cs all in
-    All-append NoFeed (hanging_mark bare c.word ++ c.white) (hanging_comments bare cs)
-    (All-append NoFeed (hanging_mark bare c.word) c.white (mark-feedless bare c.word here.0) here.1)
-    (comments-feedless bare cs (All-tail IsFeedlessWord c cs all))
-
-line-feedless : (options : ReflowOptions) (state : StateText) (raw : List ℕ) (fed : Bool) → IsFeedless raw
-    → IsFeedlessLine (line_as_read options state raw fed)
-line-feedless options state raw fed all =
-    let (lead, cs, qs, bs, ws, read) = line-read options state raw in
-    let marks = cs ++ (qs ++ bs) in
-    let is = line-is lead cs qs bs ws options state raw fed read.text read.have in
-    let text : IsFeedless (lead ++ spaced_text (cs ++ (qs ++ (bs ++ ws)))) =
-    subst IsFeedless read.text.is (All-take NoFeed (length raw - suffix_len is_return raw) raw all) in
-    let front = all-left NoFeed lead (spaced_text (cs ++ (qs ++ (bs ++ ws)))) text in
-    let each = words-of-text (cs ++ (qs ++ (bs ++ ws)))
-    (all-right NoFeed lead (spaced_text (cs ++ (qs ++ (bs ++ ws)))) text) in
-    let each_c = all-left IsFeedlessWord cs (qs ++ (bs ++ ws)) each in
-    let behind_c = all-right IsFeedlessWord cs (qs ++ (bs ++ ws)) each in
-    let each_q = all-left IsFeedlessWord qs (bs ++ ws) behind_c in
-    let behind_q = all-right IsFeedlessWord qs (bs ++ ws) behind_c in
-    let each_b = all-left IsFeedlessWord bs ws behind_q in
-    let each_w = all-right IsFeedlessWord bs ws behind_q in
-    let margin = lead ++ hanging_comments options.bare cs in
-    subst IsFeedlessLine (sym is) (record {
-      prefix = All-append NoFeed lead (spaced_text marks) front (text-of-words marks
-          (All-append IsFeedlessWord cs (qs ++ bs) each_c (All-append IsFeedlessWord qs bs each_q each_b)));
-      hanging = All-append NoFeed (margin ++ spaced_text qs) (hanging_bullets bs)
-          (All-append NoFeed margin (spaced_text qs)
-          (All-append NoFeed lead (hanging_comments options.bare cs) front
-          (comments-feedless options.bare cs each_c)) (text-of-words qs each_q))
-          (bullets-feedless bs each_b);
-      words = All-map IsFeedless (λ w. w.word) ws (first_of ws each_w);
+line-feedless : (options : ReflowOptions) (state : StateText) (raw : List ℕ) (fed is : Bool) → IsFeedless raw
+    → IsFeedlessLine (as_title is (line_as_read options state raw fed))
+line-feedless options state raw fed is all =
+    let r = line-read options state raw in
+    let bytes : SpacedText → List ℕ = λ w. w.word ++ w.white in
+    let prefix = r.lead ++ spaced_text (read_marks options state raw r) in
+    let comments = hanging_comments options.bare r.cs in
+    let text = subst IsFeedless (read-split options state raw r)
+    (All-take NoFeed (length raw - suffix_len is_return raw) raw all) in
+    let front = all-left NoFeed prefix (spaced_text r.ws) text in
+    let lead = all-left NoFeed r.lead (spaced_text (read_marks options state raw r)) front in
+    let marks = flat-each NoFeed bytes (read_marks options state raw r)
+    (all-right NoFeed r.lead (spaced_text (read_marks options state raw r)) front) in
+    let behind = all-right IsFeedlessWord r.cs (r.qs ++ r.bs) marks in
+    subst (λ l. IsFeedlessLine (as_title is l)) (sym (read-line options state raw r fed)) (record {
+      prefix = front;
+      hanging = All-append NoFeed ((r.lead ++ comments) ++ spaced_text r.qs) (hanging_bullets r.bs)
+          (All-append NoFeed (r.lead ++ comments) (spaced_text r.qs) (All-append NoFeed r.lead comments lead
+          (each-flat NoFeed (λ w. hanging_mark options.bare w.word ++ w.white) r.cs
+          (All-weaker IsFeedlessWord (λ w. IsFeedless (hanging_mark options.bare w.word ++ w.white)) (λ w word.
+          All-append NoFeed (hanging_mark options.bare w.word) w.white
+          (mark-feedless options.bare w.word (all-left NoFeed w.word w.white word))
+          (all-right NoFeed w.word w.white word)) r.cs (all-left IsFeedlessWord r.cs (r.qs ++ r.bs) marks))))
+          (each-flat NoFeed bytes r.qs (all-left IsFeedlessWord r.qs r.bs behind)))
+          (bullets-all NoFeed refl r.bs (All-weaker IsFeedlessWord (λ w. IsFeedless w.white)
+          (λ w word. all-right NoFeed w.word w.white word) r.bs (all-right IsFeedlessWord r.qs r.bs behind)));
+      words = All-map IsFeedless (λ w. w.word) r.ws (All-weaker IsFeedlessWord (λ w. IsFeedless w.word)
+          (λ w word. all-left NoFeed w.word w.white word) r.ws
+          (flat-each NoFeed bytes r.ws (all-right NoFeed prefix (spaced_text r.ws) text)));
     })
-  where
-    first_of : (ws : List SpacedText) → All IsFeedlessWord ws → All (λ w. IsFeedless w.word) ws
-    first_of ws all = λ k d within. (all k d within).0
 
 -- each line that is read of lines without line feeds
 pub read-feedless : (options : ReflowOptions) (raws : List (List ℕ)) (state : StateText)
     → All IsFeedless raws → All IsFeedlessLine (read options state raws)
-read-feedless options [] state all = All-nil IsFeedlessLine
-read-feedless options (raw ∷ raws) state all =
-    let line = line_at options state raw raws in
-    let later = read options (passed (entered state (without_returns raw)) line) raws in
-    let is = line-feedless options (entered state (without_returns raw)) raw (nat_lt 0 (length raws))
-    (All-head IsFeedless raw raws all) in
-    subst (All IsFeedlessLine) (sym (read-more options state raw raws))
-    (All-cons IsFeedlessLine (as_title (title_of line later) line) later
-    (record { prefix = is.prefix; hanging = is.hanging; words = is.words })
-    (read-feedless options raws (passed (entered state (without_returns raw)) line) (All-tail IsFeedless raw raws all)))
+read-feedless options = read-all options IsFeedlessLine IsFeedless (line-feedless options)
 
 -- ---- lines between line feeds
 
@@ -132,6 +86,15 @@ split-feedless (c ∷ cs) = cut (c == 10) refl (slice_split (λ c. c == 10) cs) 
     cut false is (part ∷ parts) all =
         All-cons IsFeedless (c ∷ part) parts
         (All-cons NoFeed c part is (All-head IsFeedless part parts all)) (All-tail IsFeedless part parts all)
+
+pub split-some : (text : List ℕ)
+    → (raw : List ℕ) × (raws : List (List ℕ)) × (slice_split (λ c. c == 10) text ≡ raw ∷ raws)
+split-some text = cut (slice_split (λ c. c == 10) text) refl
+  where
+    cut : (parts : List (List ℕ)) → slice_split (λ c. c == 10) text ≡ parts
+        → (raw : List ℕ) × (raws : List (List ℕ)) × (slice_split (λ c. c == 10) text ≡ raw ∷ raws)
+    cut [] is = absurd (omega (arith, length-slice_split (λ c. c == 10) text, ap length is))
+    cut (raw ∷ raws) is = (raw, raws, is)
 
 pub split-joined : (raw : List ℕ) (raws : List (List ℕ)) → All IsFeedless (raw ∷ raws)
     → slice_split (λ c. c == 10) (join_with_byte 10 (raw ∷ raws)) ≡ raw ∷ raws

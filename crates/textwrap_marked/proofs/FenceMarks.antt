@@ -1,30 +1,23 @@
 -- The marks before an open fence are no words of a text.
-use Rattle.textwrap_marked.proofs.LineNames.{◌≡◌, ℕ, ◌+◌, ◌-◌, ◌<◌, ◌&&◌, ◌||◌, not, Bool, true, false}
-use Rattle.textwrap_marked.proofs.LineNames.{cond, List, [], ◌∷◌, ◌++◌, All, All-head, All-tail, ap}
-use Rattle.textwrap_marked.proofs.LineNames.{arith, All-weaker, codes, drop, false_from_ne_true, length}
-use Rattle.textwrap_marked.proofs.LineNames.{None, Option, prefix_len, refl, Some, subst, suc}
-use Rattle.textwrap_marked.proofs.LineNames.{suffix_len, sym, take-append-drop, append-nil, true≢false}
-use Rattle.textwrap_marked.proofs.LineNames.{⊤, ◌∙◌, bytes_eq-Decides, is_some, FenceText, entered}
-use Rattle.textwrap_marked.proofs.LineNames.{fence_at, line_as_read, LineText, new_fence, passed}
-use Rattle.textwrap_marked.proofs.LineNames.{StateText}
-use Rattle.textwrap_marked.proofs.LineNames.{without_returns, is_comment_at, is_quote, begins_text}
-use Rattle.textwrap_marked.proofs.LineNames.{closes_block, has_letter, is_white, spaced_text}
-use Rattle.textwrap_marked.proofs.LineNames.{SpacedText}
-use Rattle.textwrap_marks.specs.declared.options.ReflowOptions.{ReflowOptions}
-use Rattle.textwrap_text.proofs.Common.{option_map}
-use Rattle.textwrap_marked.proofs.HangingForms.{IsHanging, hanging-is}
-use Rattle.textwrap_marked.proofs.HangingKinds.{AreMarks, before-full}
-use Rattle.textwrap_marked.proofs.LaterLines.{line-read}
-use Rattle.textwrap_marks.proofs.Letterless.{quote-plain, star-plain}
-use Rattle.textwrap_marked.proofs.LineKinds.{has_opening_in, kinds, line-is, line_by}
-use Rattle.textwrap_marked.proofs.OpenBehind.{text-letter}
-use Rattle.textwrap_marked.proofs.ParagraphLines.{all-spaced, regroup}
-use Rattle.textwrap_marked.proofs.SpacedBack.{AreSpaced, IsInk, IsWhite, spaced-first}
-use Rattle.textwrap_marks.specs.Columns.{behind_white, marks_of}
-use Rattle.textwrap_marked.proofs.WordsIn.{IsPlain}
-use Rattle.textwrap_marks.specs.Fences.{is_closed_by, is_left_by, opened}
+use Rattle.textwrap_marked.proofs.Common.{All-head, All-tail, LineText, fence_at, is_quote, is_white, map}
+use Rattle.textwrap_marked.proofs.Common.{All-weaker, SpacedText, append-nil, has_letter, option_map, All}
+use Rattle.textwrap_marked.proofs.Common.{closes_block, line_as_read, begins_text, spaced_text, FenceText}
+use Rattle.textwrap_marked.proofs.Common.{codes, false, subst, List, None, Some, cond, drop, refl, true}
+use Rattle.textwrap_marked.proofs.Common.{marks_of, All-map, entered, is_some, Option, length, passed, []}
+use Rattle.textwrap_marked.proofs.Common.{prefix_len, suffix_len, true≢false, StateText, new_fence, arith}
+use Rattle.textwrap_marked.proofs.Common.{take-append-drop, without_returns, ReflowOptions, is_comment_at}
+use Rattle.textwrap_marked.proofs.Common.{words_between_white, false_from_ne_true, bytes_eq-Decides, Bool}
+use Rattle.textwrap_marked.proofs.Common.{◌&&◌, ◌++◌, ◌||◌, not, suc, sym, ◌+◌, ◌-◌, ◌<◌, ◌∙◌, ◌∷◌, ◌≡◌}
+use Rattle.textwrap_marked.proofs.HangingForms.{hanging-is, IsHanging}
+use Rattle.textwrap_marked.proofs.HangingKinds.{before-full, AreMarks}
+use Rattle.textwrap_marked.proofs.LaterLines.{read-spaced, read_kinds, read_marks, line-read, read-line}
+use Rattle.textwrap_marked.proofs.SpacedBack.{spaced-first, AreSpaced, spaced-in, IsPlain, IsWhite, IsInk}
+use Rattle.textwrap_marked.proofs.{Common.ap, Common.ℕ, Common.⊤, OpenBehind.text-letter}
+use Rattle.textwrap_marked.proofs.{LineKinds.has_opening_in, LineKinds.line_by, ParagraphLines.all-spaced}
 use Rattle.textwrap_marked.specs.Lines.{is_in_block}
-use Rattle.textwrap_marks.specs.declared.fences.FenceKind.{FenceKind}
+use Rattle.textwrap_marks.proofs.Letterless.{quote-plain, star-plain}
+use Rattle.textwrap_marks.specs.Fences.{is_closed_by, is_left_by, opened}
+use Rattle.textwrap_marks.specs.{Columns.behind_white, declared.fences.FenceKind.FenceKind}
 
 -- a word that no text begins with
 abbrev pub IsMarkWord : List ℕ → Type 0
@@ -37,15 +30,14 @@ IsFirstMark options in_block word =
     (starred : Bool) → begins_text starred word ≡ true
     → (in_block ≡ false) × (is_comment_at options false word ≡ true)
 
-abbrev pub AreMarkWords : ReflowOptions → Bool → List SpacedText → Type 0
+abbrev pub AreMarkWords : ReflowOptions → Bool → List (List ℕ) → Type 0
 AreMarkWords options in_block [] = ⊤
-AreMarkWords options in_block (k ∷ ks) =
-    IsFirstMark options in_block k.word × All (λ k. IsMarkWord k.word) ks
+AreMarkWords options in_block (k ∷ ks) = IsFirstMark options in_block k × All IsMarkWord ks
 
+-- a text of such words, or the beginning of one
 abbrev pub AreSafeMarks : ReflowOptions → Bool → List ℕ → Type 0
 AreSafeMarks options in_block text =
-    (ks : List SpacedText) × (rest : List ℕ) × (text ++ rest ≡ spaced_text ks) × AreSpaced ks
-    × AreMarkWords options in_block ks
+    (rest : List ℕ) × AreMarkWords options in_block (words_between_white (text ++ rest))
 
 abbrev pub IsSafeFence : ReflowOptions → Bool → Option FenceText → Type 0
 IsSafeFence options in_block None = ⊤
@@ -83,13 +75,13 @@ comment-mark options true word comment =
 comment-mark options false word comment = λ starred begins. (refl, comment)
 
 quotes-safe : (rs : List SpacedText) → All (λ w. is_quote w.word ≡ true) rs
-    → All (λ k. IsMarkWord k.word) rs
+    → All IsMarkWord (map (λ w. w.word) rs)
 quotes-safe rs quote =
-    All-weaker (λ w. is_quote w.word ≡ true) (λ w. IsMarkWord w.word) (λ w is. quote-mark w.word is) rs
-    quote
+    All-map IsMarkWord (λ w. w.word) rs (All-weaker (λ w. is_quote w.word ≡ true) (λ w. IsMarkWord w.word)
+    (λ w is. quote-mark w.word is) rs quote)
 
 marks-safe : (options : ReflowOptions) (in_block : Bool) (ds rs : List SpacedText)
-    → AreMarks options in_block ds rs → AreMarkWords options in_block (ds ++ rs)
+    → AreMarks options in_block ds rs → AreMarkWords options in_block (map (λ w. w.word) (ds ++ rs))
 marks-safe options in_block [] [] are = tt
 marks-safe options in_block [] (r ∷ rs) are = (
   mark-first options in_block r.word
@@ -106,9 +98,9 @@ marks-safe options in_block (d ∷ e ∷ ds) rs are = absurd (omega (arith, are.
 -- marks are safe where a block comment is closed, if they were
 carry : (options : ReflowOptions) (a b : Bool) (text : List ℕ) → (a ≡ false → b ≡ false)
     → AreSafeMarks options a text → AreSafeMarks options b text
-carry options a b text down (ks, rest, is, spaced, marks) = (ks, rest, is, spaced, words ks marks)
+carry options a b text down (rest, marks) = (rest, words (words_between_white (text ++ rest)) marks)
   where
-    words : (ks : List SpacedText) → AreMarkWords options a ks → AreMarkWords options b ks
+    words : (ks : List (List ℕ)) → AreMarkWords options a ks → AreMarkWords options b ks
     words [] marks = tt
     words (k ∷ ks) (first, all) =
         ((λ starred begins. let (out, comment) = first starred begins in (down out, comment)), all)
@@ -142,20 +134,19 @@ behind-words (k ∷ ks) more are some = first k.word refl (spaced-first k ks are
         (behind-ink c (((cs ++ k.white) ++ spaced_text ks) ++ more)
         (All-head IsInk c cs (subst (All IsInk) same is.ink)))
 
-hanging-safe : (options : ReflowOptions) (in_block : Bool) (text lead : List ℕ) (ds rs : List SpacedText)
-    → IsHanging options in_block text lead ds rs → AreSafeMarks options in_block (marks_of text)
-hanging-safe options in_block text lead ds rs hang =
-    let ks = ds ++ rs in
+hanging-safe : (options : ReflowOptions) (in_block : Bool) (text : List ℕ)
+    → IsHanging options in_block text → AreSafeMarks options in_block (marks_of text)
+hanging-safe options in_block text hang =
+    let ks = hang.cs ++ hang.qs in
     let behind = behind_white text in
     let spaced = all-spaced ks hang.full in
     let n = length behind - suffix_len is_white behind in
     let whole : behind ≡ spaced_text ks =
-    ap behind_white hang.is ∙ behind-lead lead (spaced_text ks) hang.white (words ks spaced) in (
-      ks,
+    ap behind_white hang.is ∙ behind-lead hang.lead (spaced_text ks) hang.white (words ks spaced) in (
       drop n behind,
-      take-append-drop n behind ∙ whole,
-      spaced,
-      marks-safe options in_block ds rs hang.marks,
+      subst (AreMarkWords options in_block)
+          (sym (ap words_between_white (take-append-drop n behind ∙ whole) ∙ spaced-in ks spaced))
+          (marks-safe options in_block hang.cs hang.qs hang.marks),
     )
   where
     words : (ks : List SpacedText) → AreSpaced ks → behind_white (spaced_text ks) ≡ spaced_text ks
@@ -166,12 +157,16 @@ hanging-safe options in_block text lead ds rs hang =
 
 -- ---- behind a line
 
-opened-some : (words : List SpacedText) (kind : FenceKind) → opened words ≡ Some kind → 0 < length words
-opened-some [] kind is = absurd (none-some kind is)
-  where
-    none-some : (kind : FenceKind) → ◌≡◌ {A = Option FenceKind} None (Some kind) → ⊥
-    none-some kind is = cc
-opened-some (w ∷ ws) kind is = omega arith
+opened-some : (words : List SpacedText) → is_some (opened words) ≡ true → 0 < length words
+opened-some [] is = absurd (true≢false (sym is))
+opened-some (w ∷ ws) is = omega arith
+
+-- a fence behind these marks, if there is one
+maybe-safe : (options : ReflowOptions) (block : Bool) (marks : List ℕ) (kind : Option FenceKind)
+    → (is_some kind ≡ true → AreSafeMarks options block marks)
+    → IsSafeFence options block (option_map (λ k. record { marks = marks; kind = k }) kind)
+maybe-safe options block marks None safe = tt
+maybe-safe options block marks (Some kind) safe = safe refl
 
 outside : (i o c : Bool) → (i || o) ≡ false → cond i c (true && (o && c)) ≡ false
 outside true o c is = absurd (true≢false is)
@@ -182,20 +177,18 @@ line-marks : (options : ReflowOptions) (state : StateText) (raw : List ℕ) (fed
     → AreSafeMarks options (is_in_block state.in_block false (line_as_read options state raw fed))
     (marks_of (line_as_read options state raw fed).hanging)
 line-marks options state raw fed some =
-    let (lead, cs, qs, bs, ws, read) = line-read options state raw in
-    let is = line-is lead cs qs bs ws options state raw fed read.text read.have in
-    let here = line_by options state raw fed (kinds lead cs qs bs ws) in
-    let has : 0 < length ws = subst (λ (l : LineText). 0 < length l.words) is some in
-    let (full, spaced) =
-    before-full (cs ++ (qs ++ bs)) ws has (subst AreSpaced (regroup cs qs bs ws) read.text.spaced) in
-    let (front, ds, rs, hang) =
-    hanging-is options state.in_block lead cs qs bs ws read.text.white full read.have in
+    let r = line-read options state raw in
+    let is = read-line options state raw r fed in
+    let here = line_by options state raw fed (read_kinds options state raw r) in
+    let has : 0 < length r.ws = subst (λ (l : LineText). 0 < length l.words) is some in
+    let (full, spaced) = before-full (read_marks options state raw r) r.ws has (read-spaced options state raw r) in
     subst (λ (l : LineText). AreSafeMarks options (is_in_block state.in_block false l) (marks_of l.hanging))
     (sym is)
-    (carry options (state.in_block || has_opening_in cs) (is_in_block state.in_block false here)
+    (carry options (state.in_block || has_opening_in r.cs) (is_in_block state.in_block false here)
     (marks_of here.hanging)
-    (λ out. outside state.in_block (has_opening_in cs) (not (closes_block ws)) out)
-    (hanging-safe options _ _ front ds rs hang))
+    (λ out. outside state.in_block (has_opening_in r.cs) (not (closes_block r.ws)) out)
+    (hanging-safe options _ _
+    (hanging-is options state.in_block r.lead r.cs r.qs r.bs r.ws r.text.white full r.have)))
 
 pub safe-passed : (options : ReflowOptions) (state : StateText) (raw : List ℕ) (fed : Bool)
     → IsSafe options state
@@ -210,22 +203,6 @@ safe-passed options state raw fed safe =
         elim (is_left_by fence (without_returns raw)) as (λ b. IsSafeFence options state.in_block (cond b None (Some fence)))
         [ true ↦ tt | false ↦ safe ]
 
-    kind_of : (block : Bool) (here : LineText) (kind : Option FenceKind) → opened here.words ≡ kind
-        → (0 < length here.words → AreSafeMarks options block (marks_of here.hanging))
-        → IsSafeFence options block (option_map (λ k. record { marks = marks_of here.hanging; kind = k })
-        (opened here.words))
-    kind_of block here None is marks =
-        subst (λ k. IsSafeFence options block
-        (option_map (λ k. record { marks = marks_of here.hanging; kind = k }) k)) (sym is) tt
-    kind_of block here (Some kind) is marks =
-        subst (λ k. IsSafeFence options block
-        (option_map (λ k. record { marks = marks_of here.hanging; kind = k }) k)) (sym is)
-        (marks (opened-some here.words kind is))
-
-    stays_out : (i c o : Bool) → i ≡ false → cond i c (not true && o) ≡ false
-    stays_out true c o is = absurd (true≢false is)
-    stays_out false c o is = refl
-
     behind : (f : Option FenceText) → IsSafeFence options state.in_block f
         → IsSafeFence options
         (is_in_block state.in_block (is_some f) (line_as_read options (entered state (without_returns raw)) raw fed))
@@ -237,7 +214,7 @@ safe-passed options state raw fed safe =
         as (λ b. IsSafeFence options block (cond b None (Some fence))) [
           | true ↦ tt
           | false ↦ carry options state.in_block block fence.marks
-              (λ out. stays_out state.in_block (not (closes_block here.words)) here.opens_block out) safe
+              (ap (λ i. cond i (not (closes_block here.words)) false)) safe
         ]
     behind None safe =
         let here = line_as_read options (entered state (without_returns raw)) raw fed in
@@ -245,6 +222,6 @@ safe-passed options state raw fed safe =
         elim here.deeper as (λ b. IsSafeFence options block (cond b None (option_map
         (λ k. record { marks = marks_of here.hanging; kind = k }) (opened here.words)))) [
           | true ↦ tt
-          | false ↦ kind_of block here (opened here.words) refl
-              (λ some. line-marks options (entered state (without_returns raw)) raw fed some)
+          | false ↦ maybe-safe options block (marks_of here.hanging) (opened here.words) (λ some.
+              line-marks options (entered state (without_returns raw)) raw fed (opened-some here.words some))
         ]

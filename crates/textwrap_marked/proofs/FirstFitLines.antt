@@ -1,31 +1,24 @@
 -- A paragraph that is laid out while its words are read has the lines of first fit.
-use Rattle.textwrap_marked.proofs.LineNames.{◌≡◌, ℕ, ◌+◌, ◌<◌, ◌&&◌, Bool, true, false, cond, List, []}
-use Rattle.textwrap_marked.proofs.LineNames.{◌∷◌, ◌++◌, ap, append-nil, append_assoc, arith, covered}
-use Rattle.textwrap_marked.proofs.LineNames.{flat_map, length, lt-ltb, map, nat_lt, None, Option, refl}
-use Rattle.textwrap_marked.proofs.LineNames.{sizes_of, Some, sym, word_of, WordText, ◌∙◌}
-use Rattle.std.proofs.Common.{ap₂}
-use Rattle.std.specs.Prelude.{is_some, not}
-use Rattle.std.specs.Option.{option_map}
-use Rattle.textwrap_text.proofs.Common.{length_push}
-use Rattle.textwrap_text.specs.Blanks.{final_blanks, without_final_blanks}
-use Rattle.textwrap_base.proofs.Common.{IsGreedy, open_width}
+use Rattle.std.proofs.Math.Bool.{and-true}
+use Rattle.textwrap_base.proofs.Common.{open_width, IsGreedy}
 use Rattle.textwrap_base.proofs.Division.Greedy.{closed_width-push, open_width-append}
-use Rattle.textwrap_base.proofs.Division.Grown.{grown, grown-begins, grown-greedy, is_full}
-use Rattle.textwrap_words.specs.Words.{tiled}
-use Rattle.textwrap_words.proofs.Word.Words.{tiled-push}
-use Rattle.textwrap_layout.proofs.Paragraph.Covered.{covered-push}
-use Rattle.textwrap_layout.proofs.Paragraph.Widths.{later_is}
-use Rattle.textwrap_layout.specs.Paragraph.{line_bytes}
+use Rattle.textwrap_base.proofs.Division.Grown.{grown-begins, grown-greedy, is_full, grown}
 use Rattle.textwrap_display.specs.Justifying.{justified}
-use Rattle.textwrap_marked.proofs.PieceLemmas.{onto_front-nil, onto_front-twice}
-use Rattle.textwrap_marked.proofs.PrintedLines.{texts_more}
-use Rattle.textwrap_marked.specs.FirstFit.{columns_past, fresh_line, has_no_room, left_of_pieces, FittingText}
-use Rattle.textwrap_marked.specs.FirstFit.{pieces_behind, shown_line, with_next_piece, piece_width}
-use Rattle.textwrap_marked.specs.Pieces.{is_cut, is_cut_behind, is_kept_together, onto_front}
-use Rattle.textwrap_marked.specs.Pieces.{pieces, with_blank}
-use Rattle.textwrap_marked.specs.Reflow.{line_text, line_texts, printed}
+use Rattle.textwrap_layout.proofs.Paragraph.{Covered.covered-push, Widths.later_is}
+use Rattle.textwrap_layout.specs.Paragraph.{line_bytes}
+use Rattle.textwrap_marked.proofs.Common.{ReflowOptions, append_assoc, final_blanks, append-nil, line_texts}
+use Rattle.textwrap_marked.proofs.Common.{Some, cond, refl, true, ◌&&◌, ◌++◌, map, not, sym, ◌+◌, ◌<◌, ◌∙◌}
+use Rattle.textwrap_marked.proofs.Common.{length, lt-ltb, nat_lt, pieces, arith, false, Bool, List, None, ℕ}
+use Rattle.textwrap_marked.proofs.Common.{onto_front, option_map, with_blank, line_text, WordText, flat_map}
+use Rattle.textwrap_marked.proofs.Common.{sizes_of, covered, is_some, printed, word_of, Option, is_cut, ap₂}
+use Rattle.textwrap_marked.proofs.PieceLemmas.{onto_front-twice, onto_front-nil}
+use Rattle.textwrap_marked.proofs.{Common.◌∷◌, Common.◌≡◌, Common.[], Common.ap, PrintedLines.texts_more}
+use Rattle.textwrap_marked.specs.FirstFit.{FittingText, has_no_room, piece_width, fresh_line, shown_line}
+use Rattle.textwrap_marked.specs.FirstFit.{with_next_piece, left_of_pieces, pieces_behind, columns_past}
+use Rattle.textwrap_marked.specs.Pieces.{is_kept_together, is_cut_behind}
 use Rattle.textwrap_marked.specs.declared.first_fit.ParagraphForm.{ParagraphForm}
-use Rattle.textwrap_marks.specs.declared.options.ReflowOptions.{ReflowOptions}
+use Rattle.textwrap_text.{proofs.Common.length_push, specs.Blanks.without_final_blanks}
+use Rattle.textwrap_words.{proofs.Word.Words.tiled-push, specs.Words.tiled}
 
 -- ---- the line that takes the next piece
 
@@ -79,10 +72,6 @@ holds-none room = record { whole = refl; text = refl; columns = refl }
 
 -- ---- what is left is the lines of first fit
 
-and-true : (a b : Bool) → b ≡ true → (a && b) ≡ a
-and-true true b is = is
-and-true false b is = refl
-
 printed-behind : (ending hanging : List ℕ) (texts : List (List ℕ))
     → printed ending (ending ++ hanging) hanging texts
     ≡ flat_map (λ t. (ending ++ hanging) ++ t) texts
@@ -119,7 +108,7 @@ module _ (form : ParagraphForm) where
       ∙ ap (λ t. printed ending front hanging
       (cond justify (line_bytes (justified line.room t)) t ∷ texts form.room next)) (sym text)
       ∙ ap (λ b. printed ending front hanging (line_text b line.room before ∷ texts form.room next))
-      (sym (and-true justify (nat_lt 0 (length next)) (lt-ltb 0 (length next) some)))
+      (sym (ap (λ b. justify && b) (lt-ltb 0 (length next) some) ∙ and-true justify))
       ∙ ap (printed ending front hanging) (sym (texts_more justify line.room form.room before next))
 
   lines-printed : (front : List ℕ) (ps : List (List ℕ)) (line : FittingText) (before : List WordText)

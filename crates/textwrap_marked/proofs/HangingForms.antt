@@ -1,41 +1,29 @@
 -- A hanging form is white and marks that a line behind it is read with.
-use Rattle.textwrap_marked.proofs.LineNames.{◌≡◌, ℕ, suc, ◌≤◌, ◌||◌, Bool, true, false, cond, List, []}
-use Rattle.textwrap_marked.proofs.LineNames.{◌∷◌, ◌++◌, All, All-append, All-cons, All-head, All-nil}
-use Rattle.textwrap_marked.proofs.LineNames.{All-tail, ap, arith, length, refl, subst, sym, take}
-use Rattle.textwrap_marked.proofs.LineNames.{true≢false, ◌∙◌, all-left, all-right, or-false}
-use Rattle.textwrap_marked.proofs.LineNames.{All-replicate, text_width, is_comment_at}
-use Rattle.textwrap_marked.proofs.LineNames.{is_comment_opening}
-use Rattle.textwrap_marked.proofs.LineNames.{is_quote, blanks, comment_len, hanging_bullets}
-use Rattle.textwrap_marked.proofs.LineNames.{spaced_text, SpacedText}
-use Rattle.textwrap_marks.specs.declared.options.ReflowOptions.{ReflowOptions}
-use Rattle.textwrap_marked.proofs.HangingKinds.{AreMarks, end-text, end_comments, end_lead}
-use Rattle.textwrap_marked.proofs.HangingKinds.{hang-text, hang_lead, hang_marks, IsFull, last-all}
-use Rattle.textwrap_marked.proofs.HangingKinds.{last-full, onto_last, quote-no-star, quotes-are}
-use Rattle.textwrap_marked.proofs.HangingKinds.{star, star-no-opening}
-use Rattle.textwrap_marked.proofs.LineKinds.{hanging_of, has_opening_in, HaveKinds, kinds, none-if}
-use Rattle.textwrap_marked.proofs.LineKinds.{one_if, some-if}
-use Rattle.textwrap_marked.proofs.SpacedBack.{IsWhite, plain-one}
+use Rattle.textwrap_marked.proofs.Common.{All-nil, length, arith, codes, false, subst, List, cond, refl, []}
+use Rattle.textwrap_marked.proofs.Common.{SpacedText, text_width, told-apart, true≢false, all-right, blanks}
+use Rattle.textwrap_marked.proofs.Common.{each-flat, All-cons, All-head, all-left, is_quote, or-false, Bool}
+use Rattle.textwrap_marked.proofs.Common.{is_comment_at, comment_len, spaced_text, All-append, All-weaker}
+use Rattle.textwrap_marked.proofs.Common.{is_comment_opening, hanging_bullets, All-replicate, ReflowOptions}
+use Rattle.textwrap_marked.proofs.Common.{take, true, ◌++◌, ◌||◌, All, suc, sym, ◌∙◌, ◌∷◌, ◌≡◌, ◌≤◌, ap, ℕ}
+use Rattle.textwrap_marked.proofs.HangingKinds.{end-text, end_lead, last-all, IsFull}
+use Rattle.textwrap_marked.proofs.HangingKinds.{hang-text, hang_lead, last-full, onto_last, AreMarks}
+use Rattle.textwrap_marked.proofs.HangingKinds.{star-no-opening, end_comments, hang_marks, quotes-are, star}
+use Rattle.textwrap_marked.proofs.LineKinds.{has_opening_in, hanging_of, HaveKinds, none-if, some-if, kinds}
+use Rattle.textwrap_marked.proofs.{LineKinds.one_if, SpacedBack.plain-one, SpacedBack.IsWhite}
 
-blanks-white : (n : ℕ) → All IsWhite (blanks n)
-blanks-white n = All-replicate IsWhite n 32 refl
+-- what holds of blanks, and of the white behind bullets, holds of their hanging form
+pub bullets-all : (P : ℕ → Type 0) → P 32 → (bs : List SpacedText) → All (λ w. All P w.white) bs
+    → All P (hanging_bullets bs)
+bullets-all P blank bs all =
+    each-flat P (λ w. blanks (text_width w.word) ++ w.white) bs (All-weaker (λ w. All P w.white)
+    (λ w. All P (blanks (text_width w.word) ++ w.white)) (λ w white. All-append P (blanks (text_width w.word))
+    w.white (All-replicate P (text_width w.word) 32 blank) white) bs all)
 
 pub bullets-white : (bs : List SpacedText) → All IsFull bs → All IsWhite (hanging_bullets bs)
-bullets-white [] full = All-nil IsWhite
-bullets-white (b ∷ bs) full =
-    All-append IsWhite (blanks (text_width b.word) ++ b.white) (hanging_bullets bs)
-    (All-append IsWhite (blanks (text_width b.word)) b.white (blanks-white (text_width b.word))
-    (All-head IsFull b bs full).spaced.white) (bullets-white bs (All-tail IsFull b bs full))
+bullets-white bs full =
+    bullets-all IsWhite refl bs (All-weaker IsFull (λ w. All IsWhite w.white) (λ w is. is.spaced.white) bs full)
 
 -- ---- marks
-
-comment-one : (options : ReflowOptions) (in_block : Bool) (c : SpacedText) (ws : List SpacedText)
-    (n : ℕ) → comment_len options in_block (c ∷ ws) ≡ suc n
-    → is_comment_at options in_block c.word ≡ true
-comment-one options in_block c ws n is = (some-if (is_comment_at options in_block c.word) 0 n is).0
-
-comment-none : (options : ReflowOptions) (in_block : Bool) (c : SpacedText) (ws : List SpacedText)
-    → comment_len options in_block (c ∷ ws) ≡ 0 → is_comment_at options in_block c.word ≡ false
-comment-none options in_block c ws is = none-if (is_comment_at options in_block c.word) 0 0 is
 
 comment-most : (options : ReflowOptions) (in_block : Bool) (ws : List SpacedText)
     → comment_len options in_block ws ≤ 1
@@ -51,7 +39,7 @@ no-star : (options : ReflowOptions) (qs : List SpacedText) → All (λ w. is_quo
 no-star options [] quote = All-nil (λ w. is_comment_at options true w.word ≡ false)
 no-star options (q ∷ qs) quote =
     All-cons (λ w. is_comment_at options true w.word ≡ false) q []
-    (quote-no-star q.word (All-head (λ w. is_quote w.word ≡ true) q qs quote))
+    (told-apart is_quote q.word (codes "*") (All-head (λ w. is_quote w.word ≡ true) q qs quote) refl)
     (All-nil (λ w. is_comment_at options true w.word ≡ false))
 
 -- no opening is the mark inside a block comment
@@ -102,12 +90,12 @@ hang-marks options in_block bare [] qs rest count quote =
     first [] is = All-nil (λ w. is_comment_at options in_block w.word ≡ false)
     first (q ∷ qs) is =
         All-cons (λ w. is_comment_at options in_block w.word ≡ false) q []
-        (comment-none options in_block q (qs ++ rest) is)
+        (none-if (is_comment_at options in_block q.word) 0 0 is)
         (All-nil (λ w. is_comment_at options in_block w.word ≡ false))
 hang-marks options in_block bare (c ∷ d ∷ cs) qs rest count quote =
     absurd (omega (arith, count, comment-most options in_block (c ∷ d ∷ (cs ++ (qs ++ rest)))))
 hang-marks options in_block bare (c ∷ []) qs rest count quote =
-    cut (is_comment_opening c.word) bare refl (comment-one options in_block c (qs ++ rest) 0 count)
+    cut (is_comment_opening c.word) bare refl (some-if (is_comment_at options in_block c.word) 0 0 count).0
   where
     cut : (o b : Bool) → is_comment_opening c.word ≡ o → is_comment_at options in_block c.word ≡ true
         → AreMarks options (in_block || (is_comment_opening c.word || false)) (marks_by c (is_comment_opening c.word) b) qs
@@ -170,7 +158,7 @@ hang-white bare lead (c ∷ cs) white full = cut (is_comment_opening c.word) bar
         lead)
     cut true true =
         All-append IsWhite lead (blanks (text_width c.word) ++ c.white) white
-        (All-append IsWhite (blanks (text_width c.word)) c.white (blanks-white (text_width c.word))
+        (All-append IsWhite (blanks (text_width c.word)) c.white (All-replicate IsWhite (text_width c.word) 32 refl)
         (All-head IsFull c cs full).spaced.white)
     cut true false =
         All-append IsWhite lead (32 ∷ []) white (All-cons IsWhite 32 [] refl (All-nil IsWhite))
@@ -203,51 +191,39 @@ end-full cs (q ∷ qs) more white full = full
 -- ---- the whole
 
 -- white and marks that a text is
-pub record IsHanging (options : ReflowOptions) (in_block : Bool) (text lead : List ℕ)
-    (cs qs : List SpacedText) : Type 0 where
+pub record IsHanging (options : ReflowOptions) (in_block : Bool) (text : List ℕ) : Type 0 where
+  pub lead : List ℕ
+  pub cs : List SpacedText
+  pub qs : List SpacedText
   pub white : All IsWhite lead
   pub full : All IsFull (cs ++ qs)
   pub marks : AreMarks options in_block cs qs
   pub is : text ≡ lead ++ spaced_text (cs ++ qs)
 
 -- that of a line's hanging form
-module _ (options : ReflowOptions) (in_block : Bool) (lead : List ℕ) (cs qs bs ws : List SpacedText)
-    (white : All IsWhite lead) (full : All IsFull (cs ++ (qs ++ bs)))
-    (have : HaveKinds options in_block cs qs bs ws) where
-  abbrev hung_lead : List ℕ
-  hung_lead = hang_lead options.bare lead cs
-
-  abbrev hung_marks : List SpacedText
-  hung_marks = hang_marks options.bare cs
-
-  abbrev behind : List ℕ
-  behind = hanging_bullets bs
-
-  pub hanging-is : (front : List ℕ) × (ds : List SpacedText) × (rs : List SpacedText)
-      × IsHanging options (in_block || has_opening_in cs)
-      (hanging_of options.bare (kinds lead cs qs bs ws) ++ hanging_bullets bs) front ds rs
-  hanging-is =
-      let full_c = all-left IsFull cs (qs ++ bs) full in
-      let full_qb = all-right IsFull cs (qs ++ bs) full in
-      let full_q = all-left IsFull qs bs full_qb in
-      let full_b = all-right IsFull qs bs full_qb in
-      let blank = bullets-white bs full_b in
-      let count = have.comment in
-      let one : length cs ≤ 1 =
-      omega (arith, count, comment-most options in_block (cs ++ (qs ++ (bs ++ ws)))) in
-      let marks = hang-marks options in_block options.bare cs qs (bs ++ ws) count
-      (quotes-are qs (bs ++ ws) have.quote) in (
-        end_lead hung_lead hung_marks qs behind,
-        end_comments hung_marks qs behind,
-        onto_last qs behind,
-        record {
-          white = end-white hung_lead hung_marks qs behind
-              (hang-white options.bare lead cs white full_c) blank;
-          full = All-append IsFull (end_comments hung_marks qs behind) (onto_last qs behind)
-              (end-full hung_marks qs behind blank (hang-full options.bare cs full_c))
-              (last-full qs behind blank full_q);
-          marks = end-marks options (in_block || has_opening_in cs) hung_marks qs behind marks;
-          is = ap (λ l. l ++ behind) (hang-text options.bare lead cs qs one)
-              ∙ sym (end-text hung_lead hung_marks qs behind);
-        },
-      )
+pub hanging-is : (options : ReflowOptions) (in_block : Bool) (lead : List ℕ) (cs qs bs ws : List SpacedText)
+    → All IsWhite lead → All IsFull (cs ++ (qs ++ bs)) → HaveKinds options in_block cs qs bs ws
+    → IsHanging options (in_block || has_opening_in cs)
+    (hanging_of options.bare (kinds lead cs qs bs ws) ++ hanging_bullets bs)
+hanging-is options in_block lead cs qs bs ws white full have =
+    let hung_lead = hang_lead options.bare lead cs in
+    let hung = hang_marks options.bare cs in
+    let behind = hanging_bullets bs in
+    let full_c = all-left IsFull cs (qs ++ bs) full in
+    let full_qb = all-right IsFull cs (qs ++ bs) full in
+    let blank = bullets-white bs (all-right IsFull qs bs full_qb) in
+    let one : length cs ≤ 1 =
+    omega (arith, have.comment, comment-most options in_block (cs ++ (qs ++ (bs ++ ws)))) in record {
+      lead = end_lead hung_lead hung qs behind;
+      cs = end_comments hung qs behind;
+      qs = onto_last qs behind;
+      white = end-white hung_lead hung qs behind (hang-white options.bare lead cs white full_c) blank;
+      full = All-append IsFull (end_comments hung qs behind) (onto_last qs behind)
+          (end-full hung qs behind blank (hang-full options.bare cs full_c))
+          (last-full qs behind blank (all-left IsFull qs bs full_qb));
+      marks = end-marks options (in_block || has_opening_in cs) hung qs behind
+          (hang-marks options in_block options.bare cs qs (bs ++ ws) have.comment
+          (quotes-are qs (bs ++ ws) have.quote));
+      is = ap (λ l. l ++ behind) (hang-text options.bare lead cs qs one)
+          ∙ sym (end-text hung_lead hung qs behind);
+    }

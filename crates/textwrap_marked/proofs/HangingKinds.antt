@@ -1,20 +1,14 @@
 -- The words of a hanging form by kind, and how a line behind one is read.
-use Rattle.textwrap_marked.proofs.LineNames.{◌≡◌, ℕ, suc, ◌+◌, ◌<◌, ◌≤◌, ◌||◌, Bool, true, false, cond}
-use Rattle.textwrap_marked.proofs.LineNames.{List, [], ◌∷◌, ◌++◌, All, All-append, All-cons, All-head}
-use Rattle.textwrap_marked.proofs.LineNames.{All-nil, All-tail, ap, append_assoc, append-nil, arith}
-use Rattle.textwrap_marked.proofs.LineNames.{codes, length, length-append, refl, subst, sym, take}
-use Rattle.textwrap_marked.proofs.LineNames.{true≢false, ◌∙◌, false_from_ne_true, zero, bytes_eq}
-use Rattle.textwrap_marked.proofs.LineNames.{flat_map-append, bytes_eq-Decides, text_width}
-use Rattle.textwrap_marked.proofs.LineNames.{is_comment_at, is_comment_opening, is_quote, blanks}
-use Rattle.textwrap_marked.proofs.LineNames.{bullets_len}
-use Rattle.textwrap_marked.proofs.LineNames.{comment_len, hanging_comments, quotes_len, spaced_text}
-use Rattle.textwrap_marked.proofs.LineNames.{SpacedText}
-use Rattle.textwrap_marks.specs.declared.options.ReflowOptions.{ReflowOptions}
-use Rattle.textwrap_text.proofs.Common.{if◌then◌else◌, nil_from_length}
-use Rattle.textwrap_text.proofs.Lists.Parts.{same_parts}
-use Rattle.textwrap_marked.proofs.LineKinds.{hanging_of, has_opening_in, HaveKinds, kinds, one_if}
-use Rattle.textwrap_marked.proofs.LineKinds.{some-if}
+use Rattle.textwrap_marked.proofs.Common.{All-tail, bytes_eq, is_quote, blanks, length, arith, codes, false}
+use Rattle.textwrap_marked.proofs.Common.{SpacedText, append-nil, quotes_len, text_width, All-head, All-nil}
+use Rattle.textwrap_marked.proofs.Common.{append_assoc, bullets_len, comment_len, spaced_text, All-append}
+use Rattle.textwrap_marked.proofs.Common.{flat_map-append, ReflowOptions, is_comment_at, length-append, All}
+use Rattle.textwrap_marked.proofs.Common.{is_comment_opening, bytes_eq-Decides, hanging_comments, All-cons}
+use Rattle.textwrap_marked.proofs.Common.{subst, Bool, List, cond, refl, take, true, zero, ◌++◌, ◌||◌, suc}
+use Rattle.textwrap_marked.proofs.Common.{sym, ◌+◌, ◌<◌, ◌∙◌, ◌∷◌, ◌≡◌, ◌≤◌, [], ap, ℕ}
+use Rattle.textwrap_marked.proofs.LineKinds.{has_opening_in, hanging_of, HaveKinds, some-if, one_if, kinds}
 use Rattle.textwrap_marked.proofs.SpacedBack.{AreSpaced, IsSpaced, IsWhite}
+use Rattle.textwrap_text.proofs.{Common.nil_from_length, Common.if◌then◌else◌, Lists.Parts.same_parts}
 
 -- ---- words with white behind each
 
@@ -103,13 +97,7 @@ quotes-are (q ∷ qs) rest is =
     let (quote, len) = some-if (is_quote q.word) (quotes_len (qs ++ rest)) (length qs) is in
     All-cons (λ w. is_quote w.word ≡ true) q qs quote (quotes-are qs rest len)
 
--- `*` is no quote mark
-pub quote-no-star : (word : List ℕ) → is_quote word ≡ true → bytes_eq word (codes "*") ≡ false
-quote-no-star word quote =
-    false_from_ne_true (bytes_eq word (codes "*")) (λ star.
-    let same = (bytes_eq-Decides word (codes "*")).0 star in
-    true≢false (sym quote ∙ ap is_quote same))
-
+-- `*` is no opening
 pub star-no-opening : (word : List ℕ) → bytes_eq word (codes "*") ≡ true → is_comment_opening word ≡ false
 star-no-opening word star = ap is_comment_opening ((bytes_eq-Decides word (codes "*")).0 star)
 

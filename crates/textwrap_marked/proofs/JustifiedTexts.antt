@@ -1,26 +1,21 @@
 -- The printed lines of a division are lines of the paragraph's words, with blanks between them.
-use Rattle.textwrap_marked.proofs.LineNames.{◌≡◌, ◌≢◌, ℕ, ◌+◌, ◌-◌, ◌<◌, ◌≤◌, Bool, true, false, cond}
-use Rattle.textwrap_marked.proofs.LineNames.{List, [], ◌∷◌, ◌++◌, All, All-head, All-tail, ap}
-use Rattle.textwrap_marked.proofs.LineNames.{append_assoc, append-nil, arith, drop, length, map, nat_lt}
-use Rattle.textwrap_marked.proofs.LineNames.{ne_eqb, onto_first, refl, subst, sym, take, ◌==◌, ◌&&◌}
-use Rattle.textwrap_marked.proofs.LineNames.{◌||◌, not, ◌∙◌, all-left, all-right, flat, blank, is_blank}
-use Rattle.textwrap_marked.proofs.LineNames.{word_of, WordText, covered, LineText, blanks}
-use Rattle.textwrap_marked.proofs.Common.{pieces, first_room, later_room, line_text, line_texts}
-use Rattle.textwrap_marked.proofs.Common.{shown_lines}
-use Rattle.textwrap_marks.specs.declared.options.ReflowOptions.{ReflowOptions}
-use Rattle.textwrap_text.proofs.Common.{min, cond_both, eq-eqb, ◌/◌, chunks, text_width}
-use Rattle.textwrap_base.proofs.Common.{IsDivision}
 use Rattle.std.specs.Prelude.{◌%◌}
-use Rattle.textwrap_words.proofs.Common.{words_of, tiled}
-use Rattle.textwrap_text.proofs.Units.Chunks.{chunks-from}
-use Rattle.textwrap_layout.specs.Paragraph.{line_bytes, Slice}
 use Rattle.textwrap_display.proofs.WidenedWords.{widened_chunks, widened-text}
-use Rattle.textwrap_display.specs.Justifying.{gaps, indent_len, justified, widened_words}
-use Rattle.textwrap_marked.proofs.LineWords.{all_shown, AreCutInto, division-words, ink-blank}
-use Rattle.textwrap_marked.proofs.LineWords.{joined, shown}
-use Rattle.textwrap_marked.proofs.PrintedLines.{texts_more}
-use Rattle.textwrap_marked.proofs.SpacedBack.{IsInk}
-use Rattle.textwrap_marked.proofs.WordsIn.{IsPlain}
+use Rattle.textwrap_display.specs.Justifying.{widened_words, indent_len, justified, gaps}
+use Rattle.textwrap_layout.specs.Paragraph.{line_bytes, Slice}
+use Rattle.textwrap_marked.proofs.Common.{ReflowOptions, append_assoc, shown_lines, IsDivision, all-right}
+use Rattle.textwrap_marked.proofs.Common.{all-left, is_blank, covered, word_of, blanks, get_or, length, ℕ}
+use Rattle.textwrap_marked.proofs.Common.{append-nil, first_room, later_room, line_texts, onto_first, All}
+use Rattle.textwrap_marked.proofs.Common.{cond, drop, flat, refl, take, true, ◌&&◌, ◌++◌, ◌==◌, ◌||◌, map}
+use Rattle.textwrap_marked.proofs.Common.{nat_lt, ne_eqb, pieces, arith, blank, false, subst, Bool, List}
+use Rattle.textwrap_marked.proofs.Common.{not, sym, ◌+◌, ◌-◌, ◌<◌, ◌∙◌, ◌∷◌, ◌≡◌, ◌≢◌, ◌≤◌, [], ap}
+use Rattle.textwrap_marked.proofs.Common.{text_width, line_text, All-head, All-tail, LineText, WordText}
+use Rattle.textwrap_marked.proofs.LineWords.{division-words, AreCutInto, all_shown, ink-blank, joined}
+use Rattle.textwrap_marked.proofs.SpacedBack.{IsPlain, IsInk}
+use Rattle.textwrap_marked.proofs.{LineWords.shown, PrintedLines.texts_more}
+use Rattle.textwrap_text.proofs.Common.{cond_both, chunks, eq-eqb, min, ◌/◌}
+use Rattle.textwrap_text.proofs.Units.Chunks.{chunks-from}
+use Rattle.textwrap_words.proofs.Common.{words_of, tiled}
 
 -- ---- the chunks of a line
 
@@ -179,17 +174,9 @@ module _ (options : ReflowOptions) (starred : Bool) where
       (more-shown (line_text (nat_lt 0 (length division)) room line) (line_texts true later later division)
       own lines
       (line-shown (nat_lt 0 (length division)) room line own some (all-left IsPlain own behind each)
-      (ap first_of is))
+      (ap (λ l. get_or l 0 []) is))
       (widened-lines later later division behind lines (all-right IsPlain own behind each) cut
-      (ap rest_of is)))
-    where
-      first_of : List (List ℕ) → List ℕ
-      first_of [] = []
-      first_of (l ∷ ls) = l
-
-      rest_of : List (List ℕ) → List (List ℕ)
-      rest_of [] = []
-      rest_of (l ∷ ls) = ls
+      (ap (drop 1) is)))
 
   plain-lines : (room later : ℕ) (division : List (List WordText))
       → line_texts false room later division ≡ map covered division

@@ -1,40 +1,23 @@
 -- Lines that stay, read again before others that begin alike.
-use Rattle.textwrap_marked.proofs.LineNames.{◌≡◌, ℕ, ◌-◌, ◌<◌, ◌&&◌, Bool, true, false, List, [], ◌∷◌}
-use Rattle.textwrap_marked.proofs.LineNames.{◌++◌, All, All-cons, All-head, All-tail, ap, append-nil}
-use Rattle.textwrap_marked.proofs.LineNames.{append_assoc, arith, codes, cond, drop, flat_map, inl, inr}
-use Rattle.textwrap_marked.proofs.LineNames.{join_with_byte, length, lt-ltb, map, nat_lt, None, Option}
-use Rattle.textwrap_marked.proofs.LineNames.{refl, Some, subst, suc, suffix_len, sym, take-append-drop, ⊤, ◌∙◌}
-use Rattle.textwrap_marked.proofs.LineNames.{ap₂, bytes_eq, as_title, entered, is_return, line_as_read}
-use Rattle.textwrap_marked.proofs.LineNames.{LineText, passed, StateText, without_returns, first_word}
-use Rattle.textwrap_marked.proofs.LineNames.{opens_paragraph}
-use Rattle.textwrap_text.specs.declared.line_ending.LineEnding.{LineEnding}
-use Rattle.textwrap_marked.proofs.Common.{AreShown, ending_if, lines_alone, LineShows, stands_alone}
-use Rattle.textwrap_marked.proofs.Common.{kept_line}
-use Rattle.textwrap_marks.specs.declared.options.ReflowOptions.{ReflowOptions}
 use Rattle.std.proofs.Math.Bool.{and-true}
-use Rattle.textwrap_marked.proofs.AnewLines.{anew, anew-content, anew-feedless, anew-line}
-use Rattle.textwrap_marked.proofs.AnewLines.{anew-text, anew_raw, content-return, IsTold}
-use Rattle.textwrap_marked.proofs.AnewLines.{passed-anew}
-use Rattle.textwrap_marked.proofs.BegunAlike.{AreBegun}
-use Rattle.textwrap_marked.proofs.Feedless.{IsFeedless}
-use Rattle.textwrap_marked.proofs.FenceLeft.{EndsWord, returned}
-use Rattle.textwrap_marked.proofs.FenceMarks.{IsSafe, safe-passed}
-use Rattle.textwrap_marked.proofs.ReturnsOff.{return_if}
-use Rattle.textwrap_marked.proofs.ShownLines.{own_shown, shows-own}
-use Rattle.textwrap_marked.proofs.TextBlocks.{line_at, peel, read, read-more, title_of}
+use Rattle.textwrap_marked.proofs.AnewLines.{anew-line, anew-text, anew_raw, IsTold, anew}
+use Rattle.textwrap_marked.proofs.AnewLines.{content-return, anew-feedless, anew-content, passed-anew}
+use Rattle.textwrap_marked.proofs.BegunAlike.{ends-word, AreBegun}
+use Rattle.textwrap_marked.proofs.Common.{All-tail, LineText, as_title, bytes_eq, flat_map, entered, Bool}
+use Rattle.textwrap_marked.proofs.Common.{None, Some, drop, refl, ◌&&◌, ◌++◌, inl, inr, map, suc, sym, []}
+use Rattle.textwrap_marked.proofs.Common.{Option, length, lt-ltb, nat_lt, passed, arith, codes, List, All}
+use Rattle.textwrap_marked.proofs.Common.{ReflowOptions, line_as_read, LineEnding, append-nil, suffix_len}
+use Rattle.textwrap_marked.proofs.Common.{StateText, ending_if, is_return, kept_line, All-cons, All-head}
+use Rattle.textwrap_marked.proofs.Common.{take-append-drop, without_returns, join_with_byte, append_assoc}
+use Rattle.textwrap_marked.proofs.Common.{◌-◌, ◌<◌, ◌∙◌, ◌∷◌, ◌≡◌, ap, ℕ, ⊤}
+use Rattle.textwrap_marked.proofs.FenceMarks.{safe-passed, IsSafe}
+use Rattle.textwrap_marked.proofs.LinesAlone.{more-alike, none-alike, AreAlike}
+use Rattle.textwrap_marked.proofs.TextBlocks.{read-more, title_of, line_at, peel, read}
+use Rattle.textwrap_marked.proofs.{Feedless.IsFeedless, FenceLeft.returned}
+use Rattle.textwrap_marked.proofs.{ParagraphLines.IsHeadAlike, ReturnsOff.return_if}
 use Rattle.textwrap_marks.specs.Signs.{is_rule}
 
--- all that the lines before it ask of a line, and of the first of a block
-pub record IsHeadAlike (line other : LineText) : Type 0 where
-  pub prefix : other.prefix ≡ line.prefix
-  pub hangs : other.hanging ≡ line.hanging
-  pub field : other.field ≡ line.field
-  pub chosen : other.chosen ≡ line.chosen
-  pub apart : other.apart ≡ line.apart
-  pub rule : is_rule other.words ≡ is_rule line.words
-  pub opens : opens_paragraph (first_word other.words) ≡ opens_paragraph (first_word line.words)
-
--- whatever its bytes are
+-- all that the lines before it ask of a line is the same, whatever its bytes are
 pub head-same : (line : LineText) (raw : List ℕ) → IsHeadAlike line (record line { raw = raw })
 head-same line raw = record {
   prefix = refl;
@@ -83,13 +66,9 @@ anew-begun (Some e) returns fed raw raws news is same = inr (record {
   old = sym (take-append-drop (length raw - suffix_len is_return raw) raw);
   is = refl;
   old_ends = returned raw;
-  new_ends = ends (returns && fed);
+  new_ends = ends-word [] (returns && fed) tt;
   ends = λ some. content-return raw (returns && fed) ∙ ap (λ b. returns && b) (is ∙ some) ∙ and-true returns;
 })
-  where
-    ends : (b : Bool) → EndsWord (return_if b)
-    ends true = refl
-    ends false = tt
 
 module _ (options : ReflowOptions) (returns : Bool) (told : IsTold options.ending returns) where
   abbrev anew_lines : List LineText → List LineText
@@ -104,10 +83,7 @@ module _ (options : ReflowOptions) (returns : Bool) (told : IsTold options.endin
       pub whole : raws ≡ kept ++ left
       pub long : length news ≡ length lines
       pub feedless : All IsFeedless kept → All IsFeedless news
-      pub shown : List (List ℕ)
-      pub kept_show : AreShown options kept shown
-      pub news_show : AreShown options news shown
-      pub alone : lines_alone options news ≡ lines_alone options kept
+      pub alike : AreAlike options kept news
       pub reads : rest ≡ read options behind left
       pub safe : IsSafe options behind
       pub again : (others : List LineText) (more : List (List ℕ)) → others ≡ read options behind more
@@ -131,10 +107,7 @@ module _ (options : ReflowOptions) (returns : Bool) (told : IsTold options.endin
     whole = refl;
     long = refl;
     feedless = λ free. free;
-    shown = [];
-    kept_show = refl;
-    news_show = refl;
-    alone = refl;
+    alike = none-alike options;
     reads = is;
     safe = safe;
     again = λ others more read heads same. read;
@@ -169,17 +142,7 @@ module _ (options : ReflowOptions) (returns : Bool) (told : IsTold options.endin
         feedless = λ free. All-cons IsFeedless new later.news
             (anew-feedless e returns fed raw (All-head IsFeedless raw later.kept free))
             (later.feedless (All-tail IsFeedless raw later.kept free));
-        shown = own_shown (without_returns raw) ++ later.shown;
-        kept_show = (_, later.shown, shows-own options (without_returns raw), later.kept_show, refl);
-        news_show = (
-          own_shown (without_returns raw),
-          later.shown,
-          subst (λ l. LineShows options l (own_shown (without_returns raw))) (sym (anew-content e returns fed raw))
-              (shows-own options (without_returns raw)),
-          later.news_show,
-          refl,
-        );
-        alone = ap₂ (λ line lines. cond (stands_alone options line) (line ∷ lines) lines) (anew-content e returns fed raw) later.alone;
+        alike = more-alike options raw new later.kept later.news (anew-content e returns fed raw) later.alike;
         reads = later.reads;
         safe = later.safe;
         again = λ others more read_others heads same.

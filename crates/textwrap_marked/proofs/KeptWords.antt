@@ -1,19 +1,43 @@
 -- The lines of a paragraph, as they are printed, have its words in order.
-use Rattle.textwrap_marked.proofs.LineNames.{◌≡◌, ℕ, Bool, List, [], ◌∷◌, ◌++◌, All}
-use Rattle.textwrap_marked.proofs.LineNames.{All-append, All-head, All-map, All-nil, All-tail, ap}
-use Rattle.textwrap_marked.proofs.LineNames.{flat_map, length, map, refl, subst, sym, ◌∙◌, all-left}
-use Rattle.textwrap_marked.proofs.LineNames.{all-right, word_of, WordText, LineText}
-use Rattle.textwrap_marked.proofs.Common.{piece_words, words_between_white, pieces, words_of_lines}
-use Rattle.textwrap_marked.proofs.Common.{first_room}
-use Rattle.textwrap_marked.proofs.Common.{later_room, line_texts, shown_lines}
-use Rattle.textwrap_marks.specs.declared.options.ReflowOptions.{ReflowOptions}
-use Rattle.textwrap_base.proofs.Common.{IsDivision}
-use Rattle.textwrap_marked.proofs.JustifiedTexts.{lines-shown}
-use Rattle.textwrap_marked.proofs.LineWords.{all_shown, AreCutInto, shown, spread}
-use Rattle.textwrap_marked.proofs.PlainLines.{IsPlainBlock, IsPlainLine}
-use Rattle.textwrap_marked.proofs.SpacedBack.{IsWhite, spaced-in}
+use Rattle.textwrap_marked.proofs.Common.{flat-each, WordText, all-left, flat_map, All-map, All-nil, Bool}
+use Rattle.textwrap_marked.proofs.Common.{later_room, line_texts, StateText, all-right, each-flat, blocks}
+use Rattle.textwrap_marked.proofs.Common.{lines_of_text, line_as_read, piece_words, shown_lines, LineText}
+use Rattle.textwrap_marked.proofs.Common.{map, sym, ◌∙◌, ◌∷◌, ◌≡◌, ℕ, ⊤}
+use Rattle.textwrap_marked.proofs.Common.{slice_split, All-weaker, IsDivision, SpacedText, first_room, []}
+use Rattle.textwrap_marked.proofs.Common.{word_of, length, pieces, subst, List, refl, ◌++◌, ◌==◌, All, ap}
+use Rattle.textwrap_marked.proofs.Common.{words_between_white, words_of_lines, ReflowOptions, first_state}
+use Rattle.textwrap_marked.proofs.LaterLines.{read-spaced, read_marks, line-read, read-line}
+use Rattle.textwrap_marked.proofs.LineWords.{AreCutInto, all_shown, spread, shown}
+use Rattle.textwrap_marked.proofs.SpacedBack.{spaced-plain, spaced-in, IsPlain, IsWhite}
 use Rattle.textwrap_marked.proofs.SpreadWords.{spread-spaced, spread-words}
-use Rattle.textwrap_marked.proofs.WordsIn.{IsPlain}
+use Rattle.textwrap_marked.proofs.{JustifiedTexts.lines-shown, TextBlocks.read-all, TextParts.blocks-flat}
+
+abbrev IsPlainWord : SpacedText → Type 0
+IsPlainWord w = IsPlain w.word
+
+abbrev pub IsPlainLine : LineText → Type 0
+IsPlainLine line = All IsPlainWord line.words
+
+line-plain : (options : ReflowOptions) (state : StateText) (raw : List ℕ) (fed : Bool)
+    → IsPlainLine (line_as_read options state raw fed)
+line-plain options state raw fed =
+    let r = line-read options state raw in
+    let marks = read_marks options state raw r in
+    subst IsPlainLine (sym (read-line options state raw r fed)) (all-right IsPlainWord marks r.ws
+    (spaced-plain (marks ++ r.ws) (read-spaced options state raw r)))
+
+abbrev pub IsPlainBlock : List LineText → Type 0
+IsPlainBlock = All IsPlainLine
+
+pub text-plain : (options : ReflowOptions) (text : List ℕ)
+    → All IsPlainBlock (blocks (lines_of_text options text))
+text-plain options text =
+    let lines = lines_of_text options text in
+    flat-each IsPlainLine (λ l. l) (blocks lines) (subst (All IsPlainLine) (sym (blocks-flat lines))
+    (read-all options IsPlainLine (λ raw. ⊤) (λ state raw fed is any. line-plain options state raw fed)
+    (slice_split (λ c. c == 10) text) first_state (λ k d within. tt)))
+
+-- ---- the lines of a paragraph, as they are printed, have its words in order
 
 module _ (justify : Bool) where
   -- a line has its words
@@ -35,11 +59,9 @@ module _ (justify : Bool) where
       ∙ sym is
 
 words-plain : (lines : List LineText) → IsPlainBlock lines → All IsPlain (words_of_lines lines)
-words-plain [] all = All-nil IsPlain
-words-plain (line ∷ lines) all =
-    All-append IsPlain (map (λ w. w.word) line.words) (words_of_lines lines)
-    (All-map IsPlain (λ w. w.word) line.words (All-head IsPlainLine line lines all))
-    (words-plain lines (All-tail IsPlainLine line lines all))
+words-plain lines all =
+    each-flat IsPlain (λ l. map (λ w. w.word) l.words) lines (All-weaker IsPlainLine
+    (λ l. All IsPlain (map (λ w. w.word) l.words)) (λ l is. All-map IsPlain (λ w. w.word) l.words is) lines all)
 
 pub printed-words : (options : ReflowOptions) (first : LineText) (lines : List LineText)
     (division : List (List WordText)) → IsPlainBlock lines

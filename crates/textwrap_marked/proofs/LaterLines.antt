@@ -1,44 +1,70 @@
 -- Lines of a paragraph, and lines of other words behind the same marks.
-use Rattle.textwrap_marked.proofs.LineNames.{◌≡◌, ℕ, suc, ◌+◌, ◌<◌, ◌&&◌, Bool, true, false, cond, List}
-use Rattle.textwrap_marked.proofs.LineNames.{[], ◌∷◌, ◌++◌, ap, arith, codes, length, length-append}
-use Rattle.textwrap_marked.proofs.LineNames.{refl, subst, sym, true≢false, ◌∙◌, bytes_eq, has_words}
-use Rattle.textwrap_marked.proofs.LineNames.{is_ended, LineText, passed, StateText, without_returns}
-use Rattle.textwrap_marked.proofs.LineNames.{is_bullet, is_comment_at, is_quote, bullets_len}
-use Rattle.textwrap_marked.proofs.LineNames.{comment_len, hanging_bullets, quotes_len, begins_text}
-use Rattle.textwrap_marked.proofs.LineNames.{closes_block, closes_early, first_word, has_columns}
-use Rattle.textwrap_marked.proofs.LineNames.{SpacedText}
-use Rattle.textwrap_marks.specs.declared.options.ReflowOptions.{ReflowOptions}
-use Rattle.textwrap_marked.proofs.FreeLines.{apart-free, behind-free, block_at, begun, starred_at}
+use Rattle.textwrap_marked.proofs.Common.{StateText, has_words, is_bullet, LineText, bytes_eq, is_ended, []}
+use Rattle.textwrap_marked.proofs.Common.{closes_early, line_as_read, begins_text, bullets_len, has_columns}
+use Rattle.textwrap_marked.proofs.Common.{flat_map-append, hanging_bullets, without_returns, ReflowOptions}
+use Rattle.textwrap_marked.proofs.Common.{is_comment_at, length-append, append_assoc, closes_block, is_box}
+use Rattle.textwrap_marked.proofs.Common.{is_quote, length, passed, arith, codes, false, subst, List, cond}
+use Rattle.textwrap_marked.proofs.Common.{refl, true, ◌&&◌, ◌++◌, suc, sym, ◌+◌, ◌<◌, ◌∙◌, ◌∷◌, ◌≡◌, ap, ℕ}
+use Rattle.textwrap_marked.proofs.Common.{spaced_text, SpacedText, first_word, quotes_len, true≢false, Bool}
 use Rattle.textwrap_marked.proofs.HangingKinds.{quotes-all, quotes-are}
-use Rattle.textwrap_marked.proofs.LineKinds.{none-if, hanging_of, HaveKinds, Kinds, kinds-cut}
-use Rattle.textwrap_marked.proofs.LineKinds.{line_by, one_if}
-use Rattle.textwrap_marked.proofs.OpenBehind.{behind_text}
-use Rattle.textwrap_marked.proofs.SpacedBack.{AreSpaced, IsLineText, line-text}
-use Rattle.textwrap_marks.specs.Prefixes.{is_box}
+use Rattle.textwrap_marked.proofs.LineKinds.{hanging_of, HaveKinds, kinds-cut, line-is, line_by, none-if}
+use Rattle.textwrap_marked.proofs.OpenBehind.{behind-free, behind_text, apart-free, starred_at, block_at}
+use Rattle.textwrap_marked.proofs.SpacedBack.{IsLineText, AreSpaced, line-text}
+use Rattle.textwrap_marked.proofs.{LineKinds.one_if, LineKinds.Kinds, LineKinds.kinds, OpenBehind.begun}
+use Rattle.textwrap_marks.proofs.WordCuts.{comment_is}
 
 -- ---- what is read of a line
 
-pub record IsRead (options : ReflowOptions) (state : StateText) (raw lead : List ℕ)
-    (cs qs bs ws : List SpacedText) : Type 0 where
+-- the white in front, and the words of each kind
+pub record IsRead (options : ReflowOptions) (state : StateText) (raw : List ℕ) : Type 0 where
+  pub lead : List ℕ
+  pub cs : List SpacedText
+  pub qs : List SpacedText
+  pub bs : List SpacedText
+  pub ws : List SpacedText
   pub text : IsLineText (without_returns raw) lead (cs ++ (qs ++ (bs ++ ws)))
   pub have : HaveKinds options state.in_block cs qs bs ws
 
-pub line-read : (options : ReflowOptions) (state : StateText) (raw : List ℕ)
-    → (lead : List ℕ) × (cs : List SpacedText) × (qs : List SpacedText) × (bs : List SpacedText)
-    × (ws : List SpacedText) × IsRead options state raw lead cs qs bs ws
+pub line-read : (options : ReflowOptions) (state : StateText) (raw : List ℕ) → IsRead options state raw
 line-read options state raw =
     let (lead, words, is) = line-text (without_returns raw) in
-    let (cs, qs, bs, ws, parts, have) = kinds-cut options state.in_block words in (
-      lead,
-      cs,
-      qs,
-      bs,
-      ws,
-      record {
-        text = subst (IsLineText (without_returns raw) lead) parts is;
-        have = have;
-      },
-    )
+    let (cs, qs, bs, ws, parts, have) = kinds-cut options state.in_block words in record {
+      lead = lead;
+      cs = cs;
+      qs = qs;
+      bs = bs;
+      ws = ws;
+      text = subst (IsLineText (without_returns raw) lead) parts is;
+      have = have;
+    }
+
+pub regroup : (cs qs bs ws : List SpacedText) → cs ++ (qs ++ (bs ++ ws)) ≡ (cs ++ (qs ++ bs)) ++ ws
+regroup cs qs bs ws =
+    ap (λ l. cs ++ l) (sym (append_assoc qs bs ws)) ∙ sym (append_assoc cs (qs ++ bs) ws)
+
+pub text-parts : (ks ws : List SpacedText) → spaced_text (ks ++ ws) ≡ spaced_text ks ++ spaced_text ws
+text-parts ks ws = flat_map-append (λ w. w.word ++ w.white) ks ws
+
+module _ (options : ReflowOptions) (state : StateText) (raw : List ℕ) (r : IsRead options state raw) where
+  abbrev pub read_kinds : Kinds
+  read_kinds = kinds r.lead r.cs r.qs r.bs r.ws
+
+  -- the marks before the text
+  abbrev pub read_marks : List SpacedText
+  read_marks = r.cs ++ (r.qs ++ r.bs)
+
+  pub read-line : (fed : Bool) → line_as_read options state raw fed ≡ line_by options state raw fed read_kinds
+  read-line fed = line-is r.lead r.cs r.qs r.bs r.ws options state raw fed r.text r.have
+
+  pub read-spaced : AreSpaced (read_marks ++ r.ws)
+  read-spaced = subst AreSpaced (regroup r.cs r.qs r.bs r.ws) r.text.spaced
+
+  -- a line is its prefix and its text
+  pub read-split : without_returns raw ≡ (r.lead ++ spaced_text read_marks) ++ spaced_text r.ws
+  read-split =
+      r.text.is ∙ ap (λ l. r.lead ++ spaced_text l) (regroup r.cs r.qs r.bs r.ws)
+      ∙ ap (λ l. r.lead ++ l) (text-parts read_marks r.ws)
+      ∙ sym (append_assoc r.lead (spaced_text read_marks) (spaced_text r.ws))
 
 -- a line of a paragraph with this hanging form, in a block comment or not
 pub record IsOfText (options : ReflowOptions) (in_block : Bool) (hanging : List ℕ) (state : StateText)
@@ -78,14 +104,6 @@ text-line options in_block hanging state raw fed k apart block hangs spaced =
 
 -- ---- lines with other words
 
-comment-same : (options : ReflowOptions) (in_block : Bool) (xs bs : List SpacedText) → 0 < length xs
-    → 0 < length bs → first_word xs ≡ first_word bs
-    → comment_len options in_block xs ≡ comment_len options in_block bs
-comment-same options in_block [] bs some more same = absurd (omega (arith, some))
-comment-same options in_block (a ∷ xs) [] some more same = absurd (omega (arith, more))
-comment-same options in_block (a ∷ xs) (b ∷ bs) some more same =
-    ap (λ w. one_if (is_comment_at options in_block w)) same
-
 first-same : (ks xs bs : List SpacedText) → first_word xs ≡ first_word bs
     → first_word (ks ++ xs) ≡ first_word (ks ++ bs)
 first-same [] xs bs same = same
@@ -121,50 +139,42 @@ bullet-none (a ∷ xs) (b ∷ bs) some none same box =
     first [] is = none-if (is_bullet a.word) 0 0 is
     first (v ∷ xs) is = none-if (is_bullet a.word) (bullets_len (v ∷ xs)) _ is
 
--- these are all the bullets, whatever follows that begins with none
-abbrev Behind : List SpacedText → List SpacedText → Type 0
-Behind bs xs = (bullets_len xs ≡ 0)
-    × ((others : List SpacedText) → bullets_len others ≡ 0 → bullets_len (bs ++ others) ≡ length bs)
-
 abbrev bullets_by : SpacedText → SpacedText → List SpacedText → Bool → Bool → ℕ
 bullets_by b c ws t u = cond t (suc (bullets_len (c ∷ ws))) (cond u (suc (suc (bullets_len ws))) 0)
 
-one-bullet : (t u : Bool) (n m : ℕ) → cond t (suc n) (cond u (suc (suc m)) 0) ≡ 1
+pub one-bullet : (t u : Bool) (n m : ℕ) → cond t (suc n) (cond u (suc (suc m)) 0) ≡ 1
     → (t ≡ true) × (n ≡ 0)
 one-bullet true u n m is = (refl, omega (arith, is))
 one-bullet false true n m is = absurd (omega (arith, is))
 one-bullet false false n m is = absurd (omega (arith, is))
 
-bullets-behind : (bs xs : List SpacedText) → 0 < length xs → bullets_len (bs ++ xs) ≡ length bs
-    → Behind bs xs
-bullets-behind [] xs some is = (is, λ others none. none)
-bullets-behind (b ∷ []) [] some is = absurd (omega (arith, some))
-bullets-behind (b ∷ []) (a ∷ xs) some is =
+-- these are all the bullets, whatever follows that begins as what follows them
+bullets-same : (bs xs others : List SpacedText) → 0 < length xs
+    → (bullets_len xs ≡ 0 → bullets_len others ≡ 0) → bullets_len (bs ++ xs) ≡ length bs
+    → bullets_len (bs ++ others) ≡ length bs
+bullets-same [] xs others some none is = none is
+bullets-same (b ∷ []) [] others some none is = absurd (omega (arith, some))
+bullets-same (b ∷ []) (a ∷ xs) others some none is =
     let (first, len) =
     one-bullet (is_bullet b.word) (is_box b a) (bullets_len (a ∷ xs)) (bullets_len xs) is in
-    (len, one first)
+    one others first (none len)
   where
-    one : is_bullet b.word ≡ true → (others : List SpacedText) → bullets_len others ≡ 0
+    one : (others : List SpacedText) → is_bullet b.word ≡ true → bullets_len others ≡ 0
         → bullets_len (b ∷ others) ≡ 1
-    one is_one [] none = ap one_if is_one
-    one is_one (v ∷ others) none =
-        ap (λ t. bullets_by b v others t (is_box b v)) is_one ∙ ap suc none
-bullets-behind (b ∷ c ∷ bs) xs some is =
-    cut (is_bullet b.word) (is_box b c) (λ others. refl) (bullets-behind (c ∷ bs) xs some)
-    (bullets-behind bs xs some)
+    one [] first none = ap one_if first
+    one (v ∷ others) first none = ap (λ t. bullets_by b v others t (is_box b v)) first ∙ ap suc none
+bullets-same (b ∷ c ∷ bs) xs others some none is =
+    cut (is_bullet b.word) (is_box b c) (bullets-same (c ∷ bs) xs others some none)
+    (bullets-same bs xs others some none) is
   where
     cut : (t u : Bool)
-        → ((others : List SpacedText)
-        → bullets_len (b ∷ c ∷ (bs ++ others)) ≡ bullets_by b c (bs ++ others) t u)
-        → (bullets_len (c ∷ (bs ++ xs)) ≡ length (c ∷ bs) → Behind (c ∷ bs) xs)
-        → (bullets_len (bs ++ xs) ≡ length bs → Behind bs xs) → Behind (b ∷ c ∷ bs) xs
-    cut true u by one two =
-        let (none, later) = one (omega (arith, sym (by xs) ∙ is)) in
-        (none, λ others ends. by others ∙ ap suc (later others ends))
-    cut false true by one two =
-        let (none, later) = two (omega (arith, sym (by xs) ∙ is)) in
-        (none, λ others ends. by others ∙ ap (λ n. suc (suc n)) (later others ends))
-    cut false false by one two = absurd (omega (arith, sym (by xs) ∙ is))
+        → (bullets_len (c ∷ (bs ++ xs)) ≡ length (c ∷ bs) → bullets_len (c ∷ (bs ++ others)) ≡ length (c ∷ bs))
+        → (bullets_len (bs ++ xs) ≡ length bs → bullets_len (bs ++ others) ≡ length bs)
+        → bullets_by b c (bs ++ xs) t u ≡ length (b ∷ c ∷ bs)
+        → bullets_by b c (bs ++ others) t u ≡ length (b ∷ c ∷ bs)
+    cut true u one two is = ap suc (one (omega (arith, is)))
+    cut false true one two is = ap (λ n. suc (suc n)) (two (omega (arith, is)))
+    cut false false one two is = absurd (omega (arith, is))
 
 -- words that begin with the same one have the same marks before them
 pub kinds-first : (options : ReflowOptions) (in_block : Bool) (cs qs bs ws others : List SpacedText)
@@ -172,23 +182,18 @@ pub kinds-first : (options : ReflowOptions) (in_block : Bool) (cs qs bs ws other
     → first_word ws ≡ first_word others → bytes_eq (first_word ws) (codes "[") ≡ false
     → HaveKinds options in_block cs qs bs others
 kinds-first options in_block cs qs bs ws others have some more same box =
-    let long = length-append cs (qs ++ (bs ++ ws)) in
-    let behind = length-append qs (bs ++ ws) in
-    let last = length-append bs ws in
-    let long_o = length-append cs (qs ++ (bs ++ others)) in
-    let behind_o = length-append qs (bs ++ others) in
-    let last_o = length-append bs others in
-    let (none, bullets) = bullets-behind bs ws some have.bullet in
     let quoted = quotes-are qs (bs ++ ws) have.quote in
     let no_quote : quotes_len (bs ++ ws) ≡ 0 =
     omega (arith, have.quote, quotes-all qs (bs ++ ws) quoted) in record {
-      comment = comment-same options in_block (cs ++ (qs ++ (bs ++ others))) (cs ++ (qs ++ (bs ++ ws)))
-          (omega (arith, long_o, behind_o, last_o, more)) (omega (arith, long, behind, last, some))
+      comment = comment_is options in_block (cs ++ (qs ++ (bs ++ others)))
+          (omega (arith, length-append {A = SpacedText}, more)) ∙ ap (λ w. one_if (is_comment_at options in_block w))
           (first-same cs (qs ++ (bs ++ others)) (qs ++ (bs ++ ws))
           (first-same qs (bs ++ others) (bs ++ ws) (first-same bs others ws (sym same))))
+          ∙ sym (comment_is options in_block (cs ++ (qs ++ (bs ++ ws)))
+          (omega (arith, length-append {A = SpacedText}, some)))
           ∙ have.comment;
       quote = quotes-all qs (bs ++ others) quoted
           ∙ ap (λ n. length qs + n) (quote-none (bs ++ ws) (bs ++ others)
-          (omega (arith, last, some)) no_quote (first-same bs ws others same)) ∙ omega arith;
-      bullet = bullets others (bullet-none ws others some none same box);
+          (omega (arith, length-append bs ws, some)) no_quote (first-same bs ws others same)) ∙ omega arith;
+      bullet = bullets-same bs ws others some (λ none. bullet-none ws others some none same box) have.bullet;
     }

@@ -1,22 +1,19 @@
 -- What is read of a line, from its words by kind: a comment mark, quote marks, bullets and text.
-use Rattle.textwrap_marked.proofs.LineNames.{◌≡◌, ℕ, suc, ◌+◌, ◌-◌, ◌==◌, ◌&&◌, ◌||◌, not, Bool, true}
-use Rattle.textwrap_marked.proofs.LineNames.{false, cond, List, [], ◌∷◌, ◌++◌, ap, append_assoc}
-use Rattle.textwrap_marked.proofs.LineNames.{append-nil, arith, drop, length, length-append, list_any}
-use Rattle.textwrap_marked.proofs.LineNames.{refl, cases_Bool, take-append-drop, ◌≤◌, sym, take, ◌∙◌}
-use Rattle.textwrap_marked.proofs.LineNames.{nat_lt, lt-ltb, ne_eqb, ◌<◌, is_some, is_ended}
-use Rattle.textwrap_marked.proofs.LineNames.{line_as_read}
-use Rattle.textwrap_marked.proofs.LineNames.{LineText, StateText, without_returns, is_bullet}
-use Rattle.textwrap_marked.proofs.LineNames.{is_comment_at, is_comment_opening, bullets_len, comment_len}
-use Rattle.textwrap_marked.proofs.LineNames.{hanging_bullets, hanging_comments, quotes_len}
-use Rattle.textwrap_marked.proofs.LineNames.{closes_block, first_word, is_key, has_byte, spaced_text}
-use Rattle.textwrap_marked.proofs.LineNames.{SpacedText, spaced_words}
-use Rattle.textwrap_marks.specs.declared.options.ReflowOptions.{ReflowOptions}
-use Rattle.textwrap_text.proofs.Common.{drop_at, length-take-le, slice_range, take_at, eq-eqb}
-use Rattle.textwrap_marked.proofs.SpacedBack.{begins-plain, BeginsPlain, IsLineText, line-back}
-use Rattle.textwrap_marked.proofs.SpacedBack.{with_lead}
-use Rattle.textwrap_marked.specs.Lines.{is_chosen, is_deep, line_from_words, stands_apart}
-use Rattle.textwrap_marks.specs.Prefixes.{is_box, lead_len, prefix_ends}
+use Rattle.textwrap_marked.proofs.Common.{append-nil, cases_Bool, first_word, quotes_len, LineText, is_deep}
+use Rattle.textwrap_marked.proofs.Common.{bullets_len, comment_len, slice_range, spaced_text, SpacedText, ℕ}
+use Rattle.textwrap_marked.proofs.Common.{closes_block, line_as_read, spaced_words, stands_apart, is_bullet}
+use Rattle.textwrap_marked.proofs.Common.{flat_map-append, hanging_bullets, line_from_words, ReflowOptions}
+use Rattle.textwrap_marked.proofs.Common.{has_byte, is_ended, list_any, is_some, take_at, is_box, is_key}
+use Rattle.textwrap_marked.proofs.Common.{is_comment_opening, hanging_comments, take-append-drop, StateText}
+use Rattle.textwrap_marked.proofs.Common.{length, lt-ltb, ne_eqb, arith, false, List, cond, drop, refl, not}
+use Rattle.textwrap_marked.proofs.Common.{take, true, ◌&&◌, ◌++◌, ◌==◌, ◌||◌, suc, sym, ◌+◌, ◌-◌, ◌∙◌, ◌∷◌}
+use Rattle.textwrap_marked.proofs.Common.{without_returns, is_comment_at, length-append, append_assoc, Bool}
+use Rattle.textwrap_marked.proofs.SpacedBack.{begins-plain, BeginsPlain, IsLineText, lead_words, line-back}
+use Rattle.textwrap_marked.proofs.{Common.◌≡◌, Common.◌≤◌, Common.[], Common.ap, SpacedBack.with_lead}
+use Rattle.textwrap_marked.specs.Lines.{is_chosen}
+use Rattle.textwrap_marks.specs.Prefixes.{prefix_ends, lead_len}
 use Rattle.textwrap_marks.specs.declared.prefixes.PrefixEnds.{PrefixEnds}
+use Rattle.textwrap_text.proofs.Common.{length-take-le, drop_at, eq-eqb}
 
 -- ---- what is read of words by kind
 
@@ -102,10 +99,6 @@ pub record HaveKinds (options : ReflowOptions) (in_block : Bool) (comments quote
   pub quote : quotes_len (quotes ++ (bullets ++ words)) ≡ length quotes
   pub bullet : bullets_len (bullets ++ words) ≡ length bullets
 
-abbrev lead_count : List ℕ → ℕ
-lead_count [] = 0
-lead_count (c ∷ cs) = 1
-
 abbrev pub one_if : Bool → ℕ
 one_if b = cond b 1 0
 
@@ -122,162 +115,104 @@ some-if true n m is = (refl, omega (arith, is))
 some-if false n m is = absurd (omega (arith, is))
 
 lead-len : (lead : List ℕ) (ws : List SpacedText) → BeginsPlain ws
-    → lead_len (with_lead lead ws) ≡ lead_count lead
+    → lead_len (with_lead lead ws) ≡ length (lead_words lead)
 lead-len [] [] begins = refl
-lead-len [] (w ∷ ws) begins = some w.word begins
-  where
-    some : (word : List ℕ) → 0 < length word → one_unless (nat_lt 0 (length word)) ≡ 0
-    some word is = ap one_unless (lt-ltb 0 (length word) is)
+lead-len [] (w ∷ ws) begins = ap one_unless (lt-ltb 0 (length w.word) begins)
 lead-len (c ∷ cs) ws begins = refl
 
-drop-lead : (lead : List ℕ) (ws : List SpacedText) (n : ℕ)
-    → drop (lead_count lead + n) (with_lead lead ws) ≡ drop n ws
-drop-lead [] ws n = let same : 0 + n ≡ n = omega arith in ap (λ k. drop k ws) same
-drop-lead (c ∷ cs) ws n =
-    let same : 1 + n ≡ suc n = omega arith in ap (λ k. drop k (with_lead (c ∷ cs) ws)) same
+lead-text : (lead : List ℕ) → spaced_text (lead_words lead) ≡ lead
+lead-text [] = refl
+lead-text (c ∷ cs) = append-nil (c ∷ cs)
 
-take-lead : (lead : List ℕ) (ws : List SpacedText) (n : ℕ)
-    → spaced_text (take (lead_count lead + n) (with_lead lead ws)) ≡ lead ++ spaced_text (take n ws)
-take-lead [] ws n = let same : 0 + n ≡ n = omega arith in ap (λ k. spaced_text (take k ws)) same
-take-lead (c ∷ cs) ws n =
-    let same : 1 + n ≡ suc n = omega arith in
-    ap (λ k. spaced_text (take k (with_lead (c ∷ cs) ws))) same
+-- a list in two parts, and in three
+behind : (front rest all : List SpacedText) → all ≡ front ++ rest → drop (length front) all ≡ rest
+behind front rest all is = ap (drop (length front)) is ∙ drop_at front rest (length front) refl
+
+between : (front middle rest all : List SpacedText) → all ≡ (front ++ middle) ++ rest
+    → slice_range all (length front) (length (front ++ middle)) ≡ middle
+between front middle rest all is =
+    let n = length (front ++ middle) - length front in
+    ap (take n) (behind front (middle ++ rest) all (is ∙ append_assoc front middle rest))
+    ∙ take_at middle rest n (omega (arith, length-append front middle))
 
 module _ (lead : List ℕ) (cs qs bs ws : List SpacedText) where
   abbrev all_words : List SpacedText
   all_words = cs ++ (qs ++ (bs ++ ws))
 
-  abbrev comment_end : ℕ
-  comment_end = lead_count lead + length cs
+  abbrev all : List SpacedText
+  all = with_lead lead all_words
 
-  abbrev margin_end : ℕ
-  margin_end = comment_end + length qs
+  -- what stands before the quote marks, before the bullets and before the text
+  abbrev to_quotes : List SpacedText
+  to_quotes = lead_words lead ++ cs
 
-  abbrev text_end : ℕ
-  text_end = margin_end + length bs
+  abbrev to_bullets : List SpacedText
+  to_bullets = to_quotes ++ qs
+
+  abbrev to_text : List SpacedText
+  to_text = to_bullets ++ bs
 
   abbrev all_ends : PrefixEnds
   all_ends = record {
-    lead = lead_count lead;
-    comment = comment_end;
-    margin = margin_end;
-    text = text_end;
+    lead = length (lead_words lead);
+    comment = length to_quotes;
+    margin = length to_bullets;
+    text = length to_text;
   }
 
-  behind-comment : drop comment_end (with_lead lead all_words) ≡ qs ++ (bs ++ ws)
-  behind-comment =
-      drop-lead lead all_words (length cs) ∙ drop_at cs (qs ++ (bs ++ ws)) (length cs) refl
+  at-quotes : all ≡ to_quotes ++ (qs ++ (bs ++ ws))
+  at-quotes = sym (append_assoc (lead_words lead) cs (qs ++ (bs ++ ws)))
 
-  behind-margin : drop margin_end (with_lead lead all_words) ≡ bs ++ ws
-  behind-margin =
-      let at : margin_end ≡ lead_count lead + length (cs ++ qs) = omega (arith, length-append cs qs) in
-      ap (λ n. drop n (with_lead lead all_words)) at ∙ drop-lead lead all_words (length (cs ++ qs))
-      ∙ ap (drop (length (cs ++ qs))) (sym (append_assoc cs qs (bs ++ ws)))
-      ∙ drop_at (cs ++ qs) (bs ++ ws) (length (cs ++ qs)) refl
+  at-bullets : all ≡ to_bullets ++ (bs ++ ws)
+  at-bullets = at-quotes ∙ sym (append_assoc to_quotes qs (bs ++ ws))
 
-  abbrev marks : List SpacedText
-  marks = cs ++ (qs ++ bs)
+  at-text : all ≡ to_text ++ ws
+  at-text = at-bullets ∙ sym (append_assoc to_bullets bs ws)
 
-  marks-len : text_end ≡ lead_count lead + length marks
-  marks-len = omega (arith, length-append cs (qs ++ bs), length-append qs bs)
+  text-before : (front rest ks : List SpacedText) → all ≡ front ++ rest → front ≡ lead_words lead ++ ks
+      → spaced_text (take (length front) all) ≡ lead ++ spaced_text ks
+  text-before front rest ks is parts =
+      ap spaced_text (ap (take (length front)) is ∙ take_at front rest (length front) refl ∙ parts)
+      ∙ flat_map-append (λ w. w.word ++ w.white) (lead_words lead) ks
+      ∙ ap (λ t. t ++ spaced_text ks) (lead-text lead)
 
-  marks-words : all_words ≡ marks ++ ws
-  marks-words =
-      ap (λ l. cs ++ l) (sym (append_assoc qs bs ws)) ∙ sym (append_assoc cs (qs ++ bs) ws)
+  no-bullets : (xs : List SpacedText) → (length to_bullets == length (to_bullets ++ xs)) ≡ (length xs == 0)
+  no-bullets [] = eq-eqb (length to_bullets) (length (to_bullets ++ [])) (omega (arith, length-append to_bullets []))
+  no-bullets (x ∷ xs) =
+      ne_eqb (length to_bullets) (length (to_bullets ++ (x ∷ xs)))
+      (λ e. omega (arith, e, length-append to_bullets (x ∷ xs)))
+      ∙ sym (ne_eqb (length (x ∷ xs)) 0 (λ e. omega (arith, e)))
 
-  behind-text : drop text_end (with_lead lead all_words) ≡ ws
-  behind-text =
-      ap (λ n. drop n (with_lead lead all_words)) marks-len ∙ drop-lead lead all_words (length marks)
-      ∙ ap (drop (length marks)) marks-words ∙ drop_at marks ws (length marks) refl
-
-  before-text : spaced_text (take text_end (with_lead lead all_words)) ≡ lead ++ spaced_text marks
-  before-text =
-      ap (λ n. spaced_text (take n (with_lead lead all_words))) marks-len
-      ∙ take-lead lead all_words (length marks)
-      ∙ ap (λ l. lead ++ spaced_text (take (length marks) l)) marks-words
-      ∙ ap (λ l. lead ++ spaced_text l) (take_at marks ws (length marks) refl)
-
-  before-margin : spaced_text (take margin_end (with_lead lead all_words))
-      ≡ lead ++ spaced_text (cs ++ qs)
-  before-margin =
-      let at : margin_end ≡ lead_count lead + length (cs ++ qs) = omega (arith, length-append cs qs) in
-      ap (λ n. spaced_text (take n (with_lead lead all_words))) at
-      ∙ take-lead lead all_words (length (cs ++ qs))
-      ∙ ap (λ l. lead ++ spaced_text (take (length (cs ++ qs)) l)) (sym (append_assoc cs qs (bs ++ ws)))
-      ∙ ap (λ l. lead ++ spaced_text l) (take_at (cs ++ qs) (bs ++ ws) (length (cs ++ qs)) refl)
-
-  before-lead : spaced_text (take (lead_count lead) (with_lead lead all_words)) ≡ lead
-  before-lead =
-      let at : lead_count lead ≡ lead_count lead + 0 = omega arith in
-      ap (λ n. spaced_text (take n (with_lead lead all_words))) at ∙ take-lead lead all_words 0
-      ∙ append-nil lead
-
-  the-comments : slice_range (with_lead lead all_words) (lead_count lead) comment_end ≡ cs
-  the-comments =
-      let n : comment_end - lead_count lead ≡ length cs = omega arith in
-      let at : lead_count lead ≡ lead_count lead + 0 = omega arith in
-      ap (λ m. take m (drop (lead_count lead) (with_lead lead all_words))) n
-      ∙ ap (λ m. take (length cs) (drop m (with_lead lead all_words))) at
-      ∙ ap (take (length cs)) (drop-lead lead all_words 0)
-      ∙ take_at cs (qs ++ (bs ++ ws)) (length cs) refl
-
-  the-quotes : slice_range (with_lead lead all_words) comment_end margin_end ≡ qs
-  the-quotes =
-      let n : margin_end - comment_end ≡ length qs = omega arith in
-      ap (λ m. take m (drop comment_end (with_lead lead all_words))) n
-      ∙ ap (take (length qs)) behind-comment ∙ take_at qs (bs ++ ws) (length qs) refl
-
-  the-bullets : slice_range (with_lead lead all_words) margin_end text_end ≡ bs
-  the-bullets =
-      let n : text_end - margin_end ≡ length bs = omega arith in
-      ap (λ m. take m (drop margin_end (with_lead lead all_words))) n
-      ∙ ap (take (length bs)) behind-margin ∙ take_at bs ws (length bs) refl
-
-  no-bullets : (margin_end == text_end) ≡ (length bs == 0)
-  no-bullets = same bs
-    where
-      same : (xs : List SpacedText) → (margin_end == margin_end + length xs) ≡ (length xs == 0)
-      same [] = eq-eqb margin_end (margin_end + 0) (omega arith)
-      same (x ∷ xs) =
-          ne_eqb margin_end (margin_end + length (x ∷ xs)) (λ e. omega (arith, e))
-          ∙ sym (ne_eqb (length (x ∷ xs)) 0 (λ e. omega (arith, e)))
-
-  cut-is : cut_kinds (with_lead lead all_words) all_ends ≡ kinds lead cs qs bs ws
+  cut-is : cut_kinds all all_ends ≡ kinds lead cs qs bs ws
   cut-is = λ i. record {
-    lead = before-lead i;
-    comments = the-comments i;
-    quotes = the-quotes i;
-    bullets = the-bullets i;
-    words = behind-text i;
-    margin = before-margin i;
-    prefix = before-text i;
-    bare = no-bullets i;
+    lead = (text-before (lead_words lead) all_words [] refl (sym (append-nil (lead_words lead))) ∙ append-nil lead) i;
+    comments = between (lead_words lead) cs (qs ++ (bs ++ ws)) all at-quotes i;
+    quotes = between to_quotes qs (bs ++ ws) all at-bullets i;
+    bullets = between to_bullets bs ws all at-text i;
+    words = behind to_text ws all at-text i;
+    margin = text-before to_bullets (bs ++ ws) (cs ++ qs) at-bullets (append_assoc (lead_words lead) cs qs) i;
+    prefix = text-before to_text ws (cs ++ (qs ++ bs)) at-text
+        (append_assoc to_quotes qs bs ∙ append_assoc (lead_words lead) cs (qs ++ bs)) i;
+    bare = no-bullets bs i;
   }
 
   ends-are : (options : ReflowOptions) (in_block : Bool) → BeginsPlain all_words
-      → HaveKinds options in_block cs qs bs ws
-      → prefix_ends options in_block (with_lead lead all_words) ≡ all_ends
+      → HaveKinds options in_block cs qs bs ws → prefix_ends options in_block all ≡ all_ends
   ends-are options in_block begins have =
-      let all = with_lead lead all_words in
       let l = lead-len lead all_words begins in
-      let at : lead_count lead ≡ lead_count lead + 0 = omega arith in
-      let c : lead_len all + comment_len options in_block (drop (lead_len all) all) ≡ comment_end =
-      ap (λ n. n + comment_len options in_block (drop n all)) l
-      ∙ ap (λ n. lead_count lead + comment_len options in_block (drop n all)) at
-      ∙ ap (λ x. lead_count lead + comment_len options in_block x) (drop-lead lead all_words 0)
-      ∙ ap (λ n. lead_count lead + n) have.comment in
-      let after : ℕ → ℕ = λ n. n + quotes_len (drop n all) in
-      let m : after (lead_len all + comment_len options in_block (drop (lead_len all) all))
-      ≡ margin_end = ap after c ∙ ap (λ x. comment_end + quotes_len x) behind-comment
-      ∙ ap (λ n. comment_end + n) have.quote in
-      let last : ℕ → ℕ = λ n. n + bullets_len (drop n all) in
-      λ i. record {
-        lead = l i;
-        comment = c i;
-        margin = m i;
-        text = (ap last m ∙ ap (λ x. margin_end + bullets_len x) behind-margin
-            ∙ ap (λ n. margin_end + n) have.bullet) i;
-      }
+      let c_at : ℕ → ℕ = λ n. n + comment_len options in_block (drop n all) in
+      let q_at : ℕ → ℕ = λ n. n + quotes_len (drop n all) in
+      let b_at : ℕ → ℕ = λ n. n + bullets_len (drop n all) in
+      let c : c_at (lead_len all) ≡ length to_quotes = ap c_at l
+      ∙ ap (λ n. length (lead_words lead) + n) (ap (comment_len options in_block)
+      (behind (lead_words lead) all_words all refl) ∙ have.comment) ∙ sym (length-append (lead_words lead) cs) in
+      let q : q_at (c_at (lead_len all)) ≡ length to_bullets = ap q_at c
+      ∙ ap (λ n. length to_quotes + n) (ap quotes_len
+      (behind to_quotes (qs ++ (bs ++ ws)) all at-quotes) ∙ have.quote) ∙ sym (length-append to_quotes qs) in
+      let b : b_at (q_at (c_at (lead_len all))) ≡ length to_text = ap b_at q
+      ∙ ap (λ n. length to_bullets + n) (ap bullets_len (behind to_bullets (bs ++ ws) all at-bullets)
+      ∙ have.bullet) ∙ sym (length-append to_bullets bs) in
+      λ i. record { lead = l i; comment = c i; margin = q i; text = b i }
 
   -- the line that is read of such words
   pub line-is : (options : ReflowOptions) (state : StateText) (raw : List ℕ) (fed : Bool)
@@ -285,7 +220,6 @@ module _ (lead : List ℕ) (cs qs bs ws : List SpacedText) where
       → HaveKinds options state.in_block cs qs bs ws
       → line_as_read options state raw fed ≡ line_by options state raw fed (kinds lead cs qs bs ws)
   line-is options state raw fed is have =
-      let all = with_lead lead all_words in
       ap (λ a. line_from_words options state raw fed a (prefix_ends options state.in_block a))
       (ap spaced_words is.is ∙ line-back lead all_words is.white is.spaced)
       ∙ ap (line_from_words options state raw fed all)

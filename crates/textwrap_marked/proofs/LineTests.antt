@@ -1,23 +1,17 @@
 -- What the lines of a paragraph are not: rules, or deeper than those before them.
-use Rattle.textwrap_marked.proofs.LineNames.{◌≡◌, ℕ, ◌-◌, ◌<◌, ◌&&◌, ◌||◌, not, Bool, true, false, cond}
-use Rattle.textwrap_marked.proofs.LineNames.{List, [], ◌∷◌, ◌==◌, ap, arith, cases_Bool, codes}
-use Rattle.textwrap_marked.proofs.LineNames.{ends_with, length, list_any, nat_eq, nat_lt, nat_tests}
-use Rattle.textwrap_marked.proofs.LineNames.{None, refl, Some, sym, true≢false, eqb-true, ◌∙◌}
-use Rattle.textwrap_marked.proofs.LineNames.{bytes_eq-Decides, bytes_eq, deeper_by, LineText}
-use Rattle.textwrap_marked.proofs.LineNames.{closes_block, first_word, last_word, opens_paragraph}
-use Rattle.textwrap_marked.proofs.LineNames.{has_bytes, has_letter, SpacedText}
-use Rattle.textwrap_marked.proofs.Common.{goes_on}
-use Rattle.textwrap_marks.specs.declared.options.ReflowOptions.{ReflowOptions}
-use Rattle.textwrap_text.proofs.Common.{list_all}
-use Rattle.std.proofs.Math.Bool.{and-false}
-use Rattle.std.specs.Prelude.{nat_le}
-use Rattle.std.specs.Str.{chars}
-use Rattle.textwrap_marked.proofs.FreeLines.{IsOpen}
-use Rattle.textwrap_marked.proofs.OpenBehind.{behind_text}
+use Rattle.std.specs.{Prelude.nat_le, Str.chars}
+use Rattle.textwrap_marked.proofs.Common.{LineText, bytes_eq, eqb-true, list_any, marks_of, goes_on, length}
+use Rattle.textwrap_marked.proofs.Common.{SpacedText, cases_Bool, first_word, has_letter, true≢false, arith}
+use Rattle.textwrap_marked.proofs.Common.{and-false, deeper_by, ends_with, has_bytes, last_word, nat_tests}
+use Rattle.textwrap_marked.proofs.Common.{bytes_eq-Decides, opens_paragraph, ReflowOptions, closes_block, ℕ}
+use Rattle.textwrap_marked.proofs.Common.{nat_eq, nat_lt, codes, false, Bool, List, None, Some, cond, refl}
+use Rattle.textwrap_marked.proofs.Common.{true, ◌&&◌, ◌==◌, ◌||◌, not, sym, ◌-◌, ◌<◌, ◌∙◌, ◌∷◌, ◌≡◌, [], ap}
+use Rattle.textwrap_marked.proofs.OpenBehind.{behind_text, IsOpen}
 use Rattle.textwrap_marked.specs.Lines.{begins_code}
-use Rattle.textwrap_marks.specs.Columns.{depth_of, DepthText, is_deeper, marks_of}
-use Rattle.textwrap_marks.specs.Signs.{is_example_key, is_rule, is_rule_characters}
+use Rattle.textwrap_marks.specs.Columns.{DepthText, is_deeper, depth_of}
+use Rattle.textwrap_marks.specs.Signs.{is_rule_characters, is_example_key, is_rule}
 use Rattle.textwrap_marks.specs.Words.{is_letter_or_digit}
+use Rattle.textwrap_text.proofs.Common.{and_right, list_all}
 
 -- ---- no rule begins with a letter
 
@@ -37,19 +31,13 @@ rule-none : (cs : List ℕ) → list_any is_letter_or_digit cs ≡ true → is_r
 rule-none [] some = absurd (true≢false (sym some))
 rule-none (c ∷ cs) some = cut (list_all (λ x. x == c) (c ∷ cs)) refl
   where
-    ended : (a b d : Bool) → b ≡ false → (a && b && d) ≡ false
-    ended a b d is = grind (arith, cases_Bool, is)
-
-    marked : (a b x y z : Bool) → x ≡ true → (a && b && not (x || y || z)) ≡ false
-    marked a b x y z is = grind (arith, cases_Bool, is)
-
     cut : (t : Bool) → list_all (λ x. x == c) (c ∷ cs) ≡ t → is_rule_characters (c ∷ cs) ≡ false
     cut false is =
-        ended (nat_lt 2 (length (c ∷ cs))) (list_all (λ x. x == c) (c ∷ cs))
-        (not (is_letter_or_digit c || c == 96 || c == 126)) is
+        ap (λ b. b && not (is_letter_or_digit c || c == 96 || c == 126))
+        (and_right (nat_lt 2 (length (c ∷ cs))) (list_all (λ x. x == c) (c ∷ cs)) is)
     cut true is =
-        marked (nat_lt 2 (length (c ∷ cs))) (list_all (λ x. x == c) (c ∷ cs)) (is_letter_or_digit c)
-        (c == 96) (c == 126) (same-any is_letter_or_digit c (c ∷ cs) is some)
+        and_right (nat_lt 2 (length (c ∷ cs)) && list_all (λ x. x == c) (c ∷ cs)) _
+        (ap (λ b. not (b || c == 96 || c == 126)) (same-any is_letter_or_digit c (c ∷ cs) is some))
 
 pub letter-no-rule : (words : List SpacedText) → has_letter (first_word words) ≡ true
     → is_rule words ≡ false

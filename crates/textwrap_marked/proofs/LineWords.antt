@@ -1,24 +1,18 @@
 -- The lines of a division of a paragraph's pieces are lines of its words, parted where they may be.
-use Rattle.textwrap_marked.proofs.LineNames.{◌≡◌, ◌≢◌, ℕ, ◌+◌, ◌-◌, ◌<◌, Bool, true, false, cond, List}
-use Rattle.textwrap_marked.proofs.LineNames.{[], ◌∷◌, ◌++◌, All, All-cons, All-head, All-nil, All-tail}
-use Rattle.textwrap_marked.proofs.LineNames.{ap, append_assoc, append-nil, arith, get_or, length}
-use Rattle.textwrap_marked.proofs.LineNames.{length-append, map, refl, subst, sym, take, take_all}
-use Rattle.textwrap_marked.proofs.LineNames.{take_more, ⊤, ◌∙◌, ◌||◌, ◌==◌, all-right, flat, blank}
-use Rattle.textwrap_marked.proofs.LineNames.{is_blank, word_of, WordText, covered, blanks, spaced_text}
-use Rattle.textwrap_marked.proofs.LineNames.{SpacedText}
-use Rattle.textwrap_marked.proofs.Common.{is_cut, pieces}
-use Rattle.textwrap_marks.specs.declared.options.ReflowOptions.{ReflowOptions}
-use Rattle.textwrap_base.proofs.Common.{IsDivision}
-use Rattle.textwrap_text.proofs.Common.{length-take, take-append-add, final_blanks, trimmed_len}
-use Rattle.textwrap_text.proofs.Common.{without_final_blanks}
-use Rattle.textwrap_base.proofs.Cost.Chosen.{division_joined}
-use Rattle.textwrap_text.proofs.Lists.Parts.{some_from_nonempty}
 use Rattle.std.proofs.lemmas.List.Elements.{All-get_or}
+use Rattle.textwrap_base.proofs.Cost.Chosen.{division_joined}
+use Rattle.textwrap_marked.proofs.Common.{Bool, List, cond, flat, refl, take, true, ◌++◌, ◌==◌, All, map}
+use Rattle.textwrap_marked.proofs.Common.{ReflowOptions, length-append, append_assoc, final_blanks, arith}
+use Rattle.textwrap_marked.proofs.Common.{WordText, is_blank, take_all, All-nil, covered, or-left, blanks}
+use Rattle.textwrap_marked.proofs.Common.{onto_front, with_blank, all-right, All-cons, All-head, All-tail}
+use Rattle.textwrap_marked.proofs.Common.{spaced_text, trimmed_len, IsDivision, SpacedText, append-nil, ℕ}
+use Rattle.textwrap_marked.proofs.Common.{sym, ◌+◌, ◌-◌, ◌<◌, ◌∙◌, ◌∷◌, ◌≡◌, ◌≢◌, [], ap}
+use Rattle.textwrap_marked.proofs.Common.{word_of, get_or, is_cut, length, pieces, blank, false, subst, ⊤}
+use Rattle.textwrap_marked.proofs.SpacedBack.{IsPlain, IsInk}
+use Rattle.textwrap_text.proofs.Common.{without_final_blanks, take-append-add, length-take, take_more}
+use Rattle.textwrap_text.proofs.Lists.Parts.{some_from_nonempty}
 use Rattle.textwrap_words.proofs.Common.{piece}
-use Rattle.textwrap_words.proofs.Word.Texts.{AreBlanks, trimmed-front, word_of-seam}
-use Rattle.textwrap_marked.proofs.SpacedBack.{IsInk}
-use Rattle.textwrap_marked.proofs.WordsIn.{IsPlain}
-use Rattle.textwrap_marked.specs.Pieces.{onto_front, with_blank}
+use Rattle.textwrap_words.proofs.Word.Texts.{trimmed-front, word_of-seam, AreBlanks}
 
 -- the gap before a word with so many others behind it: a blank, and more where lines are justified
 abbrev pub gap : Bool → (ℕ → ℕ) → ℕ → List ℕ
@@ -49,11 +43,7 @@ joined words = shown false (λ n. 0) words
 -- ---- one word
 
 pub ink-blank : (c : ℕ) → IsInk c → is_blank c ≡ false
-ink-blank c ink = cut (is_blank c) refl
-  where
-    cut : (b : Bool) → is_blank c ≡ b → is_blank c ≡ false
-    cut false is = is
-    cut true is = let white : true ≡ false = sym (ap (λ b. b || (c == 9)) is) ∙ ink in cc
+ink-blank c ink = or-left (is_blank c) (c == 9) ink
 
 -- its last byte is no blank
 word-ends : (word : List ℕ) → IsPlain word

@@ -1,37 +1,28 @@
 -- Lines that stand for themselves: no line of a paragraph does.
-use Rattle.textwrap_marked.proofs.LineNames.{◌≡◌, ℕ, ◌&&◌, ◌||◌, not, Bool, true, false, List, [], ◌∷◌, ◌++◌}
-use Rattle.textwrap_marked.proofs.LineNames.{All, All-append, All-cons, All-head, All-map, All-nil, All-tail, All-weaker, ap, ap₂, arith}
-use Rattle.textwrap_marked.proofs.LineNames.{bullets_len, bytes_eq, bytes_eq-Decides, cases_Bool, codes, cond}
-use Rattle.textwrap_marked.proofs.LineNames.{begins_text, comment_len, false_from_ne_true, first_word, has_columns, has_letter, is_among, is_bullet, ◌<◌}
-use Rattle.textwrap_marked.proofs.LineNames.{is_column_word, is_comment_at, is_quote, length, line_as_read}
-use Rattle.textwrap_marked.proofs.LineNames.{list_any, map, refl, spaced_text, SpacedText, StateText}
-use Rattle.textwrap_marked.proofs.LineNames.{suc, sym, true≢false, without_returns, ◌∙◌}
-use Rattle.textwrap_marks.specs.declared.options.ReflowOptions.{ReflowOptions}
-use Rattle.textwrap_text.proofs.Common.{map-append}
-use Rattle.std.proofs.lemmas.List.Elements.{filter-append}
+use Rattle.std.proofs.lemmas.{Bool.or_right, Bool.or_left, List.Elements.filter-append}
 use Rattle.std.specs.List.{filter}
-use Rattle.textwrap_marked.proofs.HangingForms.{IsHanging}
-use Rattle.textwrap_marked.proofs.HangingKinds.{IsFull, quotes-are}
-use Rattle.textwrap_marked.proofs.LaterLines.{IsOfText}
-use Rattle.textwrap_marked.proofs.LineKinds.{HaveKinds}
-use Rattle.textwrap_marked.proofs.OpenBehind.{no-columns}
-use Rattle.textwrap_marked.proofs.ShownLines.{line-split, line-words}
+use Rattle.textwrap_marked.proofs.Common.{All-map, All-nil, or-left, is_box, length, false, subst, Bool, ap}
+use Rattle.textwrap_marked.proofs.Common.{AreShown, LineText, bytes_eq, is_quote, list_any, none-any, codes}
+use Rattle.textwrap_marked.proofs.Common.{List, cond, refl, true, ◌&&◌, ◌++◌, ◌||◌, All, ap₂, map, not, suc}
+use Rattle.textwrap_marked.proofs.Common.{SpacedText, first_word, has_letter, map-append, told-apart, arith}
+use Rattle.textwrap_marked.proofs.Common.{StateText, and-false, is_bullet, All-cons, All-head, All-tail, []}
+use Rattle.textwrap_marked.proofs.Common.{comment_len, has_columns, lines_alone, spaced_text, All-weaker}
+use Rattle.textwrap_marked.proofs.Common.{is_comment_at, line_as_read, begins_text, bullets_len, All-append}
+use Rattle.textwrap_marked.proofs.Common.{sym, ◌<◌, ◌∙◌, ◌∷◌, ◌≡◌}
+use Rattle.textwrap_marked.proofs.Common.{without_returns, is_column_word, words_of_lines, ReflowOptions, ℕ}
+use Rattle.textwrap_marked.proofs.HangingKinds.{quotes-are, IsFull}
+use Rattle.textwrap_marked.proofs.LaterLines.{one-bullet, IsOfText}
+use Rattle.textwrap_marked.proofs.ShownLines.{shown-append, shows-later, line-split, line-words, own_shown}
 use Rattle.textwrap_marked.proofs.SpacedBack.{AreSpaced, IsWhite}
-use Rattle.textwrap_marks.proofs.ListLemmas.{and-left, and-right, none-any, or-left}
-use Rattle.textwrap_marks.specs.Prefixes.{is_box}
+use Rattle.textwrap_marked.proofs.{HangingForms.IsHanging, LineKinds.HaveKinds, LineKinds.some-if}
+use Rattle.textwrap_marked.proofs.{OpenBehind.no-columns, ShownLines.shows-own}
+use Rattle.textwrap_marked.specs.Laws.{begins_no_text, HasNoBarMark, is_line_mark, stands_alone, LineShows}
 use Rattle.textwrap_marks.specs.Signs.{is_sign}
-use Rattle.textwrap_marked.specs.Laws.{begins_no_text, HasNoBarMark, is_line_mark, lines_alone}
-use Rattle.textwrap_marked.specs.Laws.{stands_alone}
+use Rattle.textwrap_text.proofs.Common.{and_parts}
 
 -- a word that is no bar
 abbrev pub NoBar : List ℕ → Type 0
 NoBar word = bytes_eq word (codes "|") ≡ false
-
--- what the bar is not
-other : (test : List ℕ → Bool) (word : List ℕ) → test word ≡ true → test (codes "|") ≡ false → NoBar word
-other test word is none =
-    false_from_ne_true (bytes_eq word (codes "|")) (λ same.
-    true≢false (sym is ∙ ap test ((bytes_eq-Decides word (codes "|")).0 same) ∙ none))
 
 module _ (options : ReflowOptions) (plain : HasNoBarMark options) where
   -- a mark before a text, and no bar
@@ -43,105 +34,65 @@ module _ (options : ReflowOptions) (plain : HasNoBarMark options) where
 
   comment-mark : (in_block : Bool) (word : List ℕ) → is_comment_at options in_block word ≡ true
       → is_line_mark options word ≡ true
-  comment-mark true word is =
-      first (is_comment_at options true word) (is_comment_at options false word) (is_quote word) (is_bullet word)
-      (bytes_eq word (codes "[")) (bytes_eq word (codes "]")) is
-    where
-      first : (a b c d e f : Bool) → a ≡ true → (a || b || c || d || e || f) ≡ true
-      first a b c d e f is = grind (arith, cases_Bool)
+  comment-mark true word is = or_left _ _ (or_left _ _ (or_left _ _ (or_left _ _ (or_left _ _ is))))
   comment-mark false word is =
-      second (is_comment_at options true word) (is_comment_at options false word) (is_quote word) (is_bullet word)
-      (bytes_eq word (codes "[")) (bytes_eq word (codes "]")) is
-    where
-      second : (a b c d e f : Bool) → b ≡ true → (a || b || c || d || e || f) ≡ true
-      second a b c d e f is = grind (arith, cases_Bool)
+      or_left _ _ (or_left _ _ (or_left _ _ (or_left _ _ (or_right _ _ is))))
 
-  comment-no-bar : (in_block : Bool) (word : List ℕ) → is_comment_at options in_block word ≡ true → NoBar word
-  comment-no-bar in_block word is = other (is_comment_at options in_block) word is (none in_block)
-    where
-      outside : (a b : Bool) → a ≡ false → (a || (b && false)) ≡ false
-      outside a b is = grind (arith, cases_Bool)
-
-      none : (in_block : Bool) → is_comment_at options in_block (codes "|") ≡ false
-      none true = refl
-      none false = outside (is_among (codes "|") options.markers.now) (not options.markdown) plain
+  no-bar : (in_block : Bool) → is_comment_at options in_block (codes "|") ≡ false
+  no-bar true = refl
+  no-bar false =
+      ap (λ b. b || (not options.markdown && false)) plain ∙ and-false (not options.markdown)
 
   comment-is : (in_block : Bool) (w : SpacedText) → is_comment_at options in_block w.word ≡ true → IsLineMark w
-  comment-is in_block w is =
-      record { mark = comment-mark in_block w.word is; no_bar = comment-no-bar in_block w.word is }
+  comment-is in_block w is = record {
+    mark = comment-mark in_block w.word is;
+    no_bar = told-apart (is_comment_at options in_block) w.word (codes "|") is (no-bar in_block);
+  }
 
   comments-are : (in_block : Bool) (cs rest : List SpacedText)
       → comment_len options in_block (cs ++ rest) ≡ length cs → All IsLineMark cs
   comments-are in_block [] rest is = All-nil IsLineMark
-  comments-are in_block (c ∷ cs) rest is = cut (is_comment_at options in_block c.word) refl is
-    where
-      cut : (b : Bool) → is_comment_at options in_block c.word ≡ b → cond b 1 0 ≡ length (c ∷ cs)
-          → All IsLineMark (c ∷ cs)
-      cut false comment is = absurd (omega (arith, is))
-      cut true comment is = one cs is
-        where
-          one : (cs : List SpacedText) → 1 ≡ length (c ∷ cs) → All IsLineMark (c ∷ cs)
-          one [] is = All-cons IsLineMark c [] (comment-is in_block c comment) (All-nil IsLineMark)
-          one (d ∷ cs) is = absurd (omega (arith, is))
+  comments-are in_block (c ∷ []) rest is =
+      All-cons IsLineMark c [] (comment-is in_block c (some-if (is_comment_at options in_block c.word) 0 0 is).0)
+      (All-nil IsLineMark)
+  comments-are in_block (c ∷ d ∷ cs) rest is =
+      absurd (omega (arith, (some-if (is_comment_at options in_block c.word) 0 (suc (length cs)) is).1))
 
   quotes-line-marks : (qs : List SpacedText) → All (λ w. is_quote w.word ≡ true) qs → All IsLineMark qs
   quotes-line-marks qs all =
       All-weaker (λ w. is_quote w.word ≡ true) IsLineMark (λ w is. record {
-        mark = third (is_comment_at options true w.word) (is_comment_at options false w.word) (is_quote w.word)
-            (is_bullet w.word) (bytes_eq w.word (codes "[")) (bytes_eq w.word (codes "]")) is;
-        no_bar = other is_quote w.word is refl;
+        mark = or_left _ _ (or_left _ _ (or_left _ _ (or_right _ _ is)));
+        no_bar = told-apart is_quote w.word (codes "|") is refl;
       }) qs all
-    where
-      third : (a b c d e f : Bool) → c ≡ true → (a || b || c || d || e || f) ≡ true
-      third a b c d e f is = grind (arith, cases_Bool)
 
   bullet-is : (w : SpacedText) → is_bullet w.word ≡ true → IsLineMark w
   bullet-is w is = record {
-    mark = fourth (is_comment_at options true w.word) (is_comment_at options false w.word) (is_quote w.word)
-        (is_bullet w.word) (bytes_eq w.word (codes "[")) (bytes_eq w.word (codes "]")) is;
-    no_bar = other is_bullet w.word is refl;
+    mark = or_left _ _ (or_left _ _ (or_right _ _ is));
+    no_bar = told-apart is_bullet w.word (codes "|") is refl;
   }
-    where
-      fourth : (a b c d e f : Bool) → d ≡ true → (a || b || c || d || e || f) ≡ true
-      fourth a b c d e f is = grind (arith, cases_Bool)
 
   box-is : (w v : SpacedText) → is_box w v ≡ true → IsLineMark w × IsLineMark v
   box-is w v is =
-      let opens = and-left (bytes_eq w.word (codes "[")) (bytes_eq w.white (codes " ")) (and-left _ _ is) in
-      let closes = and-right (bytes_eq w.word (codes "[") && bytes_eq w.white (codes " ")) _ is in (
+      let (front, closes) = and_parts (bytes_eq w.word (codes "[") && bytes_eq w.white (codes " ")) _ is in
+      let opens = (and_parts (bytes_eq w.word (codes "[")) (bytes_eq w.white (codes " ")) front).0 in (
         record {
-          mark = fifth (is_comment_at options true w.word) (is_comment_at options false w.word) (is_quote w.word)
-              (is_bullet w.word) (bytes_eq w.word (codes "[")) (bytes_eq w.word (codes "]")) opens;
-          no_bar = other (λ word. bytes_eq word (codes "[")) w.word opens refl;
+          mark = or_left _ _ (or_right _ _ opens);
+          no_bar = told-apart (λ word. bytes_eq word (codes "[")) w.word (codes "|") opens refl;
         },
         record {
-          mark = sixth (is_comment_at options true v.word) (is_comment_at options false v.word) (is_quote v.word)
-              (is_bullet v.word) (bytes_eq v.word (codes "[")) (bytes_eq v.word (codes "]")) closes;
-          no_bar = other (λ word. bytes_eq word (codes "]")) v.word closes refl;
+          mark = or_right _ _ closes;
+          no_bar = told-apart (λ word. bytes_eq word (codes "]")) v.word (codes "|") closes refl;
         },
       )
-    where
-      fifth : (a b c d e f : Bool) → e ≡ true → (a || b || c || d || e || f) ≡ true
-      fifth a b c d e f is = grind (arith, cases_Bool)
-
-      sixth : (a b c d e f : Bool) → f ≡ true → (a || b || c || d || e || f) ≡ true
-      sixth a b c d e f is = grind (arith, cases_Bool)
 
   bullets-are : (bs ws : List SpacedText) → bullets_len (bs ++ ws) ≡ length bs → All IsLineMark bs
   bullets-are [] ws is = All-nil IsLineMark
-  bullets-are (w ∷ []) [] is = cut (is_bullet w.word) refl is
-    where
-      cut : (b : Bool) → is_bullet w.word ≡ b → cond b 1 0 ≡ length (w ∷ []) → All IsLineMark (w ∷ [])
-      cut false bullet is = absurd (omega (arith, is))
-      cut true bullet is = All-cons IsLineMark w [] (bullet-is w bullet) (All-nil IsLineMark)
-  bullets-are (w ∷ []) (v ∷ ws) is = cut (is_bullet w.word) refl (is_box w v) is
-    where
-      cut : (b : Bool) → is_bullet w.word ≡ b → (x : Bool)
-          → cond b (suc (bullets_len (v ∷ ws))) (cond x (suc (suc (bullets_len ws))) 0)
-          ≡ length (w ∷ []) → All IsLineMark (w ∷ [])
-      cut true bullet x is = All-cons IsLineMark w [] (bullet-is w bullet) (All-nil IsLineMark)
-      cut false bullet true is = absurd (omega (arith, is))
-      cut false bullet false is = absurd (omega (arith, is))
+  bullets-are (w ∷ []) [] is =
+      All-cons IsLineMark w [] (bullet-is w (some-if (is_bullet w.word) 0 0 is).0) (All-nil IsLineMark)
+  bullets-are (w ∷ []) (v ∷ ws) is =
+      let (bullet, none) =
+      one-bullet (is_bullet w.word) (is_box w v) (bullets_len (v ∷ ws)) (bullets_len ws) is in
+      All-cons IsLineMark w [] (bullet-is w bullet) (All-nil IsLineMark)
   bullets-are (w ∷ v ∷ bs) ws is =
       cut (bullets-are (v ∷ bs) ws) (bullets-are bs ws) (is_bullet w.word) refl (is_box w v) refl is
     where
@@ -174,10 +125,7 @@ module _ (options : ReflowOptions) (plain : HasNoBarMark options) where
   text-begins [] (w ∷ ws) all starred begins some =
       let later = map (λ (v : SpacedText). v.word) ws in
       ap (λ b. cond b false (cond (is_line_mark options w.word) (begins_no_text options later) true))
-      (unstarred (has_letter w.word) (not (is_sign w.word)) _ begins)
-    where
-      unstarred : (a b c : Bool) → (a && b && c) ≡ true → (a && b && true) ≡ true
-      unstarred a b c is = grind (arith, cases_Bool)
+      (ap (λ b. b && true) (and_parts (has_letter w.word && not (is_sign w.word)) _ begins).0)
   text-begins (m ∷ marks) ws all starred begins some =
       let later = begins_no_text options (map (λ (w : SpacedText). w.word) marks ++ map (λ (w : SpacedText). w.word) ws) in
       let behind = text-begins marks ws (All-tail IsLineMark m marks all) starred begins some in
@@ -213,18 +161,17 @@ module _ (options : ReflowOptions) (plain : HasNoBarMark options) where
       not-alone line lead (cs ++ (qs ++ bs)) vs white full spaced some is (line-marks in_block cs qs bs ws have)
 
   -- nor a later line behind a hanging form
-  pub later-not-alone : (in_block : Bool) (hanging lead : List ℕ) (ds rs : List SpacedText)
-      → IsHanging options in_block hanging lead ds rs → (state : StateText) (raw : List ℕ) (fed : Bool)
-      → let line = line_as_read options state raw fed in
+  pub later-not-alone : (in_block : Bool) (hanging : List ℕ) → IsHanging options in_block hanging
+      → (state : StateText) (raw : List ℕ) (fed : Bool) → let line = line_as_read options state raw fed in
       IsOfText options in_block hanging state line → line.prefix ≡ hanging
       → stands_alone options (without_returns raw) ≡ false
-  later-not-alone in_block hanging lead ds rs hang state raw fed of prefix =
+  later-not-alone in_block hanging hang state raw fed of prefix =
       let line = line_as_read options state raw fed in
-      not-alone (without_returns raw) lead (ds ++ rs) line.words hang.white hang.full of.spaced of.some
+      not-alone (without_returns raw) hang.lead (hang.cs ++ hang.qs) line.words hang.white hang.full of.spaced of.some
       (line-split options state raw fed ∙ ap (λ p. p ++ spaced_text line.words) (prefix ∙ hang.is))
-      (All-append IsLineMark ds rs
-      (All-weaker (λ w. is_comment_at options in_block w.word ≡ true) IsLineMark (comment-is in_block) ds
-      hang.marks.comment) (quotes-line-marks rs hang.marks.quote)) of.starred of.begins of.columns
+      (All-append IsLineMark hang.cs hang.qs
+      (All-weaker (λ w. is_comment_at options in_block w.word ≡ true) IsLineMark (comment-is in_block) hang.cs
+      hang.marks.comment) (quotes-line-marks hang.qs hang.marks.quote)) of.starred of.begins of.columns
 
 module _ (options : ReflowOptions) where
   pub alone-skip : (line : List ℕ) (lines : List (List ℕ)) → stands_alone options (without_returns line) ≡ false
@@ -232,8 +179,72 @@ module _ (options : ReflowOptions) where
   alone-skip line lines is =
       ap (λ b. cond b (without_returns line ∷ lines_alone options lines) (lines_alone options lines)) is
 
-  pub alone-append : (lines later : List (List ℕ))
+  alone-append : (lines later : List (List ℕ))
       → lines_alone options (lines ++ later) ≡ lines_alone options lines ++ lines_alone options later
   alone-append lines later =
       ap (filter (stands_alone options)) (map-append without_returns lines later)
       ∙ filter-append (stands_alone options) (map without_returns lines) (map without_returns later)
+
+  -- lines that show the words of these, and none of them stands for itself
+  pub record AreTextLines (raws : List (List ℕ)) (lines : List LineText) : Type 0 where
+    pub shown : AreShown options raws (words_of_lines lines)
+    pub alone : HasNoBarMark options → lines_alone options raws ≡ []
+
+  pub no-lines : AreTextLines [] []
+  no-lines = record { shown = refl; alone = λ plain. refl }
+
+  -- one more, behind a hanging form
+  pub more-lines : (in_block : Bool) (hanging : List ℕ) → IsHanging options in_block hanging
+      → (state : StateText) (raw : List ℕ) (fed : Bool) (raws : List (List ℕ)) (lines : List LineText)
+      → let line = line_as_read options state raw fed in
+      IsOfText options in_block hanging state line → line.prefix ≡ hanging → AreTextLines raws lines
+      → AreTextLines (raw ∷ raws) (line ∷ lines)
+  more-lines in_block hanging hang state raw fed raws lines of prefix are = record {
+    shown = (
+      _,
+      words_of_lines lines,
+      shows-later options in_block hanging hang state raw fed of prefix,
+      are.shown,
+      refl,
+    );
+    alone = λ plain. alone-skip raw raws (later-not-alone options plain in_block hanging hang state raw fed of prefix)
+        ∙ are.alone plain;
+  }
+
+  -- lines that show the same, and of which the same stand for themselves
+  pub record AreAlike (lines others : List (List ℕ)) : Type 0 where
+    pub shown : List (List ℕ)
+    pub these : AreShown options lines shown
+    pub those : AreShown options others shown
+    pub alone : HasNoBarMark options → lines_alone options others ≡ lines_alone options lines
+
+  pub none-alike : AreAlike [] []
+  none-alike = record { shown = []; these = refl; those = refl; alone = λ plain. refl }
+
+  -- a line with the same content more
+  pub more-alike : (raw new : List ℕ) (lines others : List (List ℕ))
+      → without_returns new ≡ without_returns raw → AreAlike lines others → AreAlike (raw ∷ lines) (new ∷ others)
+  more-alike raw new lines others same alike =
+      let own = shows-own options (without_returns raw) in record {
+        shown = own_shown (without_returns raw) ++ alike.shown;
+        these = (_, alike.shown, own, alike.these, refl);
+        those = (
+          own_shown (without_returns raw),
+          alike.shown,
+          subst (λ l. LineShows options l (own_shown (without_returns raw))) (sym same) own,
+          alike.those,
+          refl,
+        );
+        alone = λ plain.
+            ap₂ (λ line lines. cond (stands_alone options line) (line ∷ lines) lines) same (alike.alone plain);
+      }
+
+  pub alike-append : (lines others later more : List (List ℕ)) → AreAlike lines others → AreAlike later more
+      → AreAlike (lines ++ later) (others ++ more)
+  alike-append lines others later more front back = record {
+    shown = front.shown ++ back.shown;
+    these = shown-append options lines later front.shown back.shown front.these back.these;
+    those = shown-append options others more front.shown back.shown front.those back.those;
+    alone = λ plain. alone-append others more ∙ ap₂ (λ a b. a ++ b) (front.alone plain) (back.alone plain)
+        ∙ sym (alone-append lines later);
+  }

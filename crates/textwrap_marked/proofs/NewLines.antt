@@ -1,38 +1,28 @@
 -- The lines of a paragraph as they are printed, read again: behind the first of them.
-use Rattle.textwrap_marked.proofs.LineNames.{◌≡◌, ℕ, ◌<◌, ◌&&◌, ◌||◌, not, Bool, true, false, List, []}
-use Rattle.textwrap_marked.proofs.LineNames.{◌∷◌, ◌++◌, ◌==◌, All, All-nil, ap, append-nil}
-use Rattle.textwrap_marked.proofs.LineNames.{append_assoc, arith, cases_Bool, codes, ends_with}
-use Rattle.textwrap_marked.proofs.LineNames.{length, map, nat_eq, nat_lt, refl, subst, sym}
-use Rattle.textwrap_marked.proofs.LineNames.{◌∙◌, all-left, all-right, bytes_eq, as_title, entered}
-use Rattle.textwrap_marked.proofs.LineNames.{is_ended, LineText, passed, StateText, without_returns}
-use Rattle.textwrap_marked.proofs.LineNames.{begins_text, closes_block, first_word, is_key, last_white}
-use Rattle.textwrap_marked.proofs.LineNames.{last_word, opens_paragraph, contains, has_byte, has_letter}
-use Rattle.textwrap_marked.proofs.LineNames.{spaced_text, SpacedText}
-use Rattle.textwrap_marked.proofs.Common.{AreShown, HasNoBarMark, lines_alone, words_of_lines}
-use Rattle.textwrap_marks.specs.declared.options.ReflowOptions.{ReflowOptions}
-use Rattle.textwrap_text.proofs.Common.{slice_index}
-use Rattle.textwrap_marked.proofs.FreeLines.{AreFree}
-use Rattle.textwrap_marked.proofs.HangingForms.{IsHanging}
+use Rattle.textwrap_marked.proofs.Common.{closes_block, begins_text, spaced_text, SpacedText, append-nil, ℕ}
+use Rattle.textwrap_marked.proofs.Common.{contains, has_byte, is_ended, or-left, is_key, length, nat_eq, []}
+use Rattle.textwrap_marked.proofs.Common.{ends_with, last_word, LineText, all-left, as_title, bytes_eq, All}
+use Rattle.textwrap_marked.proofs.Common.{first_word, has_letter, last_white, StateText, all-right, All-nil}
+use Rattle.textwrap_marked.proofs.Common.{nat_lt, passed, arith, codes, false, subst, Bool, List, refl, map}
+use Rattle.textwrap_marked.proofs.Common.{opens_paragraph, without_returns, words_of_lines, ReflowOptions}
+use Rattle.textwrap_marked.proofs.Common.{true, ◌&&◌, ◌++◌, ◌||◌, not, sym, ◌<◌, ◌∙◌, ◌∷◌, ◌≡◌, ap}
+use Rattle.textwrap_marked.proofs.LineTests.{letter-no-rule, behind-same, open-behind, goes-true}
+use Rattle.textwrap_marked.proofs.LineWords.{AreCutInto, MayPart, spread, shown}
+use Rattle.textwrap_marked.proofs.LinesAlone.{AreTextLines, more-lines, no-lines}
+use Rattle.textwrap_marked.proofs.OpenBehind.{behind_text, text-letter, AreFree}
+use Rattle.textwrap_marked.proofs.ParagraphLines.{later-new, IsNew}
+use Rattle.textwrap_marked.proofs.ReturnsOff.{returns-none, ends-behind, returns-off, return_if, shown-end}
+use Rattle.textwrap_marked.proofs.ReturnsOff.{white-end, EndsWell}
+use Rattle.textwrap_marked.proofs.SpreadWords.{last_text, MayGoOn, goes-on, no-mark}
+use Rattle.textwrap_marked.proofs.SpreadWords.{spread-columns, spread-spaced, spread-first, spread-white}
+use Rattle.textwrap_marked.proofs.SpreadWords.{spread-words, spread-last, spread-end, spread-len, last-word}
+use Rattle.textwrap_marked.proofs.TextBlocks.{AreClosing, open_still, last_line, read-more, NoColumn}
+use Rattle.textwrap_marked.proofs.TextBlocks.{as-title-none, AreTextWords, AreOneBlock, last-behind, read}
+use Rattle.textwrap_marked.proofs.TextBlocks.{title_of, NoClose, line_at}
+use Rattle.textwrap_marked.proofs.WordEnds.{closing-after, closing-alone, closes-last, deeper-same}
+use Rattle.textwrap_marked.proofs.WordEnds.{spread-free, spread-none, cut-facts, part-cut}
+use Rattle.textwrap_marked.proofs.{HangingForms.IsHanging, SpacedBack.IsPlain, SpacedBack.IsWhite}
 use Rattle.textwrap_marks.proofs.Letterless.{no-comment}
-use Rattle.textwrap_marked.proofs.LineTests.{behind-same, goes-true, letter-no-rule, open-behind}
-use Rattle.textwrap_marked.proofs.LineWords.{AreCutInto, MayPart, shown, spread}
-use Rattle.textwrap_marked.proofs.OpenBehind.{behind_text, text-letter}
-use Rattle.textwrap_marked.proofs.ParagraphLines.{IsNew, later-new}
-use Rattle.textwrap_marked.proofs.ReturnsOff.{ends-behind, EndsWell, return_if, shown-end}
-use Rattle.textwrap_marked.proofs.ReturnsOff.{returns-off, white-end}
-use Rattle.textwrap_marked.proofs.ShownLines.{shows-later}
-use Rattle.textwrap_marked.proofs.SpacedBack.{IsWhite}
-use Rattle.textwrap_marked.proofs.SpreadWords.{goes-on, last_text, last-word, MayGoOn, no-mark}
-use Rattle.textwrap_marked.proofs.SpreadWords.{spread-columns, spread-end, spread-first}
-use Rattle.textwrap_marked.proofs.SpreadWords.{spread-last, spread-len, spread-spaced, spread-white}
-use Rattle.textwrap_marked.proofs.SpreadWords.{spread-words}
-use Rattle.textwrap_marked.proofs.LinesAlone.{alone-skip, later-not-alone}
-use Rattle.textwrap_marked.proofs.TextBlocks.{AreClosing, AreOneBlock, AreTextWords, as-title-none}
-use Rattle.textwrap_marked.proofs.TextBlocks.{last-behind, last_line, line_at, NoClose, NoColumn}
-use Rattle.textwrap_marked.proofs.TextBlocks.{read, read-more, title_of}
-use Rattle.textwrap_marked.proofs.WordEnds.{closes-last, closing-after, closing-alone, cut-facts}
-use Rattle.textwrap_marked.proofs.WordEnds.{deeper-same, part-cut, spread-free, spread-none}
-use Rattle.textwrap_marked.proofs.WordsIn.{IsPlain}
 
 -- ---- the text of a printed line
 
@@ -49,8 +39,8 @@ pub raw-text : (justify : Bool) (gaps : ℕ → ℕ) (prefix word : List ℕ) (w
     → without_returns ((prefix ++ spaced_text (spread justify gaps (word ∷ words) end)) ++ return_if b)
     ≡ prefix ++ spaced_text (spread justify gaps (word ∷ words) end)
 raw-text justify gaps prefix word words end b plain none white =
-    returns-off (prefix ++ spaced_text (spread justify gaps (word ∷ words) end)) b
-    (text-ends justify gaps prefix word words end plain none white)
+    let text = prefix ++ spaced_text (spread justify gaps (word ∷ words) end) in
+    returns-off text b (returns-none text (text-ends justify gaps prefix word words end plain none white))
 
 -- ---- the words of lines
 
@@ -121,8 +111,8 @@ module _ (justify : Bool) (wide : ℕ → ℕ → ℕ) (returns more : Bool) (en
 
 -- ---- the lines behind the first
 
-module _ (options : ReflowOptions) (in_block starred : Bool) (wide : ℕ → ℕ → ℕ) (hanging lead : List ℕ)
-    (ds rs : List SpacedText) (hang : IsHanging options in_block hanging lead ds rs)
+module _ (options : ReflowOptions) (in_block starred : Bool) (wide : ℕ → ℕ → ℕ) (hanging : List ℕ)
+    (hang : IsHanging options in_block hanging)
     (margin : starred ≡ (in_block && not (has_byte 42 hanging))) (returns more : Bool) (end : List ℕ)
     (white : All IsWhite end) (last : List SpacedText) (left : List (List ℕ)) (rest : List LineText)
     (reads : rest ≡ read options (behind_text in_block hanging last) left)
@@ -147,10 +137,11 @@ module _ (options : ReflowOptions) (in_block starred : Bool) (wide : ℕ → ℕ
     abbrev laid : (ℕ → ℕ) → List (List ℕ) → List ℕ → List SpacedText
     laid gaps words tail = spread options.justify gaps words tail
 
+    -- lines of the other words behind a line of these, where `left` follows
     pub record AreNewBehind (state : StateText) (line : LineText) (words : List (List ℕ))
-        (raws : List (List ℕ)) : Type 0 where
+        (news : List (List ℕ)) : Type 0 where
       pub lines : List LineText
-      pub read_is : read options (passed state line) raws ≡ lines ++ rest
+      pub read_is : read options (passed state line) (news ++ left) ≡ lines ++ rest
       pub untitled : title_of line (lines ++ rest) ≡ false
       pub one : AreOneBlock line lines
       pub hangs : (last_line line lines).hanging ≡ hanging
@@ -159,17 +150,14 @@ module _ (options : ReflowOptions) (in_block starred : Bool) (wide : ℕ → ℕ
       pub space : last_white (last_line line lines).words ≡ end
       pub fed : (last_line line lines).fed ≡ nat_lt 0 (length left)
       pub spells : words_of_lines (line ∷ lines) ≡ words
-      pub shown : (after : List (List ℕ)) → AreShown options left after
-          → (front : List (List ℕ)) × AreShown options raws front
-          × (map (λ w. w.word) line.words ++ front ≡ words ++ after)
-      pub alone : HasNoBarMark options → lines_alone options raws ≡ lines_alone options left
+      pub texts : AreTextLines options news lines
 
     last-new : (word : List ℕ) (words : List (List ℕ)) (state : StateText) (line : LineText)
         (prefix : List ℕ) → AreTextWords in_block (word ∷ words)
         → last_text (word ∷ words) ≡ last_text (map (λ w. w.word) last)
         → begins_text starred word ≡ true
         → IsNew options in_block hanging state line prefix (laid (wide 0) (word ∷ words) end)
-        → line.fed ≡ nat_lt 0 (length left) → AreNewBehind state line (word ∷ words) left
+        → line.fed ≡ nat_lt 0 (length left) → AreNewBehind state line (word ∷ words) []
     last-new word words state line prefix are final begins new fed =
         let gaps = wide 0 in
         let own = laid gaps (word ∷ words) end in
@@ -205,22 +193,22 @@ module _ (options : ReflowOptions) (in_block starred : Bool) (wide : ℕ → ℕ
           space = ap last_white new.has ∙ spread-white options.justify gaps word words end;
           fed = fed;
           spells = append-nil (map (λ w. w.word) line.words) ∙ spelled;
-          shown = λ after are. (after, are, ap (λ l. l ++ after) spelled);
-          alone = λ plain. refl;
+          texts = no-lines options;
         }
 
     -- another line behind one
     more-new : (gaps others : ℕ → ℕ) (state : StateText) (line : LineText) (prefix : List ℕ) (own : List (List ℕ))
-        (word : List ℕ) (words later : List (List ℕ)) (raw : List ℕ) (raws : List (List ℕ)) (tail : List ℕ)
+        (word : List ℕ) (words later : List (List ℕ)) (raw : List ℕ) (news : List (List ℕ)) (tail : List ℕ)
         → IsNew options in_block hanging state line prefix (laid gaps own [])
         → line.ended ≡ false → opens_paragraph word ≡ false → has_letter word ≡ true
         → let behind = behind_text in_block hanging (laid gaps own []) in
-        let next = line_at options behind raw raws in
+        let next = line_at options behind raw (news ++ left) in
         IsNew options in_block hanging behind next hanging (laid others (word ∷ words) tail)
-        → AreNewBehind behind next later raws
-        → AreNewBehind state line (own ++ later) (raw ∷ raws)
-    more-new gaps others state line prefix own word words later raw raws tail new ended opens letter next_new are =
+        → AreNewBehind behind next later news
+        → AreNewBehind state line (own ++ later) (raw ∷ news)
+    more-new gaps others state line prefix own word words later raw news tail new ended opens letter next_new are =
         let behind = behind_text in_block hanging (laid gaps own []) in
+        let raws = news ++ left in
         let next = line_at options behind raw raws in
         let first : first_word next.words ≡ word =
         ap first_word next_new.has ∙ spread-first options.justify others word words tail in
@@ -246,19 +234,8 @@ module _ (options : ReflowOptions) (in_block starred : Bool) (wide : ℕ → ℕ
           space = are.space;
           fed = are.fed;
           spells = ap (λ l. l ++ words_of_lines (next ∷ are.lines)) spelled ∙ ap (λ l. own ++ l) are.spells;
-          shown = λ after left_are.
-              let (front, raws_are, is) = are.shown after left_are in
-              let next_words = map (λ (w : SpacedText). w.word) next.words in
-              let here = shows-later options in_block hanging lead ds rs hang
-              (entered behind (without_returns raw)) raw (nat_lt 0 (length raws)) next_new.of next_new.prefixed in (
-                next_words ++ front,
-                (next_words, front, here, raws_are, refl),
-                ap (λ l. l ++ (next_words ++ front)) spelled ∙ ap (λ l. own ++ l) is
-                    ∙ sym (append_assoc own later after),
-              );
-          alone = λ plain. alone-skip options raw raws (later-not-alone options plain in_block hanging lead ds rs hang
-              (entered behind (without_returns raw)) raw (nat_lt 0 (length raws)) next_new.of next_new.prefixed)
-              ∙ are.alone plain;
+          texts = more-lines options in_block hanging hang behind raw (nat_lt 0 (length raws)) news are.lines
+              next_new.of next_new.prefixed are.texts;
         }
 
     -- a line that others follow does not end its paragraph
@@ -270,14 +247,12 @@ module _ (options : ReflowOptions) (in_block starred : Bool) (wide : ℕ → ℕ
     goes-further gaps word words state line prefix none slash new =
         let own = laid gaps (word ∷ words) [] in
         new.of.ends ∙ ap (is_ended in_block) new.has
-        ∙ three (ends_with nat_eq (last_word own) (codes "\\"))
-        (ends_with nat_eq (last_white own) (codes "  ")) (in_block && closes_block own)
-        (ap (λ w. ends_with nat_eq w (codes "\\")) (spread-last options.justify gaps (word ∷ words) []) ∙ slash)
-        (ap (λ w. ends_with nat_eq w (codes "  ")) (spread-white options.justify gaps word words []))
-        (spread-none in_block options.justify gaps (word ∷ words) [] none)
-      where
-        three : (a b c : Bool) → a ≡ false → b ≡ false → c ≡ false → (a || b || c) ≡ false
-        three a b c p q r = rw (p, q, r) refl
+        ∙ ap (λ w. ends_with nat_eq w (codes "\\") || ends_with nat_eq (last_white own) (codes "  ")
+        || (in_block && closes_block own)) (spread-last options.justify gaps (word ∷ words) [])
+        ∙ ap (λ b. b || ends_with nat_eq (last_white own) (codes "  ") || (in_block && closes_block own)) slash
+        ∙ ap (λ w. ends_with nat_eq w (codes "  ") || (in_block && closes_block own))
+        (spread-white options.justify gaps word words [])
+        ∙ spread-none in_block options.justify gaps (word ∷ words) [] none
 
     -- what a later line keeps to
     later-free : (gaps : ℕ → ℕ) (word : List ℕ) (words : List (List ℕ)) (tail : List ℕ)
@@ -292,17 +267,10 @@ module _ (options : ReflowOptions) (in_block starred : Bool) (wide : ℕ → ℕ
               ∙ ap (begins_text starred) first ∙ may.begins;
           columns = spread-columns options.justify gaps (word ∷ words) tail none;
           field = ap (λ w. is_key w && true && has_byte 45 w) first
-              ∙ ap (λ b. b && true && has_byte 45 word) (keyless word may.opens);
+              ∙ ap (λ b. b && true && has_byte 45 word)
+              (or-left (is_key word) _ (or-left _ _ (or-left _ _ (or-left _ _ may.opens))));
           closes = spread-free in_block options.justify gaps (word ∷ words) tail closing;
         }
-      where
-        first-none : (a b c d e : Bool) → (a || b || c || d || e) ≡ false → a ≡ false
-        first-none a b c d e is = grind (arith, cases_Bool)
-
-        keyless : (word : List ℕ) → opens_paragraph word ≡ false → is_key word ≡ false
-        keyless word is =
-            first-none (is_key word) (bytes_eq word (codes "Copyright")) (slice_index word 0 == 64)
-            (slice_index word 0 == 92) (slice_index word 0 == 58 && not (has_byte 96 word)) is
 
     abbrev IsLineOf : StateText → LineText → List ℕ → List (List ℕ) → List (List (List ℕ)) → Type 0
     IsLineOf state line prefix words lines =
@@ -315,11 +283,11 @@ module _ (options : ReflowOptions) (in_block starred : Bool) (wide : ℕ → ℕ
         → last_text ((word ∷ words) ++ later) ≡ last_text (map (λ w. w.word) last)
         → begins_text starred word ≡ true → IsLineOf state line prefix (word ∷ words) lines
         → line.fed ≡ nat_lt 0 (length (raws_behind lines ++ left))
-        → AreNewBehind state line ((word ∷ words) ++ later) (raws_behind lines ++ left)
+        → AreNewBehind state line ((word ∷ words) ++ later) (raws_behind lines)
     new-behind [] word words later state line prefix may none are final begins new fed =
         let same : (word ∷ words) ++ later ≡ word ∷ words =
         ap (λ l. (word ∷ words) ++ l) none ∙ append-nil (word ∷ words) in
-        subst (λ l. AreNewBehind state line l left) (sym same)
+        subst (λ l. AreNewBehind state line l []) (sym same)
         (last-new word words state line prefix (subst (AreTextWords in_block) same are)
         (sym (ap last_text same) ∙ final) begins new fed)
     new-behind ([] ∷ lines) word words later state line prefix may (behind, some, is, part, cut) are final
@@ -345,7 +313,7 @@ module _ (options : ReflowOptions) (in_block starred : Bool) (wide : ℕ → ℕ
         let block : (in_block && not (closes_block (laid gaps own []))) ≡ in_block =
         open_still in_block (closes_block (laid gaps own [])) (spread-none in_block options.justify gaps own [] none) in
         let next_new : IsLineOf here read_next hanging others lines =
-        later-new options in_block hanging lead ds rs hang here raw (nat_lt 0 (length raws))
+        later-new options in_block hanging hang here raw (nat_lt 0 (length raws))
         (laid next_gaps others tail) block
         (raw-text options.justify next_gaps hanging next more_words tail (returns_of lines) own_words.plain own_words.columns
         (end-white end white lines))
@@ -357,10 +325,8 @@ module _ (options : ReflowOptions) (in_block starred : Bool) (wide : ℕ → ℕ
         let behind_next = new-behind lines next more_words behind here read_next hanging part cut theirs
         (sym (ap (λ l. last_text (own ++ l)) is ∙ last-behind own next (more_words ++ behind)) ∙ final)
         goer.begins next_new refl in
-        subst (λ l. AreNewBehind state line (own ++ l) (raw ∷ raws)) (sym is)
-        (more-new gaps next_gaps state line prefix own next more_words (others ++ behind) raw raws tail new
+        subst (λ l. AreNewBehind state line (own ++ l) (raw ∷ raws_behind lines)) (sym is)
+        (more-new gaps next_gaps state line prefix own next more_words (others ++ behind) raw (raws_behind lines)
+        tail new
         (goes-further gaps word words state line prefix none slash new) goer.opens
         (text-letter starred next goer.begins) next_new behind_next)
-      where
-        open_still : (a c : Bool) → (a && c) ≡ false → (a && not c) ≡ a
-        open_still a c is = grind (arith, cases_Bool)

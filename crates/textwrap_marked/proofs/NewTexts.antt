@@ -1,31 +1,22 @@
 -- Texts that were reflowed, reflowed again.
-use Rattle.textwrap_marked.proofs.LineNames.{◌≡◌, ℕ, Bool, true, false, cond, List, [], ◌∷◌, ◌++◌, ◌==◌}
-use Rattle.textwrap_marked.proofs.LineNames.{All-head, ap, arith, drop, join_with_byte}
-use Rattle.textwrap_marked.proofs.LineNames.{length, nat_eq, nat_lt, refl, slice_split, starts_with}
-use Rattle.textwrap_marked.proofs.LineNames.{subst, sym, ◌∙◌, lt-ltb, starts_with-rest}
-use Rattle.textwrap_marked.proofs.LineNames.{length-slice_split, ending_bytes, first_state}
-use Rattle.textwrap_marked.proofs.LineNames.{lines_of_text}
-use Rattle.textwrap_marked.proofs.LineNames.{read_lines, with_titles, inl, inr, ◌⊎◌}
-use Rattle.textwrap_text.specs.declared.line_ending.LineEnding.{LineEnding}
-use Rattle.textwrap_text.specs.declared.line_ending.LineEnding.TheVariants.{CRLF, LF}
-use Rattle.textwrap_marked.proofs.Common.{AreShown, blocks, AreSameParts, lines_alone}
-use Rattle.textwrap_marked.proofs.Common.{text_parts, byte_order_mark, filled_ending, AreOfBlocks}
-use Rattle.textwrap_marked.proofs.Common.{IsReflowedBehind, IsReflowedFrom}
-use Rattle.textwrap_marks.specs.declared.options.ReflowOptions.{ReflowOptions}
-use Rattle.textwrap_text.proofs.Common.{⊎_elim, Option, Some}
 use Rattle.std.proofs.lemmas.List.Splits.{join_with_byte-slice_split}
-use Rattle.textwrap_marked.proofs.AnewLines.{IsTold}
-use Rattle.textwrap_marked.proofs.BegunAlike.{AreBegun, marks-same}
-use Rattle.textwrap_marked.proofs.EarlierEndings.{same-renewed}
-use Rattle.textwrap_marked.proofs.EndsAlike.{ends-alike, one-line}
-use Rattle.textwrap_marked.proofs.Feedless.{IsFeedless}
+use Rattle.textwrap_marked.proofs.BegunAlike.{marks-same, AreBegun}
+use Rattle.textwrap_marked.proofs.Common.{IsReflowedBehind, starts_with-rest, byte_order_mark, AreSameParts}
+use Rattle.textwrap_marked.proofs.Common.{IsReflowedFrom, join_with_byte, ReflowOptions, filled_ending, inl}
+use Rattle.textwrap_marked.proofs.Common.{Some, cond, drop, refl, true, ◌++◌, ◌==◌, inr, sym, ◌∙◌, ◌∷◌, ◌≡◌}
+use Rattle.textwrap_marked.proofs.Common.{lines_alone, slice_split, starts_with, with_titles, read_lines, ℕ}
+use Rattle.textwrap_marked.proofs.Common.{lines_of_text, ending_bytes, AreOfBlocks, first_state, LineEnding}
+use Rattle.textwrap_marked.proofs.Common.{lt-ltb, nat_eq, nat_lt, arith, false, subst, Bool, CRLF, List, LF}
+use Rattle.textwrap_marked.proofs.Common.{text_parts, LineRange, All-head, AreShown, Option, blocks, length}
 use Rattle.textwrap_marked.proofs.SameParts.{from-other, laid-other, width-same}
-use Rattle.textwrap_marked.proofs.TextBack.{AreReadBack, IsTextBack, text-back, within-back}
-use Rattle.textwrap_marked.specs.Laws.{behind_mark, HaveTheSameAlone, KeepsEnding, ShowTheSame}
-use Rattle.textwrap_marked.specs.Reflow.{IsReflowed}
-use Rattle.textwrap_marked.specs.Within.{IsReflowedWithin, IsReflowedWithinBehind, IsReflowedWithinFrom}
-use Rattle.textwrap_marked.specs.declared.within.LineRange.{LineRange}
+use Rattle.textwrap_marked.proofs.TextBack.{AreReadBack, within-back, IsTextBack, text-back}
+use Rattle.textwrap_marked.proofs.{AnewLines.IsTold, Common.◌⊎◌, Common.[], Common.ap}
+use Rattle.textwrap_marked.proofs.{EarlierEndings.same-renewed, EndsAlike.ends-alike, EndsAlike.one-line}
+use Rattle.textwrap_marked.specs.Laws.{HaveTheSameAlone, KeepsEnding, ShowTheSame, behind_mark}
+use Rattle.textwrap_marked.specs.Within.{IsReflowedWithinBehind, IsReflowedWithinFrom, IsReflowedWithin}
+use Rattle.textwrap_marked.{proofs.Feedless.IsFeedless, proofs.Feedless.split-some, specs.Reflow.IsReflowed}
 use Rattle.textwrap_marks.specs.declared.options.Algorithm.{Algorithm}
+use Rattle.textwrap_text.proofs.Common.{⊎_elim}
 
 -- ---- without a byte order mark
 
@@ -34,20 +25,12 @@ begins-alike : (options : ReflowOptions) (returns : Bool) (told : IsTold options
     (text reflowed : List ℕ) → AreReadBack options returns told text reflowed
     → starts_with nat_eq reflowed byte_order_mark ≡ starts_with nat_eq text byte_order_mark
 begins-alike options returns told text reflowed r =
+    let (part, parts, is) = split-some text in
     ap (λ t. starts_with nat_eq t byte_order_mark)
     (sym (join_with_byte-slice_split 10 reflowed) ∙ ap (join_with_byte 10) r.split)
-    ∙ first (slice_split (λ c. c == 10) text) refl r.begun
-    ∙ ap (λ t. starts_with nat_eq t byte_order_mark) (join_with_byte-slice_split 10 text)
-  where
-    first : (parts : List (List ℕ)) → slice_split (λ c. c == 10) text ≡ parts
-        → AreBegun returns (slice_split (λ c. c == 10) text) (r.raw ∷ r.raws)
-        → starts_with nat_eq (join_with_byte 10 (r.raw ∷ r.raws)) byte_order_mark
-        ≡ starts_with nat_eq (join_with_byte 10 (slice_split (λ c. c == 10) text)) byte_order_mark
-    first [] is begun = absurd (omega (arith, length-slice_split (λ c. c == 10) text, ap length is))
-    first (part ∷ parts) is begun =
-        marks-same returns part r.raw parts r.raws
-        (subst (λ l. AreBegun returns l (r.raw ∷ r.raws)) is begun)
-        ∙ ap (λ l. starts_with nat_eq (join_with_byte 10 l) byte_order_mark) (sym is)
+    ∙ marks-same returns part r.raw parts r.raws (subst (λ l. AreBegun returns l (r.raw ∷ r.raws)) is r.begun)
+    ∙ ap (λ t. starts_with nat_eq t byte_order_mark)
+    (sym (ap (join_with_byte 10) is) ∙ join_with_byte-slice_split 10 text)
 
 ends-feed : (e : LineEnding) → (front : List ℕ) × (ending_bytes e ≡ front ++ 10 ∷ [])
 ends-feed LF = ([], refl)
@@ -108,6 +91,12 @@ marked : (rest whole : List ℕ) → whole ≡ byte_order_mark ++ rest
     → starts_with nat_eq whole byte_order_mark ≡ true
 marked rest whole is = ap (λ t. starts_with nat_eq t byte_order_mark) is
 
+-- what follows a byte order mark in a text is read again behind the same one, if there is one
+abbrev pub IsBack : ReflowOptions → List ℕ → List ℕ → Type 0
+IsBack options text reflowed =
+    (starts_with nat_eq reflowed byte_order_mark ≡ starts_with nat_eq text byte_order_mark)
+    × IsTextBack options (behind_mark text) (behind_mark reflowed)
+
 -- what follows a byte order mark in a text, if there is one, becomes what follows it in the other
 module _ (options : ReflowOptions) (From : List ℕ → List ℕ → Type 0)
     (each : (text reflowed : List ℕ) → From text reflowed → IsTextBack options text reflowed)
@@ -153,18 +142,8 @@ module _ (options : ReflowOptions) (From : List ℕ → List ℕ → Type 0)
       subst (λ t. From t reflowed) (begins-so text false is)
       (subst (From (behind_mark text)) (begins-so reflowed false (same ∙ is)) laid)
 
-  parts-same : IsBehind
-      → AreSameParts options.ending (text_parts options (behind_mark text)) (text_parts options (behind_mark reflowed))
-  parts-same behind = (each (behind_mark text) (behind_mark reflowed) behind.1).same
-
-  alone-same : IsBehind → HaveTheSameAlone options text reflowed
-  alone-same behind plain =
-      let r = each (behind_mark text) (behind_mark reflowed) behind.1 in ap (lines_alone options) r.split ∙ r.alone plain
-
-  shown-same : IsBehind → ShowTheSame options text reflowed
-  shown-same behind =
-      let r = each (behind_mark text) (behind_mark reflowed) behind.1 in
-      (behind.0, r.shown, r.text_shows, subst (λ l. AreShown options l r.shown) (sym r.split) r.new_shows)
+  back-of : IsBehind → IsBack options text reflowed
+  back-of (same, laid) = (same, each (behind_mark text) (behind_mark reflowed) laid)
 
 module _ (options : ReflowOptions) (text reflowed : List ℕ) where
   opened : (b : Bool) → starts_with nat_eq text byte_order_mark ≡ b → IsReflowedBehind b options text reflowed
@@ -177,39 +156,30 @@ module _ (options : ReflowOptions) (text reflowed : List ℕ) where
   closed of true is = remarked options (IsReflowedFrom options) (text-back options) text reflowed of true is
   closed of false is = remarked options (IsReflowedFrom options) (text-back options) text reflowed of false is
 
-  pub parts-kept : IsReflowed options text reflowed
+  pub read-whole : IsReflowed options text reflowed → IsBack options text reflowed
+  read-whole is = back-of options (IsReflowedFrom options) (text-back options) text reflowed (opened _ refl is)
+
+  -- where only some lines are filled
+  module _ (range : LineRange) where
+    opened-within : (b : Bool) → starts_with nat_eq text byte_order_mark ≡ b
+        → IsReflowedWithinBehind b options range text reflowed
+        → IsBehind options (IsReflowedWithinFrom options range) (within-back options range) text reflowed
+    opened-within true is of = unmarked options _ (within-back options range) text reflowed true is of
+    opened-within false is of = unmarked options _ (within-back options range) text reflowed false is of
+
+    pub read-within : IsReflowedWithin options range text reflowed → IsBack options text reflowed
+    read-within is = back-of options _ (within-back options range) text reflowed (opened-within _ refl is)
+
+  pub parts-same : IsBack options text reflowed
       → AreSameParts options.ending (text_parts options (behind_mark text)) (text_parts options (behind_mark reflowed))
-  parts-kept is =
-      parts-same options (IsReflowedFrom options) (text-back options) text reflowed (opened _ refl is)
+  parts-same back = back.1.same
 
-  pub alone-stay : IsReflowed options text reflowed → HaveTheSameAlone options text reflowed
-  alone-stay is =
-      alone-same options (IsReflowedFrom options) (text-back options) text reflowed (opened _ refl is)
+  pub alone-same : IsBack options text reflowed → HaveTheSameAlone options text reflowed
+  alone-same (same, r) plain = ap (lines_alone options) r.split ∙ r.alike.alone plain
 
-  pub nothing-lost : IsReflowed options text reflowed → ShowTheSame options text reflowed
-  nothing-lost is =
-      shown-same options (IsReflowedFrom options) (text-back options) text reflowed (opened _ refl is)
-
--- the same where only some lines are filled
-module _ (options : ReflowOptions) (range : LineRange) (text reflowed : List ℕ) where
-  opened-within : (b : Bool) → starts_with nat_eq text byte_order_mark ≡ b
-      → IsReflowedWithinBehind b options range text reflowed
-      → IsBehind options (IsReflowedWithinFrom options range) (within-back options range) text reflowed
-  opened-within true is of = unmarked options _ (within-back options range) text reflowed true is of
-  opened-within false is of = unmarked options _ (within-back options range) text reflowed false is of
-
-  pub parts-kept-within : IsReflowedWithin options range text reflowed
-      → AreSameParts options.ending (text_parts options (behind_mark text)) (text_parts options (behind_mark reflowed))
-  parts-kept-within is =
-      parts-same options _ (within-back options range) text reflowed (opened-within _ refl is)
-
-  pub alone-stay-within : IsReflowedWithin options range text reflowed → HaveTheSameAlone options text reflowed
-  alone-stay-within is =
-      alone-same options _ (within-back options range) text reflowed (opened-within _ refl is)
-
-  pub nothing-lost-within : IsReflowedWithin options range text reflowed → ShowTheSame options text reflowed
-  nothing-lost-within is =
-      shown-same options _ (within-back options range) text reflowed (opened-within _ refl is)
+  pub shown-same : IsBack options text reflowed → ShowTheSame options text reflowed
+  shown-same (same, r) =
+      (same, r.alike.shown, r.alike.these, subst (λ l. AreShown options l r.alike.shown) (sym r.split) r.alike.those)
 
 pub texts-stay : (options : ReflowOptions) (text reflowed : List ℕ) → IsReflowed options text reflowed
     → IsReflowed options reflowed reflowed

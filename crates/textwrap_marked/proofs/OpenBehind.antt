@@ -1,24 +1,23 @@
--- What is open behind a line that does not stand apart.
-use Rattle.textwrap_marked.proofs.LineNames.{◌≡◌, ℕ, ◌&&◌, ◌||◌, not, Bool, true, false, cond, List, []}
-use Rattle.textwrap_marked.proofs.LineNames.{◌∷◌, All, drop}
-use Rattle.textwrap_marked.proofs.LineNames.{All-weaker, ap, arith, cases_Bool, codes, eqb-true}
-use Rattle.textwrap_marked.proofs.LineNames.{list_any, nat_eq, nat_lt, nat_tests, None, prefix_len}
-use Rattle.textwrap_marked.proofs.LineNames.{refl, Some, starts_with, sym, true≢false}
-use Rattle.textwrap_marked.proofs.LineNames.{false_from_ne_true, ◌∙◌, ◌==◌, bytes_eq, is_some}
-use Rattle.textwrap_marked.proofs.LineNames.{deeper_by, has_words, LineText, new_fence, passed}
-use Rattle.textwrap_marked.proofs.LineNames.{StateText, begins_text, closes_block, first_word}
-use Rattle.textwrap_marked.proofs.LineNames.{words_before_last}
-use Rattle.textwrap_marked.proofs.LineNames.{has_columns, is_column_word, contains, has_byte}
-use Rattle.textwrap_marked.proofs.LineNames.{has_letter, SpacedText}
-use Rattle.textwrap_text.proofs.Common.{option_map, slice_index}
-use Rattle.textwrap_marks.proofs.Letterless.{lettered-other}
-use Rattle.textwrap_marks.proofs.ListLemmas.{and-left, and-right, any-none, none-any, or-left}
-use Rattle.textwrap_marks.specs.Columns.{depth_of, marks_of}
-use Rattle.textwrap_marks.specs.Fences.{has_pre_end, opened, opened_by, opens_formula, run_of}
-use Rattle.textwrap_marked.specs.Lines.{is_before, is_in_block, is_prompted, new_before, new_by}
-use Rattle.textwrap_marks.specs.Signs.{is_comment_behind, is_directive, is_gap, is_sign, is_sign_byte}
-use Rattle.textwrap_marks.specs.Signs.{any_contains, is_for_tools, opens_code}
-use Rattle.textwrap_marks.specs.declared.fences.FenceKind.TheVariants.{Code, Formula, Pre}
+-- What is open behind a line that does not stand apart, and which lines do not.
+use Rattle.std.specs.Str.{chars}
+use Rattle.textwrap_marked.proofs.Common.{ReflowOptions, closes_block, closes_early, stands_apart, Option}
+use Rattle.textwrap_marked.proofs.Common.{begins_text, has_columns, starts_with, All-weaker, SpacedText}
+use Rattle.textwrap_marked.proofs.Common.{cases_Bool, first_word, has_letter, option_map, prefix_len, All}
+use Rattle.textwrap_marked.proofs.Common.{contains, eqb-true, has_byte, list_any, marks_of, none-any, not}
+use Rattle.textwrap_marked.proofs.Common.{deeper_by, has_words, nat_tests, new_fence, any-none, bytes_eq}
+use Rattle.textwrap_marked.proofs.Common.{false_from_ne_true, words_before_last, is_column_word, LineText}
+use Rattle.textwrap_marked.proofs.Common.{is_deep, is_some, or-left, length, nat_eq, nat_lt, ne_eqb, Bool}
+use Rattle.textwrap_marked.proofs.Common.{passed, arith, codes, false, List, None, Some, cond, drop, refl}
+use Rattle.textwrap_marked.proofs.Common.{told-apart, true≢false, FenceText, StateText, and-false, is_key}
+use Rattle.textwrap_marked.proofs.Common.{true, ◌&&◌, ◌==◌, ◌||◌, sym, ◌∙◌, ◌∷◌, ◌≡◌, [], ap, ℕ}
+use Rattle.textwrap_marked.proofs.LineKinds.{has_opening_in, hanging_of, line_by, Kinds}
+use Rattle.textwrap_marked.specs.Lines.{is_in_block, is_prompted, new_before, is_before, new_by}
+use Rattle.textwrap_marks.specs.Fences.{opens_formula, has_pre_end, opened_by, opened, run_of}
+use Rattle.textwrap_marks.specs.Signs.{is_comment_behind, opens_session, any_contains, is_directive}
+use Rattle.textwrap_marks.specs.Signs.{is_for_tools, is_sign_byte, opens_code, is_sign, is_gap}
+use Rattle.textwrap_marks.specs.declared.fences.FenceKind.TheVariants.{Formula, Code, Pre}
+use Rattle.textwrap_marks.{proofs.Letterless.no-session, specs.Columns.depth_of}
+use Rattle.textwrap_text.proofs.Common.{slice_index, and_parts}
 
 -- ---- the first word of a text
 
@@ -39,7 +38,7 @@ text-no-sign starred word is =
 pub text-other : (starred : Bool) (word other : List ℕ) → begins_text starred word ≡ true
     → has_letter other ≡ false → bytes_eq word other ≡ false
 text-other starred word other is none =
-    lettered-other word other (text-letter starred word is) none
+    told-apart has_letter word other (text-letter starred word is) none
 
 -- ---- it opens no fence
 
@@ -83,8 +82,8 @@ run-none word none =
     let len = prefix_len (λ c. c == mark) word in
     ap (λ b. cond b (Some (record { mark = mark; len = len })) None)
     (false_from_ne_true ((mark == 96 || mark == 126) && nat_lt 2 len) (λ is.
-    marked mark (three mark word (and-right (mark == 96 || mark == 126) (nat_lt 2 len) is))
-    (and-left (mark == 96 || mark == 126) (nat_lt 2 len) is)))
+    let (mark_is, long) = and_parts (mark == 96 || mark == 126) (nat_lt 2 len) is in
+    marked mark (three mark word long) mark_is))
   where
     marked : (mark : ℕ) → starts_with nat_eq word (mark ∷ mark ∷ mark ∷ []) ≡ true
         → (mark == 96 || mark == 126) ≡ true → ⊥
@@ -160,3 +159,116 @@ passed-is state line in_block none level opens some prompts block =
       before = ap (λ b. new_before state.before b line) before i;
       by = ap (λ b. new_by state.by b line) before i;
     }
+
+-- ---- lines that do not stand apart, by themselves, and what is open behind them
+
+abbrev pub block_at : StateText → Kinds → Bool
+block_at state k = state.in_block || has_opening_in k.comments
+
+abbrev pub starred_at : ReflowOptions → StateText → Kinds → Bool
+starred_at options state k = block_at state k && not (has_byte 42 (hanging_of options.bare k))
+
+abbrev pub field_of : Kinds → Bool
+field_of k = is_key (first_word k.words) && k.bare
+
+-- words that do not stand apart by themselves
+pub record AreFree (justify in_block starred keyed : Bool) (words : List SpacedText) : Type 0 where
+  pub begins : begins_text starred (first_word words) ≡ true
+  pub columns : has_columns justify words ≡ false
+  pub field : (keyed && has_byte 45 (first_word words)) ≡ false
+  pub closes : (in_block && closes_block words && closes_early words) ≡ false
+
+-- where nothing is open that makes a line stand apart
+pub record IsOpen (options : ReflowOptions) (state : StateText) (margin : List ℕ) : Type 0 where
+  pub fence : is_some state.fence ≡ false
+  pub level : is_deep options state margin ≡ false
+  pub prompt : state.prompted ≡ false
+
+four : (a b c d : Bool) → (a || b || c || d) ≡ false
+    → (a ≡ false) × (b ≡ false) × (c ≡ false) × (d ≡ false)
+four a b c d is = grind (arith, cases_Bool)
+
+none-four : (a b c d : Bool) → a ≡ false → b ≡ false → c ≡ false → d ≡ false
+    → (a || b || c || d) ≡ false
+none-four a b c d p q r s = rw (p, q, r, s) refl
+
+yes-not : (b : Bool) → not b ≡ false → b ≡ true
+yes-not true is = refl
+yes-not false is = sym is
+
+words-free : (justify in_block starred field : Bool) (words : List SpacedText)
+    → stands_apart justify in_block starred field words ≡ false
+    → AreFree justify in_block starred field words
+words-free justify in_block starred field words is =
+    let parts = four (not (begins_text starred (first_word words))) (has_columns justify words)
+    (field && has_byte 45 (first_word words)) (in_block && closes_block words && closes_early words) is in
+    record {
+      begins = yes-not (begins_text starred (first_word words)) parts.0;
+      columns = parts.1;
+      field = parts.2;
+      closes = parts.3;
+    }
+
+free-words : (justify in_block starred field : Bool) (words : List SpacedText)
+    → AreFree justify in_block starred field words
+    → stands_apart justify in_block starred field words ≡ false
+free-words justify in_block starred field words are =
+    none-four (not (begins_text starred (first_word words))) (has_columns justify words)
+    (field && has_byte 45 (first_word words)) (in_block && closes_block words && closes_early words)
+    (ap not are.begins) are.columns are.field are.closes
+
+pub some-none : (f : Option FenceText) → is_some f ≡ false → f ≡ None
+some-none None is = refl
+some-none (Some f) is = absurd (true≢false is)
+
+pub begun : (starred : Bool) (words : List SpacedText)
+    → begins_text starred (first_word words) ≡ true → has_words words ≡ true
+unfolding chars
+begun starred [] is = absurd (true≢false (sym is))
+begun starred (w ∷ ws) is = ap not (ne_eqb (length (w ∷ ws)) 0 (λ e. omega (arith, e)))
+
+module _ (options : ReflowOptions) (state : StateText) (raw : List ℕ) (fed : Bool) (k : Kinds) where
+  pub apart-free : (line_by options state raw fed k).apart ≡ false
+      → IsOpen options state (hanging_of options.bare k)
+      × AreFree options.justify (block_at state k) (starred_at options state k) (field_of k) k.words
+  apart-free is =
+      let parts = four (is_some state.fence) (is_deep options state (hanging_of options.bare k))
+      state.prompted
+      (stands_apart options.justify (block_at state k) (starred_at options state k) (field_of k)
+      k.words) is in (
+        record { fence = parts.0; level = parts.1; prompt = parts.2 },
+        words-free options.justify (block_at state k) (starred_at options state k) (field_of k) k.words
+            parts.3,
+      )
+
+  pub free-apart : IsOpen options state (hanging_of options.bare k)
+      → AreFree options.justify (block_at state k) (starred_at options state k) (field_of k) k.words
+      → (line_by options state raw fed k).apart ≡ false
+  free-apart at are =
+      none-four (is_some state.fence) (is_deep options state (hanging_of options.bare k)) state.prompted
+      (stands_apart options.justify (block_at state k) (starred_at options state k) (field_of k)
+      k.words) at.fence
+      at.level at.prompt
+      (free-words options.justify (block_at state k) (starred_at options state k) (field_of k) k.words are)
+
+  pub behind-free : IsOpen options state (hanging_of options.bare k)
+      → AreFree options.justify (block_at state k) (starred_at options state k) (field_of k) k.words
+      → passed state (line_by options state raw fed k)
+      ≡ behind_text (block_at state k) (line_by options state raw fed k).hanging k.words
+  behind-free at are =
+      let starred = starred_at options state k in
+      let first = first_word k.words in
+      let prompts : is_prompted state.prompted false k.words ≡ false =
+      ap (λ b. has_words k.words && (b || opens_session k.words)) at.prompt
+      ∙ ap (λ b. has_words k.words && b) (no-session k.words (text-letter starred first are.begins))
+      ∙ and-false (has_words k.words) in
+      passed-is state (line_by options state raw fed k) (block_at state k)
+      (some-none state.fence at.fence) at.level
+      (opened-none starred k.words are.begins (no-columns options.justify k.words are.columns))
+      (begun starred k.words are.begins) prompts
+      (block state.in_block (has_opening_in k.comments) (closes_block k.words))
+    where
+      block : (i o c : Bool)
+          → cond i (not c) (true && (o && not c)) ≡ ((i || o) && not c)
+      block true o c = refl
+      block false o c = refl

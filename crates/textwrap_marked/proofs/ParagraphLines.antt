@@ -1,39 +1,26 @@
 -- The lines of a paragraph: the first one, those behind its hanging form, and others in their place.
-use Rattle.textwrap_marked.proofs.LineNames.{◌≡◌, ℕ, ◌<◌, ◌&&◌, ◌||◌, not, Bool, true, false, List, []}
-use Rattle.textwrap_marked.proofs.LineNames.{◌∷◌, ◌++◌, All, ap, append-nil, append_assoc, codes}
-use Rattle.textwrap_marked.proofs.LineNames.{length, refl, subst, sym, ◌∙◌, ◌==◌, All-weaker, eqb-true}
-use Rattle.textwrap_marked.proofs.LineNames.{false_from_ne_true, list_any, true≢false, all-right}
-use Rattle.textwrap_marked.proofs.LineNames.{or-false, flat_map-append, line_as_read, LineText}
-use Rattle.textwrap_marked.proofs.LineNames.{StateText}
-use Rattle.textwrap_marked.proofs.LineNames.{without_returns, hanging_bullets, begins_text, first_word}
-use Rattle.textwrap_marked.proofs.LineNames.{is_key, has_byte, is_white, spaced_text, SpacedText}
-use Rattle.textwrap_marked.proofs.LineNames.{spaced_words}
-use Rattle.textwrap_marks.specs.declared.options.ReflowOptions.{ReflowOptions}
-use Rattle.std.specs.Prelude.{None}
-use Rattle.textwrap_marked.proofs.FreeLines.{apart-free, AreFree, block_at, begun, field_of}
-use Rattle.textwrap_marked.proofs.FreeLines.{free-apart, IsOpen, some-none, starred_at}
-use Rattle.textwrap_marked.proofs.HangingForms.{bullets-white, IsHanging, hanging-is}
-use Rattle.textwrap_marked.proofs.HangingKinds.{before-full, full-before, hangs-same, HasNoMark}
-use Rattle.textwrap_marked.proofs.HangingKinds.{IsFull, kinds-same, marks-kinds, opens-none}
-use Rattle.textwrap_marked.proofs.LaterLines.{IsOfText, IsRead, kinds-first, line-read, text-line}
-use Rattle.textwrap_marked.proofs.LaterLines.{words-some}
-use Rattle.textwrap_marks.proofs.Letterless.{box-plain}
-use Rattle.textwrap_marked.proofs.LineKinds.{hanging_of, has_opening_in, HaveKinds, kinds, line-is}
-use Rattle.textwrap_marked.proofs.LineKinds.{line_by}
-use Rattle.textwrap_marks.proofs.ListLemmas.{none-any}
-use Rattle.textwrap_marked.proofs.OpenBehind.{text-other}
-use Rattle.textwrap_marked.proofs.SpacedBack.{AreSpaced, IsLineText, IsWhite, lead-one, line-back}
-use Rattle.textwrap_marked.proofs.SpacedBack.{with_lead}
+use Rattle.std.proofs.lemmas.List.Folds.{list_any-append}
+use Rattle.textwrap_marked.proofs.Common.{None, refl, true, ◌&&◌, ◌++◌, ◌==◌, ◌||◌, All, not, sym, ◌<◌, ℕ}
+use Rattle.textwrap_marked.proofs.Common.{ReflowOptions, line_as_read, spaced_words, begins_text, is_key}
+use Rattle.textwrap_marked.proofs.Common.{hanging_bullets, opens_paragraph, without_returns, append_assoc}
+use Rattle.textwrap_marked.proofs.Common.{has_letter, StateText, all-right, LineText, has_byte, list_any}
+use Rattle.textwrap_marked.proofs.Common.{none-any, or-false, length, codes, false, subst, Bool, List, ap}
+use Rattle.textwrap_marked.proofs.Common.{spaced_text, All-weaker, SpacedText, append-nil, first_word, []}
+use Rattle.textwrap_marked.proofs.HangingForms.{bullets-white, hanging-is, IsHanging}
+use Rattle.textwrap_marked.proofs.HangingKinds.{before-full, full-before, marks-kinds, hangs-same, IsFull}
+use Rattle.textwrap_marked.proofs.HangingKinds.{kinds-same, opens-none, HasNoMark}
+use Rattle.textwrap_marked.proofs.LaterLines.{kinds-first, read-spaced, read_kinds, read_marks, line-read}
+use Rattle.textwrap_marked.proofs.LaterLines.{text-parts, words-some, read-line, text-line, IsOfText}
+use Rattle.textwrap_marked.proofs.LineKinds.{has_opening_in, hanging_of, HaveKinds, line_by, Kinds, kinds}
+use Rattle.textwrap_marked.proofs.OpenBehind.{some-none, block_at, field_of, AreFree, IsOpen, begun}
+use Rattle.textwrap_marked.proofs.OpenBehind.{text-letter, apart-free, free-apart, starred_at, text-other}
+use Rattle.textwrap_marked.proofs.SpacedBack.{white-other, AreSpaced, line-back, with_lead, lead-one}
+use Rattle.textwrap_marked.proofs.{Common.◌∙◌, Common.◌∷◌, Common.◌≡◌, SpacedBack.IsWhite}
+use Rattle.textwrap_marked.proofs.{LaterLines.regroup, LaterLines.IsRead, LineTests.letter-no-rule}
+use Rattle.textwrap_marks.{proofs.Letterless.box-plain, specs.Signs.is_rule}
 
 pub all-spaced : (ks : List SpacedText) → All IsFull ks → AreSpaced ks
 all-spaced ks full = subst AreSpaced (append-nil ks) (full-before ks [] full tt)
-
-pub regroup : (cs qs bs ws : List SpacedText) → cs ++ (qs ++ (bs ++ ws)) ≡ (cs ++ (qs ++ bs)) ++ ws
-regroup cs qs bs ws =
-    ap (λ l. cs ++ l) (sym (append_assoc qs bs ws)) ∙ sym (append_assoc cs (qs ++ bs) ws)
-
-pub text-parts : (ks ws : List SpacedText) → spaced_text (ks ++ ws) ≡ spaced_text ks ++ spaced_text ws
-text-parts ks ws = flat_map-append (λ w. w.word ++ w.white) ks ws
 
 -- ---- lines behind a hanging form
 
@@ -45,25 +32,28 @@ pub record IsNew (options : ReflowOptions) (in_block : Bool) (hanging : List ℕ
   pub prefixed : line.prefix ≡ prefix
   pub has : line.words ≡ words
 
-module _ (options : ReflowOptions) (in_block : Bool) (hanging lead : List ℕ) (ds rs : List SpacedText)
-    (hang : IsHanging options in_block hanging lead ds rs) where
+module _ (options : ReflowOptions) (in_block : Bool) (hanging : List ℕ)
+    (hang : IsHanging options in_block hanging) where
+  -- what is read of a line behind it, with these words
+  abbrev hung : List SpacedText → Kinds
+  hung ws = kinds hang.lead hang.cs hang.qs [] ws
+
   hung-block : (state : StateText) → state.in_block ≡ in_block
-      → (state.in_block || has_opening_in ds) ≡ in_block
+      → (state.in_block || has_opening_in hang.cs) ≡ in_block
   hung-block state block =
-      ap (λ o. state.in_block || o) (opens-none options in_block ds rs hang.marks)
+      ap (λ o. state.in_block || o) (opens-none options in_block hang.cs hang.qs hang.marks)
       ∙ or-false state.in_block ∙ block
 
-  hung-margin : (ws : List SpacedText) → hanging_of options.bare (kinds lead ds rs [] ws) ≡ hanging
-  hung-margin ws = hangs-same options in_block ds rs hang.marks options.bare lead ws ∙ sym hang.is
+  hung-margin : (ws : List SpacedText) → hanging_of options.bare (hung ws) ≡ hanging
+  hung-margin ws =
+      hangs-same options in_block hang.cs hang.qs hang.marks options.bare hang.lead ws ∙ sym hang.is
 
   hung-line : (state : StateText) (raw : List ℕ) (fed : Bool) (ws : List SpacedText)
-      → state.in_block ≡ in_block
-      → (line_by options state raw fed (kinds lead ds rs [] ws)).apart ≡ false → AreSpaced ws
-      → IsOfText options in_block hanging state (line_by options state raw fed (kinds lead ds rs [] ws))
+      → state.in_block ≡ in_block → (line_by options state raw fed (hung ws)).apart ≡ false → AreSpaced ws
+      → IsOfText options in_block hanging state (line_by options state raw fed (hung ws))
   hung-line state raw fed ws block apart spaced =
-      text-line options in_block hanging state raw fed (kinds lead ds rs [] ws) apart
-      (hung-block state block)
-      (append-nil (hanging_of options.bare (kinds lead ds rs [] ws)) ∙ hung-margin ws) spaced
+      text-line options in_block hanging state raw fed (hung ws) apart (hung-block state block)
+      (append-nil (hanging_of options.bare (hung ws)) ∙ hung-margin ws) spaced
 
   -- a line of the text that begins with it
   pub later-line : (state : StateText) (raw : List ℕ) (fed : Bool) → state.in_block ≡ in_block
@@ -71,29 +61,27 @@ module _ (options : ReflowOptions) (in_block : Bool) (hanging lead : List ℕ) (
       → (line_as_read options state raw fed).prefix ≡ hanging
       → IsOfText options in_block hanging state (line_as_read options state raw fed)
   later-line state raw fed block apart prefix =
-      let (front, cs, qs, bs, ws, read) = line-read options state raw in
-      let marks = cs ++ (qs ++ bs) in
-      let k = kinds front cs qs bs ws in
-      let is = line-is front cs qs bs ws options state raw fed read.text read.have in
+      let r = line-read options state raw in
+      let k = read_kinds options state raw r in
+      let marks = read_marks options state raw r in
+      let is = read-line options state raw r fed in
       let free = apart-free options state raw fed k (sym (ap (λ (l : LineText). l.apart) is) ∙ apart) in
-      let some : 0 < length ws =
-      words-some ws (begun (starred_at options state k) ws free.1.begins) in
-      let (full, spaced) =
-      before-full marks ws some (subst AreSpaced (regroup cs qs bs ws) read.text.spaced) in
-      let same : with_lead front marks ≡ with_lead lead (ds ++ rs) =
-      sym (line-back front marks read.text.white (all-spaced marks full))
+      let some : 0 < length r.ws =
+      words-some r.ws (begun (starred_at options state k) r.ws free.1.begins) in
+      let (full, spaced) = before-full marks r.ws some (read-spaced options state raw r) in
+      let all = all-spaced marks full in
+      let hung_all = all-spaced (hang.cs ++ hang.qs) hang.full in
+      let same : with_lead r.lead marks ≡ with_lead hang.lead (hang.cs ++ hang.qs) =
+      sym (line-back r.lead marks r.text.white all)
       ∙ ap spaced_words (sym (ap (λ (l : LineText). l.prefix) is) ∙ prefix ∙ hang.is)
-      ∙ line-back lead (ds ++ rs) hang.white (all-spaced (ds ++ rs) hang.full) in
-      let (fronts, words) =
-      lead-one front lead marks (ds ++ rs) (all-spaced marks full) (all-spaced (ds ++ rs) hang.full) same
-      in
-      let have = subst (λ b. HaveKinds options b cs qs bs ws) block read.have in
-      let (c, q, b) = kinds-same options in_block ds rs hang.marks cs qs bs ws have words in
-      let whole : line_as_read options state raw fed
-      ≡ line_by options state raw fed (kinds lead ds rs [] ws) =
-      is ∙ (λ i. line_by options state raw fed (kinds (fronts i) (c i) (q i) (b i) ws)) in
+      ∙ line-back hang.lead (hang.cs ++ hang.qs) hang.white hung_all in
+      let (fronts, words) = lead-one r.lead hang.lead marks (hang.cs ++ hang.qs) all hung_all same in
+      let have = subst (λ b. HaveKinds options b r.cs r.qs r.bs r.ws) block r.have in
+      let (c, q, b) = kinds-same options in_block hang.cs hang.qs hang.marks r.cs r.qs r.bs r.ws have words in
+      let whole : line_as_read options state raw fed ≡ line_by options state raw fed (hung r.ws) =
+      is ∙ (λ i. line_by options state raw fed (kinds (fronts i) (c i) (q i) (b i) r.ws)) in
       subst (IsOfText options in_block hanging state) (sym whole)
-      (hung-line state raw fed ws block (sym (ap (λ (l : LineText). l.apart) whole) ∙ apart) spaced)
+      (hung-line state raw fed r.ws block (sym (ap (λ (l : LineText). l.apart) whole) ∙ apart) spaced)
 
   -- a new line behind it
   pub later-new : (state : StateText) (raw : List ℕ) (fed : Bool) (ws : List SpacedText)
@@ -102,31 +90,36 @@ module _ (options : ReflowOptions) (in_block : Bool) (hanging lead : List ℕ) (
       → AreFree options.justify in_block (in_block && not (has_byte 42 hanging)) (is_key (first_word ws) && true) ws
       → IsNew options in_block hanging state (line_as_read options state raw fed) hanging ws
   later-new state raw fed ws block text spaced lacks at are =
-      let k = kinds lead ds rs [] ws in
-      let group : ds ++ (rs ++ ws) ≡ (ds ++ rs) ++ ws = sym (append_assoc ds rs ws) in
-      let read : IsLineText (without_returns raw) lead (ds ++ (rs ++ ws)) = record {
-        white = hang.white;
-        spaced = subst AreSpaced (sym group) (full-before (ds ++ rs) ws hang.full spaced);
-        is = text ∙ ap (λ h. h ++ spaced_text ws) hang.is
-            ∙ append_assoc lead (spaced_text (ds ++ rs)) (spaced_text ws)
-            ∙ ap (λ l. lead ++ l) (sym (text-parts (ds ++ rs) ws) ∙ ap spaced_text (sym group));
+      let marks = hang.cs ++ hang.qs in
+      let group : hang.cs ++ (hang.qs ++ ws) ≡ marks ++ ws = sym (append_assoc hang.cs hang.qs ws) in
+      let r : IsRead options state raw = record {
+        lead = hang.lead;
+        cs = hang.cs;
+        qs = hang.qs;
+        bs = [];
+        ws = ws;
+        text = record {
+          white = hang.white;
+          spaced = subst AreSpaced (sym group) (full-before marks ws hang.full spaced);
+          is = text ∙ ap (λ h. h ++ spaced_text ws) hang.is
+              ∙ append_assoc hang.lead (spaced_text marks) (spaced_text ws)
+              ∙ ap (λ l. hang.lead ++ l) (sym (text-parts marks ws) ∙ ap spaced_text (sym group));
+        };
+        have = subst (λ b. HaveKinds options b hang.cs hang.qs [] ws) (sym block)
+            (marks-kinds options in_block hang.cs hang.qs hang.marks ws lacks);
       } in
-      let have = subst (λ b. HaveKinds options b ds rs [] ws) (sym block)
-      (marks-kinds options in_block ds rs hang.marks ws lacks) in
-      let is = line-is lead ds rs [] ws options state raw fed read have in
       let margin = hung-margin ws in
-      let blocked = hung-block state block in
-      let apart : (line_by options state raw fed k).apart ≡ false =
-      free-apart options state raw fed k
+      let apart : (line_by options state raw fed (hung ws)).apart ≡ false =
+      free-apart options state raw fed (hung ws)
       (subst (IsOpen options state) (sym margin) at)
-      (subst (λ b. AreFree options.justify b (b && not (has_byte 42 (hanging_of options.bare k)))
-      (is_key (first_word ws) && true) ws) (sym blocked)
+      (subst (λ b. AreFree options.justify b (b && not (has_byte 42 (hanging_of options.bare (hung ws))))
+      (is_key (first_word ws) && true) ws) (sym (hung-block state block))
       (subst (λ h. AreFree options.justify in_block (in_block && not (has_byte 42 h)) (is_key (first_word ws) && true) ws)
       (sym margin) are)) in
-      subst (λ l. IsNew options in_block hanging state l hanging ws) (sym is) (record {
+      subst (λ l. IsNew options in_block hanging state l hanging ws) (sym (read-line options state raw r fed)) (record {
         of = hung-line state raw fed ws block apart spaced;
         apart = apart;
-        prefixed = ap (λ l. lead ++ spaced_text (ds ++ l)) (append-nil rs) ∙ sym hang.is;
+        prefixed = ap (λ l. hang.lead ++ spaced_text (hang.cs ++ l)) (append-nil hang.qs) ∙ sym hang.is;
         has = refl;
       })
 
@@ -137,105 +130,110 @@ any-behind : (test : ℕ → Bool) (front rest : List ℕ) → list_any test res
 any-behind test [] rest none = none
 any-behind test (c ∷ front) rest none = ap (λ b. test c || b) (any-behind test front rest none)
 
-white-star : (c : ℕ) → IsWhite c → (c == 42) ≡ false
-white-star c white =
-    false_from_ne_true (c == 42) (λ is.
-    true≢false (sym white ∙ ap is_white (eqb-true c 42 is)))
+-- all that the lines before it ask of a line, and of the first of a block
+pub record IsHeadAlike (line other : LineText) : Type 0 where
+  pub prefix : other.prefix ≡ line.prefix
+  pub hangs : other.hanging ≡ line.hanging
+  pub field : other.field ≡ line.field
+  pub chosen : other.chosen ≡ line.chosen
+  pub apart : other.apart ≡ line.apart
+  pub rule : is_rule other.words ≡ is_rule line.words
+  pub opens : opens_paragraph (first_word other.words) ≡ opens_paragraph (first_word line.words)
 
 -- all that is asked of the first line of a block
 pub record IsFirstAlike (line new : LineText) : Type 0 where
-  pub prefix : new.prefix ≡ line.prefix
-  pub hangs : new.hanging ≡ line.hanging
+  pub head : IsHeadAlike line new
   pub starred : new.starred ≡ line.starred
-  pub field : new.field ≡ line.field
-  pub chosen : new.chosen ≡ line.chosen
-  pub apart : new.apart ≡ line.apart
-  pub first : first_word new.words ≡ first_word line.words
 
-module _ (options : ReflowOptions) (state : StateText) (raw : List ℕ) (fed : Bool) (lead : List ℕ)
-    (cs qs bs ws : List SpacedText) (read : IsRead options state raw lead cs qs bs ws)
-    (apart : (line_by options state raw fed (kinds lead cs qs bs ws)).apart ≡ false) where
+module _ (options : ReflowOptions) (state : StateText) (raw : List ℕ) (fed : Bool)
+    (r : IsRead options state raw)
+    (apart : (line_by options state raw fed (read_kinds options state raw r)).apart ≡ false) where
+  abbrev first_kinds : Kinds
+  first_kinds = read_kinds options state raw r
+
   abbrev first_line : LineText
-  first_line = line_by options state raw fed (kinds lead cs qs bs ws)
+  first_line = line_by options state raw fed first_kinds
 
   abbrev first_block : Bool
-  first_block = block_at state (kinds lead cs qs bs ws)
+  first_block = block_at state first_kinds
 
-  first-free : IsOpen options state (hanging_of options.bare (kinds lead cs qs bs ws))
-      × AreFree options.justify first_block (starred_at options state (kinds lead cs qs bs ws))
-      (field_of (kinds lead cs qs bs ws)) ws
-  first-free = apart-free options state raw fed (kinds lead cs qs bs ws) apart
+  first-free : IsOpen options state (hanging_of options.bare first_kinds)
+      × AreFree options.justify first_block (starred_at options state first_kinds) (field_of first_kinds) r.ws
+  first-free = apart-free options state raw fed first_kinds apart
 
-  first-some : 0 < length ws
-  first-some =
-      words-some ws (begun (starred_at options state (kinds lead cs qs bs ws)) ws first-free.1.begins)
+  first-some : 0 < length r.ws
+  first-some = words-some r.ws (begun (starred_at options state first_kinds) r.ws first-free.1.begins)
 
-  pub first-parts : All IsFull (cs ++ (qs ++ bs)) × AreSpaced ws
+  pub first-parts : All IsFull (read_marks options state raw r) × AreSpaced r.ws
   first-parts =
-      before-full (cs ++ (qs ++ bs)) ws first-some
-      (subst AreSpaced (regroup cs qs bs ws) read.text.spaced)
+      before-full (read_marks options state raw r) r.ws first-some (read-spaced options state raw r)
 
-  pub first-hangs : (front : List ℕ) × (ds : List SpacedText) × (rs : List SpacedText)
-      × IsHanging options first_block first_line.hanging front ds rs
+  pub first-hangs : IsHanging options first_block first_line.hanging
   first-hangs =
-      hanging-is options state.in_block lead cs qs bs ws read.text.white first-parts.0 read.have
+      hanging-is options state.in_block r.lead r.cs r.qs r.bs r.ws r.text.white first-parts.0 r.have
 
   pub first-text : IsOfText options first_block first_line.hanging state first_line
   first-text =
-      text-line options first_block first_line.hanging state raw fed (kinds lead cs qs bs ws) apart refl
-      refl first-parts.1
+      text-line options first_block first_line.hanging state raw fed first_kinds apart refl refl first-parts.1
 
   pub first-unfenced : state.fence ≡ None
   first-unfenced = some-none state.fence first-free.0.fence
 
-  pub first-begins : begins_text first_line.starred (first_word ws) ≡ true
+  pub first-begins : begins_text first_line.starred (first_word r.ws) ≡ true
   first-begins = first-free.1.begins
 
-  pub first-keyed : (first_line.field && has_byte 45 (first_word ws)) ≡ false
+  pub first-keyed : (first_line.field && has_byte 45 (first_word r.ws)) ≡ false
   first-keyed = first-free.1.field
 
   -- its block comment has the same margin as those of the later lines
   pub first-starred : first_line.starred ≡ (first_block && not (has_byte 42 first_line.hanging))
   first-starred =
-      let margin = hanging_of options.bare (kinds lead cs qs bs ws) in
-      let full_b = all-right IsFull qs bs (all-right IsFull cs (qs ++ bs) first-parts.0) in
-      ap (λ b. first_block && not b) (sym (any-behind (λ c. c == 42) margin (hanging_bullets bs)
-      (none-any (λ c. c == 42) (hanging_bullets bs)
-      (All-weaker IsWhite (λ c. (c == 42) ≡ false) white-star (hanging_bullets bs)
-      (bullets-white bs full_b)))))
+      let margin = hanging_of options.bare first_kinds in
+      let bullets = hanging_bullets r.bs in
+      let full_b = all-right IsFull r.qs r.bs (all-right IsFull r.cs (r.qs ++ r.bs) first-parts.0) in
+      let none = none-any (λ c. c == 42) bullets
+      (All-weaker IsWhite (λ c. (c == 42) ≡ false) (λ c white. white-other c 42 white refl) bullets
+      (bullets-white r.bs full_b)) in
+      ap (λ b. first_block && not b) (sym (list_any-append (λ c. c == 42) margin bullets
+      ∙ ap (λ b. has_byte 42 margin || b) none ∙ or-false (has_byte 42 margin)))
 
   -- a new line with other words, of which the first is the same
   pub first-new : (others : List SpacedText) (new : List ℕ) (more : Bool)
       → without_returns new ≡ first_line.prefix ++ spaced_text others → AreSpaced others
-      → 0 < length others → first_word ws ≡ first_word others
+      → 0 < length others → first_word r.ws ≡ first_word others
       → AreFree options.justify first_block first_line.starred first_line.field others
       → IsNew options first_block first_line.hanging state (line_as_read options state new more)
       first_line.prefix others
       × IsFirstAlike first_line (line_as_read options state new more)
   first-new others new more text spaced some same are =
-      let k = kinds lead cs qs bs others in
-      let marks = cs ++ (qs ++ bs) in
-      let begins = first-free.1.begins in
-      let text_is : IsLineText (without_returns new) lead (cs ++ (qs ++ (bs ++ others))) = record {
-        white = read.text.white;
-        spaced = subst AreSpaced (sym (regroup cs qs bs others))
-            (full-before marks others first-parts.0 spaced);
-        is = text ∙ append_assoc lead (spaced_text marks) (spaced_text others)
-            ∙ ap (λ l. lead ++ l) (sym (text-parts marks others)
-            ∙ ap spaced_text (sym (regroup cs qs bs others)));
+      let k = kinds r.lead r.cs r.qs r.bs others in
+      let marks = read_marks options state raw r in
+      let group = regroup r.cs r.qs r.bs others in
+      let box = text-other (starred_at options state first_kinds) (first_word r.ws) (codes "[")
+      first-begins box-plain in
+      let read : IsRead options state new = record {
+        lead = r.lead;
+        cs = r.cs;
+        qs = r.qs;
+        bs = r.bs;
+        ws = others;
+        text = record {
+          white = r.text.white;
+          spaced = subst AreSpaced (sym group) (full-before marks others first-parts.0 spaced);
+          is = text ∙ append_assoc r.lead (spaced_text marks) (spaced_text others)
+              ∙ ap (λ l. r.lead ++ l) (sym (text-parts marks others) ∙ ap spaced_text (sym group));
+        };
+        have = kinds-first options state.in_block r.cs r.qs r.bs r.ws others r.have first-some some same box;
       } in
-      let box = text-other (starred_at options state (kinds lead cs qs bs ws)) (first_word ws) (codes "[")
-      begins box-plain in
-      let have = kinds-first options state.in_block cs qs bs ws others read.have first-some some same box in
-      let is = line-is lead cs qs bs others options state new more text_is have in
-      let keyed : (is_key (first_word others) && (length bs == 0)) ≡ first_line.field =
-      ap (λ w. is_key w && (length bs == 0)) (sym same) in
+      let letter = text-letter first_line.starred (first_word r.ws) first-begins in
+      let keyed : (is_key (first_word others) && (length r.bs == 0)) ≡ first_line.field =
+      ap (λ w. is_key w && (length r.bs == 0)) (sym same) in
       let fits : AreFree options.justify first_block first_line.starred (field_of k) others =
       subst (λ b. AreFree options.justify first_block first_line.starred b others) (sym keyed) are in
       let free : (line_by options state new more k).apart ≡ false =
       free-apart options state new more k first-free.0 fits in
       subst (λ l. IsNew options first_block first_line.hanging state l first_line.prefix others
-      × IsFirstAlike first_line l) (sym is) (
+      × IsFirstAlike first_line l) (sym (read-line options state new read more)) (
         record {
           of = text-line options first_block first_line.hanging state new more k free refl refl spaced;
           apart = free;
@@ -243,12 +241,15 @@ module _ (options : ReflowOptions) (state : StateText) (raw : List ℕ) (fed : B
           has = refl;
         },
         record {
-          prefix = refl;
-          hangs = refl;
+          head = record {
+            prefix = refl;
+            hangs = refl;
+            field = keyed;
+            chosen = refl;
+            apart = free ∙ sym apart;
+            rule = letter-no-rule others (ap has_letter (sym same) ∙ letter) ∙ sym (letter-no-rule r.ws letter);
+            opens = ap opens_paragraph (sym same);
+          };
           starred = refl;
-          field = keyed;
-          chosen = refl;
-          apart = free ∙ sym apart;
-          first = sym same;
         },
       )

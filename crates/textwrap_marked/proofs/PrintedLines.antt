@@ -1,7 +1,6 @@
 -- The texts of the lines of a division, of which all but the last may be justified.
-use Rattle.textwrap_marked.proofs.LineNames.{◌≡◌, ℕ, ◌&&◌, Bool, true, false, List, [], ◌∷◌, ap, arith}
-use Rattle.textwrap_marked.proofs.LineNames.{length, lt-ltb, nat_lt, refl, sym, WordText}
-use Rattle.textwrap_marked.proofs.Common.{line_text, line_texts}
+use Rattle.textwrap_marked.proofs.Common.{false, Bool, List, refl, true, ◌&&◌, sym, ◌∷◌, ◌≡◌, [], ap, ℕ}
+use Rattle.textwrap_marked.proofs.Common.{line_texts, line_text, WordText, length, lt-ltb, nat_lt, arith}
 
 -- the first of them is, if lines follow; those are the texts of a division of their own
 pub texts_more : (justify : Bool) (room later : ℕ) (line : List WordText) (lines : List (List WordText))

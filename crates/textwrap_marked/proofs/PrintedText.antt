@@ -1,23 +1,17 @@
 -- The text of a paragraph as it is printed is its lines, with a line feed between each two.
-use Rattle.textwrap_marked.proofs.LineNames.{◌≡◌, ◌≢◌, ℕ, ◌-◌, ◌&&◌, Bool, true, false, cond, List, []}
-use Rattle.textwrap_marked.proofs.LineNames.{◌∷◌, ◌++◌, All, All-append, All-cons, All-head, All-nil}
-use Rattle.textwrap_marked.proofs.LineNames.{All-tail, ap, append-nil, append_assoc, arith, codes, drop}
-use Rattle.textwrap_marked.proofs.LineNames.{ends_with, flat_map, join_with_byte, length, nat_eq}
-use Rattle.textwrap_marked.proofs.LineNames.{nat_lt, refl, subst, suc, sym, ◌∙◌, ◌==◌, eqb-true}
-use Rattle.textwrap_marked.proofs.LineNames.{false_from_ne_true, true≢false, All-weaker, all-left}
-use Rattle.textwrap_marked.proofs.LineNames.{all-right, LineText, last_white, is_white, spaced_text}
-use Rattle.textwrap_marked.proofs.LineNames.{SpacedText}
-use Rattle.textwrap_marked.proofs.Common.{break_white, ending_if, filled_end}
-use Rattle.textwrap_marks.specs.declared.options.ReflowOptions.{ReflowOptions}
-use Rattle.textwrap_marked.proofs.AnewLines.{end-parts, return-feedless}
-use Rattle.textwrap_marked.proofs.Feedless.{IsFeedless, NoFeed}
-use Rattle.textwrap_marked.proofs.KeptLines.{join-more}
-use Rattle.textwrap_marked.proofs.LineWords.{all_shown, AreCutInto, gap, shown, spread}
-use Rattle.textwrap_marked.proofs.NewLines.{later_raws, line_raw, returns_at, text_end}
-use Rattle.textwrap_marked.proofs.ReturnsOff.{return_if}
-use Rattle.textwrap_marked.proofs.SpacedBack.{AreSpaced, IsWhite}
-use Rattle.textwrap_marked.proofs.SpreadWords.{gap-white, last-more, spread-end}
-use Rattle.textwrap_marked.proofs.TextBlocks.{last_line}
+use Rattle.textwrap_marked.proofs.AnewLines.{return-feedless, end-parts}
+use Rattle.textwrap_marked.proofs.Common.{All-head, All-tail, LineText, all-left, flat_map, length, nat_eq}
+use Rattle.textwrap_marked.proofs.Common.{filled_end, last_white, all-right, ending_if, ends_with, All-cons}
+use Rattle.textwrap_marked.proofs.Common.{join_with_byte, ReflowOptions, append_assoc, break_white, All-nil}
+use Rattle.textwrap_marked.proofs.Common.{nat_lt, arith, codes, false, subst, List, cond, drop, refl, true}
+use Rattle.textwrap_marked.proofs.Common.{spaced_text, All-append, All-weaker, SpacedText, append-nil, Bool}
+use Rattle.textwrap_marked.proofs.Common.{◌&&◌, ◌++◌, All, suc, sym, ◌-◌, ◌∙◌, ◌∷◌, ◌≡◌, ◌≢◌, [], ap, ℕ}
+use Rattle.textwrap_marked.proofs.LineWords.{AreCutInto, all_shown, spread, shown, gap}
+use Rattle.textwrap_marked.proofs.NewLines.{later_raws, returns_at, line_raw, text_end}
+use Rattle.textwrap_marked.proofs.SpacedBack.{white-other, AreSpaced, IsWhite}
+use Rattle.textwrap_marked.proofs.SpreadWords.{spread-end, gap-white, last-more}
+use Rattle.textwrap_marked.proofs.{Feedless.IsFeedless, Feedless.NoFeed, TextBlocks.last_line}
+use Rattle.textwrap_marked.proofs.{KeptLines.join-more, ReturnsOff.return_if}
 use Rattle.textwrap_marks.specs.Signs.{first_white}
 
 -- ---- what stands behind the last line
@@ -55,15 +49,12 @@ pub break-again : (line other : LineText) → last_white other.words ≡ break_w
     → break_white other ≡ break_white line
 break-again line other is =
     ap (λ w. cond (ends_with nat_eq w (codes "  ")) w []) is
-    ∙ cut (ends_with nat_eq (last_white line.words) (codes "  ")) refl
+    ∙ ap (λ b. cond b (break_white line) []) (break-same line)
+    ∙ twice (ends_with nat_eq (last_white line.words) (codes "  ")) (last_white line.words)
   where
-    cut : (b : Bool) → ends_with nat_eq (last_white line.words) (codes "  ") ≡ b
-        → cond (ends_with nat_eq (break_white line) (codes "  ")) (break_white line) [] ≡ break_white line
-    cut true is =
-        ap (λ b. cond b (break_white line) []) (break-same line ∙ is)
-    cut false is =
-        let none : break_white line ≡ [] = ap (λ b. cond b (last_white line.words) []) is in
-        ap (λ b. cond b (break_white line) []) (break-same line ∙ is) ∙ sym none
+    twice : (b : Bool) (w : List ℕ) → cond b (cond b w []) [] ≡ cond b w []
+    twice true w = refl
+    twice false w = refl
 
 white-last : (ws : List SpacedText) → AreSpaced ws → All IsWhite (last_white ws)
 white-last [] are = All-nil IsWhite
@@ -123,9 +114,8 @@ module _ (justify : Bool) (wide : ℕ → ℕ → ℕ) (returns : Bool) (end han
 
 -- ---- no line feed
 
-white-feedless : (c : ℕ) → IsWhite c → NoFeed c
-white-feedless c white =
-    false_from_ne_true (c == 10) (λ is. true≢false (sym white ∙ ap is_white (eqb-true c 10 is)))
+white-feedless : (text : List ℕ) → All IsWhite text → IsFeedless text
+white-feedless text white = All-weaker IsWhite NoFeed (λ c is. white-other c 10 is refl) text white
 
 spread-feedless : (justify : Bool) (gaps : ℕ → ℕ) (words : List (List ℕ)) (end : List ℕ)
     → All IsFeedless words → IsFeedless end → IsFeedless (spaced_text (spread justify gaps words end))
@@ -137,43 +127,35 @@ spread-feedless justify gaps (word ∷ next ∷ words) end all free =
     let white = gap justify gaps (length words) in
     All-append NoFeed (word ++ white) (spaced_text (spread justify gaps (next ∷ words) end))
     (All-append NoFeed word white (All-head IsFeedless word (next ∷ words) all)
-    (All-weaker IsWhite NoFeed white-feedless white (gap-white justify gaps (length words))))
+    (white-feedless white (gap-white justify gaps (length words))))
     (spread-feedless justify gaps (next ∷ words) end (All-tail IsFeedless word (next ∷ words) all) free)
 
 module _ (options : ReflowOptions) (starred : Bool) (wide : ℕ → ℕ → ℕ) (returns more : Bool)
     (end hanging : List ℕ) (white : All IsWhite end) (hung : IsFeedless hanging) where
   end-feedless : (lines : List (List (List ℕ))) → IsFeedless (text_end end lines)
-  end-feedless [] = All-weaker IsWhite NoFeed white-feedless end white
+  end-feedless [] = white-feedless end white
   end-feedless (line ∷ lines) = All-nil NoFeed
 
-  line-feedless : (lines : List (List (List ℕ))) (prefix : List ℕ) (words later : List (List ℕ))
-      → IsFeedless prefix → All IsFeedless (words ++ later)
-      → All IsFeedless (later_raws options.justify wide returns more end hanging lines)
-      → All IsFeedless
-      (line_raw options.justify wide returns more end prefix words lines ∷ later_raws options.justify wide returns more end hanging lines)
-  line-feedless lines prefix words later free all behind =
+  line-feedless : (lines : List (List (List ℕ))) (prefix : List ℕ) (words : List (List ℕ))
+      → IsFeedless prefix → All IsFeedless words
+      → IsFeedless (line_raw options.justify wide returns more end prefix words lines)
+  line-feedless lines prefix words free all =
       let gaps = wide (length lines) in
       let text = spaced_text (spread options.justify gaps words (text_end end lines)) in
-      All-cons IsFeedless (line_raw options.justify wide returns more end prefix words lines)
-      (later_raws options.justify wide returns more end hanging lines)
-      (All-append NoFeed (prefix ++ text) (return_if (returns_at returns more lines))
+      All-append NoFeed (prefix ++ text) (return_if (returns_at returns more lines))
       (All-append NoFeed prefix text free
-      (spread-feedless options.justify gaps words (text_end end lines) (all-left IsFeedless words later all) (end-feedless lines)))
-      (return-feedless (returns_at returns more lines))) behind
-
-  later-feedless : (lines : List (List (List ℕ))) (later : List (List ℕ))
-      → AreCutInto options starred later lines → All IsFeedless later
-      → All IsFeedless (later_raws options.justify wide returns more end hanging lines)
-  later-feedless [] later cut all = All-nil IsFeedless
-  later-feedless (words ∷ lines) later (behind, some, is, may, cut) all =
-      let each = subst (All IsFeedless) is all in
-      line-feedless lines hanging words behind hung each
-      (later-feedless lines behind cut (all-right IsFeedless words behind each))
+      (spread-feedless options.justify gaps words (text_end end lines) all (end-feedless lines)))
+      (return-feedless (returns_at returns more lines))
 
   pub raws-feedless : (lines : List (List (List ℕ))) (prefix : List ℕ) (words later : List (List ℕ))
       → IsFeedless prefix → AreCutInto options starred later lines → All IsFeedless (words ++ later)
       → All IsFeedless
       (line_raw options.justify wide returns more end prefix words lines ∷ later_raws options.justify wide returns more end hanging lines)
-  raws-feedless lines prefix words later free cut all =
-      line-feedless lines prefix words later free all
-      (later-feedless lines later cut (all-right IsFeedless words later all))
+  raws-feedless [] prefix words later free cut all =
+      All-cons IsFeedless _ [] (line-feedless [] prefix words free (all-left IsFeedless words later all))
+      (All-nil IsFeedless)
+  raws-feedless (next ∷ lines) prefix words later free (behind, some, is, may, cut) all =
+      All-cons IsFeedless _ (later_raws options.justify wide returns more end hanging (next ∷ lines))
+      (line-feedless (next ∷ lines) prefix words free (all-left IsFeedless words later all))
+      (raws-feedless lines hanging next behind hung cut
+      (subst (All IsFeedless) is (all-right IsFeedless words later all)))

@@ -1,19 +1,60 @@
 -- What the printed lines of a paragraph keep to.
-use Rattle.textwrap_marked.proofs.LineNames.{◌≡◌, ℕ, ◌+◌, ◌-◌, ◌<◌, ◌≤◌, true, List, [], ◌∷◌, All}
-use Rattle.textwrap_marked.proofs.LineNames.{All-cons, All-head, All-nil, All-tail, arith, inl, inr}
-use Rattle.textwrap_marked.proofs.LineNames.{length, refl, reverse, subst, sym, ap, ◌∙◌}
-use Rattle.textwrap_marked.proofs.LineNames.{take_all, suffix_len-le-length, IsDivision, blank}
-use Rattle.textwrap_marked.proofs.LineNames.{is_blank, sizes_of, word_of, WordText, covered, LineText}
-use Rattle.textwrap_marked.proofs.Common.{piece_words, line_text, line_texts}
-use Rattle.textwrap_marks.specs.declared.options.ReflowOptions.{ReflowOptions}
-use Rattle.textwrap_base.proofs.Common.{AllFit, AreEqualFromSecond, closed_width, Fits}
-use Rattle.textwrap_text.proofs.Common.{length-drop, reverse-append, trimmed_len}
-use Rattle.std.specs.List.{prefix_len, suffix_len}
+use Rattle.textwrap_base.proofs.Common.{AreEqualFromSecond, closed_width, AllFit, Fits}
 use Rattle.textwrap_base.proofs.Division.Greedy.{line_width-later}
 use Rattle.textwrap_display.proofs.Widths.{justified-width}
-use Rattle.textwrap_marked.proofs.BlankPieces.{division-all, EndsInBlank, words-all}
-use Rattle.textwrap_marks.specs.Columns.{text_columns}
+use Rattle.textwrap_marked.proofs.Common.{WordText, is_blank, sizes_of, take_all, All-map, All-nil, arith}
+use Rattle.textwrap_marked.proofs.Common.{append_assoc, length-drop, piece_words, trimmed_len, IsDivision}
+use Rattle.textwrap_marked.proofs.Common.{covered, reverse, word_of, is_cut, length, pieces, blank, false}
+use Rattle.textwrap_marked.proofs.Common.{flat-each, line_text, All-cons, All-head, All-tail, LineText, ℕ}
+use Rattle.textwrap_marked.proofs.Common.{line_texts, onto_front, prefix_len, suffix_len, with_blank, All}
+use Rattle.textwrap_marked.proofs.Common.{subst, Bool, List, cond, refl, true, ◌++◌, inl, inr, sym, ◌+◌}
+use Rattle.textwrap_marked.proofs.Common.{suffix_len-le-length, words_of_lines, ReflowOptions, All-weaker}
+use Rattle.textwrap_marked.proofs.Common.{◌-◌, ◌<◌, ◌∙◌, ◌∷◌, ◌≡◌, ◌≤◌, [], ap}
 use Rattle.textwrap_marked.specs.Laws.{AreAsWide, AreWithin, IsAsWide, IsWithin}
+use Rattle.textwrap_marks.specs.Columns.{text_columns}
+use Rattle.textwrap_text.proofs.Common.{reverse-append}
+
+abbrev pub EndsInBlank : List ℕ → Type 0
+EndsInBlank text = (front : List ℕ) × (text ≡ front ++ blank ∷ [])
+
+onto_front-blank : (front : List ℕ) (parts : List (List ℕ)) → EndsInBlank front
+    → All EndsInBlank parts → All EndsInBlank (onto_front front parts)
+onto_front-blank front [] ends all = All-cons EndsInBlank front [] ends all
+onto_front-blank front (part ∷ parts) ends all =
+    let (before, is) = All-head EndsInBlank part parts all in
+    All-cons EndsInBlank (front ++ part) parts
+    (front ++ before, ap (λ l. front ++ l) is ∙ sym (append_assoc front before (blank ∷ [])))
+    (All-tail EndsInBlank part parts all)
+
+pieces-blank : (options : ReflowOptions) (starred : Bool) (words : List (List ℕ))
+    → All EndsInBlank (pieces options starred words)
+pieces-blank options starred [] = All-nil EndsInBlank
+pieces-blank options starred (word ∷ words) =
+    let later = pieces options starred words in
+    let all = pieces-blank options starred words in
+    elim (is_cut options starred word words) as (λ b. All EndsInBlank
+    (cond b (with_blank word ∷ later) (onto_front (with_blank word) later))) [
+      | true ↦ All-cons EndsInBlank (with_blank word) later (word, refl) all
+      | false ↦ onto_front-blank (with_blank word) later (word, refl) all
+    ]
+
+-- what holds of each text that ends so, as a word, holds of the pieces
+pub words-all : (P : WordText → Type 0) → ((text : List ℕ) → EndsInBlank text → P (word_of text))
+    → (options : ReflowOptions) (first : LineText) (lines : List LineText)
+    → All P (piece_words options first lines)
+words-all P each options first lines =
+    let texts = pieces options first.starred (words_of_lines lines) in
+    All-map P word_of texts (All-weaker EndsInBlank (λ t. P (word_of t)) each texts
+    (pieces-blank options first.starred (words_of_lines lines)))
+
+-- what holds of all pieces holds of those of each line
+pub division-all : (P : WordText → Type 0) (xs : List WordText) (lines : List (List WordText)) → All P xs
+    → IsDivision xs lines → All (All P) lines
+division-all P [] lines all is =
+    subst (All (All P)) (sym is) (All-cons (All P) [] [] (All-nil P) (All-nil (All P)))
+division-all P (x ∷ xs) lines all is = flat-each P (λ l. l) lines (subst (All P) (sym is.0) all)
+
+-- ---- what the printed lines of a paragraph keep to
 
 abbrev HasBlank : WordText → Type 0
 HasBlank w = 0 < length w.whitespace

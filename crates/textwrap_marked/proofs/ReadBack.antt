@@ -1,29 +1,18 @@
 -- What is printed of the blocks of a text, read again.
-use Rattle.textwrap_marked.proofs.LineNames.{◌≡◌, ℕ, ◌||◌, Bool, true, false, List, [], ◌∷◌, ◌++◌, All}
-use Rattle.textwrap_marked.proofs.LineNames.{All-append, ap, arith, flat_map, join_with_byte, length}
-use Rattle.textwrap_marked.proofs.LineNames.{map, nat_lt, refl, subst, sym, ◌∙◌, all-left, all-right}
-use Rattle.textwrap_marked.proofs.LineNames.{flat, ap₂, LineText, StateText, ◌+◌}
-use Rattle.textwrap_marked.proofs.LineNames.{cases_Bool, not}
-use Rattle.textwrap_marked.proofs.Common.{is_beside, stays, AreSameParts, AreShown, IsSameBy}
-use Rattle.textwrap_marked.proofs.Common.{parts_of_blocks, AreOfBlocks, HasNoBarMark, lines_alone}
-use Rattle.textwrap_marked.proofs.Common.{words_of_lines}
-use Rattle.textwrap_marked.proofs.Common.{kept_line, IsOfBlock}
-use Rattle.textwrap_marks.specs.declared.options.ReflowOptions.{ReflowOptions}
-use Rattle.textwrap_marked.proofs.PrintedText.{ends_as, filled-last}
-use Rattle.textwrap_marked.specs.Within.{AreOfBlocksWithin, touches}
-use Rattle.textwrap_marked.specs.declared.within.LineRange.{LineRange}
-use Rattle.textwrap_marked.proofs.AnewLines.{anew, anew_raw, IsTold, kept-anew, last-anew, one-anew}
-use Rattle.textwrap_marked.proofs.BegunAlike.{AreBegun}
-use Rattle.textwrap_marked.proofs.BlockOrder.{AreBlocks}
-use Rattle.textwrap_marked.proofs.BlocksAlike.{part-cons, part_of, stops-same}
-use Rattle.textwrap_marked.proofs.Feedless.{IsFeedless}
-use Rattle.textwrap_marked.proofs.FenceMarks.{IsSafe}
-use Rattle.textwrap_marked.proofs.KeptLines.{AreHeads, head-same, keep}
-use Rattle.textwrap_marked.proofs.ReturnsOff.{return_if}
-use Rattle.textwrap_marked.proofs.ShownLines.{shown-append}
-use Rattle.textwrap_marked.proofs.LinesAlone.{alone-append}
-use Rattle.textwrap_marked.proofs.TextBlocks.{last_line, read}
-use Rattle.textwrap_marked.specs.Reflow.{kept_text}
+use Rattle.textwrap_marked.proofs.AnewLines.{kept-anew, last-anew, anew_raw, one-anew, IsTold, anew}
+use Rattle.textwrap_marked.proofs.BlocksAlike.{stops-same, part-cons, part_of}
+use Rattle.textwrap_marked.proofs.Common.{AreOfBlocksWithin, parts_of_blocks, join_with_byte, ReflowOptions}
+use Rattle.textwrap_marked.proofs.Common.{IsOfBlock, LineRange, StateText, all-right, is_beside, kept_line}
+use Rattle.textwrap_marked.proofs.Common.{IsSameBy, LineText, all-left, flat_map, touches, length, nat_lt}
+use Rattle.textwrap_marked.proofs.Common.{arith, false, stays, subst, Bool, List, flat, refl, true, ◌++◌, ℕ}
+use Rattle.textwrap_marked.proofs.Common.{words_of_lines, AreSameParts, AreOfBlocks, All-append, cases_Bool}
+use Rattle.textwrap_marked.proofs.Common.{◌||◌, All, map, not, sym, ◌+◌, ◌∙◌, ◌∷◌, ◌≡◌, [], ap}
+use Rattle.textwrap_marked.proofs.KeptLines.{head-same, AreHeads, keep}
+use Rattle.textwrap_marked.proofs.LinesAlone.{alike-append, AreAlike}
+use Rattle.textwrap_marked.proofs.PrintedText.{filled-last, ends_as}
+use Rattle.textwrap_marked.proofs.{Feedless.IsFeedless, TextParts.AreBlocks}
+use Rattle.textwrap_marked.proofs.{ReturnsOff.return_if, TextBlocks.last_line, TextBlocks.read}
+use Rattle.textwrap_marked.{proofs.BegunAlike.AreBegun, proofs.FenceMarks.IsSafe, specs.Reflow.kept_text}
 
 module _ (options : ReflowOptions) (returns : Bool) (told : IsTold options.ending returns) where
   abbrev pub ending : List ℕ
@@ -42,10 +31,7 @@ module _ (options : ReflowOptions) (returns : Bool) (told : IsTold options.endin
     pub heads : AreHeads (flat bs) (flat blocks)
     pub some : nat_lt 0 (length again) ≡ nat_lt 0 (length raws)
     pub begun : AreBegun returns raws again
-    pub shown : List (List ℕ)
-    pub raws_show : AreShown options raws shown
-    pub again_show : AreShown options again shown
-    pub alone : HasNoBarMark options → lines_alone options again ≡ lines_alone options raws
+    pub alike : AreAlike options raws again
 
   -- one block after the other: those that stay, and others or none, are as they were
   abbrev pub AreOfBlocksAny : Bool → List (List LineText) → List ℕ → Type 0
@@ -136,14 +122,8 @@ module _ (options : ReflowOptions) (returns : Bool) (told : IsTold options.endin
         some = k.fed_same later.again later.some ∙ ap (λ l. nat_lt 0 (length l)) (sym k.whole);
         begun = subst (λ l. AreBegun returns l (k.news ++ later.again)) (sym k.whole)
             (k.begun later.again later.some (omega arith));
-        shown = k.shown ++ later.shown;
-        raws_show = subst (λ l. AreShown options l (k.shown ++ later.shown)) (sym k.whole)
-            (shown-append options k.kept k.left k.shown later.shown k.kept_show later.raws_show);
-        again_show =
-            shown-append options k.news later.again k.shown later.shown k.news_show later.again_show;
-        alone = λ plain.
-            alone-append options k.news later.again ∙ ap₂ (λ a b. a ++ b) k.alone (later.alone plain)
-            ∙ sym (ap (lines_alone options) k.whole ∙ alone-append options k.kept k.left);
+        alike = subst (λ l. AreAlike options l (k.news ++ later.again)) (sym k.whole)
+            (alike-append options k.kept k.news k.left later.again k.alike later.alike);
       }
     where
       new : LineText → LineText

@@ -1,12 +1,10 @@
 -- Lines, read one after another.
-use Rattle.textwrap_text.proofs.Common.{◌≡◌, ℕ, ◌==◌, Bool, List, ◌∷◌, length, refl, sym, arith}
-use Rattle.textwrap_text.proofs.Common.{nat_lt, Option, Some, None, Bor, lt-ltb}
-use Rattle.std.proofs.lemmas.List.Splits.{length-slice_split}
-use Rattle.std.specs.Prelude.{is_some}
-use Rattle.textwrap_marked.specs.Lines.{entered, line_as_read, LineText, passed, without_returns}
-use Rattle.textwrap_marked.specs.Lines.{read_lines, StateText}
+use Rattle.textwrap_marked.proofs.Common.{length, lt-ltb, nat_lt, passed, arith, Bool, List, None, Some}
+use Rattle.textwrap_marked.proofs.Common.{length-slice_split, without_returns, ReflowOptions, read_lines}
+use Rattle.textwrap_marked.proofs.Common.{line_as_read, StateText, LineText, entered, is_some, Option, ℕ}
+use Rattle.textwrap_marked.proofs.Common.{refl, ◌==◌, sym, ◌∷◌, ◌≡◌}
 use Rattle.textwrap_marks.specs.Words.{parts_behind_mark}
-use Rattle.textwrap_marks.specs.declared.options.ReflowOptions.{ReflowOptions}
+use Rattle.textwrap_text.proofs.Common.{Bor}
 
 -- a line feed follows just where more parts do
 pub fed-is : (rest : Option (Bor (List ℕ))) → is_some rest ≡ nat_lt 0 (length (parts_behind_mark 10 rest))

@@ -1,11 +1,8 @@
 -- Answers that do not meet the laws.
-use Rattle.textwrap_marked.proofs.LineNames.{◌≡◌, ℕ, ◌||◌, Bool, true, false, List, ◌∷◌, [], ◌++◌, ap}
-use Rattle.textwrap_marked.proofs.LineNames.{bytes_eq, codes, drop, length, list_any, refl, suc, sym}
-use Rattle.textwrap_marked.proofs.LineNames.{true≢false, zero, ◌∙◌, arith, cases_Bool}
-use Rattle.textwrap_marked.proofs.Common.{words_between_white}
-use Rattle.textwrap_marks.specs.declared.options.ReflowOptions.{ReflowOptions}
-use Rattle.std.proofs.Math.Seq.{drop-append_seam}
-use Rattle.std.proofs.lemmas.List.Folds.{list_any-append}
+use Rattle.std.proofs.{Math.Seq.drop-append_seam, lemmas.List.Folds.list_any-append}
+use Rattle.textwrap_marked.proofs.Common.{bytes_eq, list_any, length, arith, codes, false, Bool, List, []}
+use Rattle.textwrap_marked.proofs.Common.{drop, refl, true, zero, ◌++◌, ◌||◌, sym, ◌∙◌, ◌∷◌, ◌≡◌, ap, ℕ}
+use Rattle.textwrap_marked.proofs.Common.{words_between_white, ReflowOptions, cases_Bool, true≢false, suc}
 use Rattle.textwrap_marked.specs.Laws.{ShowTheSame}
 
 -- an empty line is shown

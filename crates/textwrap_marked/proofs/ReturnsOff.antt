@@ -1,17 +1,14 @@
 -- Carriage returns behind a line of words are no part of it.
-use Rattle.textwrap_marked.proofs.LineNames.{◌≡◌, ℕ, ◌+◌, ◌-◌, ◌<◌, Bool, true, false, cond, List, []}
-use Rattle.textwrap_marked.proofs.LineNames.{◌∷◌, ◌++◌, All, All-head, All-tail, ap, append-nil}
-use Rattle.textwrap_marked.proofs.LineNames.{append_assoc, arith, get_or, length, length-append}
-use Rattle.textwrap_marked.proofs.LineNames.{prefix_len, refl, reverse, suffix_len, sym, take, take_all}
-use Rattle.textwrap_marked.proofs.LineNames.{take_more, true≢false, eqb-true, ◌∙◌, is_return}
-use Rattle.textwrap_marked.proofs.LineNames.{without_returns, is_column_word, is_white}
-use Rattle.textwrap_text.proofs.Common.{reverse-append, take_at}
 use Rattle.std.proofs.lemmas.List.Elements.{All-get_or}
-use Rattle.textwrap_marked.proofs.LineWords.{gap, shown}
-use Rattle.textwrap_marks.proofs.ListLemmas.{any-none}
-use Rattle.textwrap_marked.proofs.OpenBehind.{no-return}
-use Rattle.textwrap_marked.proofs.SpacedBack.{IsWhite}
-use Rattle.textwrap_marked.proofs.WordsIn.{IsPlain}
+use Rattle.textwrap_marked.proofs.Common.{false_from_ne_true, without_returns, is_column_word, append_assoc}
+use Rattle.textwrap_marked.proofs.Common.{is_return, All-head, All-tail, any-none, take_all, reverse, arith}
+use Rattle.textwrap_marked.proofs.Common.{length-append, append-nil, prefix_len, suffix_len, ends_with, All}
+use Rattle.textwrap_marked.proofs.Common.{refl, take, true, ◌++◌, sym, ◌+◌, ◌-◌, ◌<◌, ◌∙◌, ◌∷◌, ◌≡◌, [], ap}
+use Rattle.textwrap_marked.proofs.Common.{take_at, get_or, length, nat_eq, codes, false, Bool, List, cond}
+use Rattle.textwrap_marked.proofs.SpacedBack.{white-other, IsPlain, IsWhite}
+use Rattle.textwrap_marked.proofs.{Common.ℕ, LineWords.shown, LineWords.gap, OpenBehind.no-return}
+use Rattle.textwrap_text.proofs.Common.{reverse-append, take_more}
+use Rattle.textwrap_text.proofs.Lists.Parts.{ends_with-front, ends_with-true}
 
 -- a text whose last byte is no carriage return
 abbrev pub EndsWell : List ℕ → Type 0
@@ -34,15 +31,6 @@ all-end text some all =
 word-end : (word : List ℕ) → IsPlain word → is_column_word word ≡ false → EndsWell word
 word-end word plain none = all-end word plain.some (any-none is_return word (no-return word none))
 
-white-return : (c : ℕ) → IsWhite c → is_return c ≡ false
-white-return c white = cut (is_return c) refl
-  where
-    cut : (b : Bool) → is_return c ≡ b → is_return c ≡ false
-    cut false is = is
-    cut true is =
-        let bad : is_white 13 ≡ true = sym (ap is_white (eqb-true c 13 is)) ∙ white in
-        absurd (true≢false (sym bad))
-
 -- the text of a line, and white behind it
 pub shown-end : (justify : Bool) (gaps : ℕ → ℕ) (word : List ℕ) (words : List (List ℕ))
     → All IsPlain (word ∷ words) → All (λ w. is_column_word w ≡ false) (word ∷ words)
@@ -60,16 +48,16 @@ pub white-end : (text end : List ℕ) → EndsWell text → All IsWhite end → 
 white-end text [] (front, c, is, other) white = (front, c, append-nil text ∙ is, other)
 white-end text (e ∷ end) ends white =
     ends-behind text (e ∷ end) (all-end (e ∷ end) (omega arith)
-    (λ k d within. white-return (get_or (e ∷ end) k d) (white k d within)))
+    (λ k d within. white-other (get_or (e ∷ end) k d) 13 (white k d within) refl))
 
 -- ---- returns behind it
 
-returns-none : (text : List ℕ) → EndsWell text → suffix_len is_return text ≡ 0
+pub returns-none : (text : List ℕ) → EndsWell text → suffix_len is_return text ≡ 0
 returns-none text (front, c, is, other) =
     ap (prefix_len is_return) (ap reverse is ∙ reverse-append front (c ∷ []))
     ∙ ap (λ b. cond b (1 + prefix_len is_return (reverse front)) 0) other
 
-returns-more : (text : List ℕ)
+pub returns-more : (text : List ℕ)
     → suffix_len is_return (text ++ 13 ∷ []) ≡ 1 + suffix_len is_return text
 returns-more text = ap (prefix_len is_return) (reverse-append text (13 ∷ []))
 
@@ -77,12 +65,25 @@ returns-more text = ap (prefix_len is_return) (reverse-append text (13 ∷ []))
 abbrev pub return_if : Bool → List ℕ
 return_if b = cond b (13 ∷ []) []
 
-pub returns-off : (text : List ℕ) (b : Bool) → EndsWell text
+pub returns-off : (text : List ℕ) (b : Bool) → suffix_len is_return text ≡ 0
     → without_returns (text ++ return_if b) ≡ text
-returns-off text false ends =
+returns-off text false none =
     ap without_returns (append-nil text)
-    ∙ take_all (length text - suffix_len is_return text) text (omega (arith, returns-none text ends))
-returns-off text true ends =
+    ∙ take_all (length text - suffix_len is_return text) text (omega (arith, none))
+returns-off text true none =
     let whole = text ++ 13 ∷ [] in
     take_at text (13 ∷ []) (length whole - suffix_len is_return whole)
-    (omega (arith, length-append text (13 ∷ []), returns-more text, returns-none text ends))
+    (omega (arith, length-append text (13 ∷ []), returns-more text, none))
+
+-- the ending of a line
+pub return-ends : (text : List ℕ) (b : Bool) → suffix_len is_return text ≡ 0
+    → ends_with nat_eq (text ++ return_if b) (codes "\r") ≡ b
+return-ends text true none = ends_with-true (13 ∷ []) (text ++ 13 ∷ []) text refl
+return-ends text false none =
+    ap (λ t. ends_with nat_eq t (codes "\r")) (append-nil text)
+    ∙ false_from_ne_true (ends_with nat_eq text (codes "\r")) (λ ends. omega (
+      arith,
+      none,
+      ap (suffix_len is_return) (ends_with-front (codes "\r") text ends),
+      returns-more (take (length text - 1) text),
+    ))

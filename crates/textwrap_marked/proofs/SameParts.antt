@@ -1,21 +1,62 @@
--- What becomes of two texts of the same parts is the same.
-use Rattle.textwrap_marked.proofs.LineNames.{◌∙◌, ◌≡◌, ℕ, ◌-◌, ◌||◌, Bool, true, false, List, [], ◌∷◌}
-use Rattle.textwrap_marked.proofs.LineNames.{◌++◌, ap, length, map, nat_lt, refl, slice_split, subst}
-use Rattle.textwrap_marked.proofs.LineNames.{sym, ◌==◌, IsDividedBy, sizes_of, word_of, WordText}
-use Rattle.textwrap_marked.proofs.LineNames.{ending_bytes, without_returns, entered, first_state}
-use Rattle.textwrap_marked.proofs.LineNames.{line_as_read, lines_of_text, LineText, passed}
-use Rattle.textwrap_marked.proofs.LineNames.{read_lines, StateText}
-use Rattle.textwrap_marked.proofs.LineNames.{with_titles, Option}
-use Rattle.textwrap_marked.proofs.Common.{blocks, is_beside, stays, AreSameParts, IsSameBy, Part}
-use Rattle.textwrap_marked.proofs.Common.{parts_of_blocks, text_parts, pieces, dividing_algorithm}
-use Rattle.textwrap_marked.proofs.Common.{filled_ending, AreOfBlocks, IsOfBlock, IsReflowedFrom}
-use Rattle.textwrap_marked.proofs.Common.{line_texts, printed}
-use Rattle.textwrap_text.specs.declared.line_ending.LineEnding.{LineEnding}
-use Rattle.textwrap_marks.specs.declared.options.ReflowOptions.{ReflowOptions}
-use Rattle.textwrap_marked.proofs.TextBack.{text-back}
-use Rattle.textwrap_marks.specs.Columns.{text_columns}
+-- What becomes of a text is one text, and of two texts of the same parts the same.
+use Rattle.textwrap_base.proofs.{Cost.Results.by_table_one, Division.Greedy.greedy_unique}
+use Rattle.textwrap_marked.proofs.Common.{List, Part, drop, refl, true, ◌++◌, ◌==◌, ◌||◌, map, sym, ◌-◌, ap}
+use Rattle.textwrap_marked.proofs.Common.{blocks, length, nat_lt, passed, pieces, false, stays, subst, Bool}
+use Rattle.textwrap_marked.proofs.Common.{dividing_algorithm, IsReflowedBehind, byte_order_mark, LineEnding}
+use Rattle.textwrap_marked.proofs.Common.{ending_bytes, line_as_read, AreOfBlocks, IsDividedBy, first_state}
+use Rattle.textwrap_marked.proofs.Common.{filled_ending, lines_of_text, AreSameParts, ByOptimalFit, entered}
+use Rattle.textwrap_marked.proofs.Common.{is_beside, LineText, WordText, sizes_of, printed, word_of, Option}
+use Rattle.textwrap_marked.proofs.Common.{parts_of_blocks, without_returns, IsReflowedFrom, ReflowOptions}
+use Rattle.textwrap_marked.proofs.Common.{read_lines, text_parts, IsOfBlock, StateText, IsSameBy}
+use Rattle.textwrap_marked.proofs.Common.{shown_lines, slice_split, with_titles, filled_end, line_texts, []}
+use Rattle.textwrap_marked.proofs.{Common.◌∙◌, Common.◌∷◌, Common.◌≡◌, Common.ℕ, TextBack.text-back}
 use Rattle.textwrap_marked.specs.Laws.{AreNewParts}
-use Rattle.textwrap_marks.specs.declared.options.Algorithm.{Algorithm}
+use Rattle.textwrap_words.proofs.Common.{Algorithm as DividingAlgorithm}
+use Rattle.textwrap_marks.specs.{Columns.text_columns, declared.options.Algorithm.Algorithm}
+use Rattle.textwrap_words.proofs.Common.{ByFirstFit}
+
+divided-one : (algorithm : DividingAlgorithm) (widths : List ℕ) (xs : List WordText)
+    (lines others : List (List WordText)) → IsDividedBy algorithm sizes_of widths xs lines
+    → IsDividedBy algorithm sizes_of widths xs others → lines ≡ others
+divided-one ByFirstFit widths xs lines others one other =
+    greedy_unique sizes_of widths xs lines others one other
+divided-one (ByOptimalFit penalties) widths xs lines others one other =
+    by_table_one _ lines others one.by_table other.by_table
+
+module _ (options : ReflowOptions) (ending : List ℕ) where
+  block-one : (stays : Bool) (first : LineText) (lines : List LineText) (text other : List ℕ)
+      → IsOfBlock options ending stays first lines text
+      → IsOfBlock options ending stays first lines other → text ≡ other
+  block-one true first lines text other is same = is ∙ sym same
+  block-one false first lines text other (division, divided, is) (second, by, same) =
+      is ∙ ap (λ d. printed ending first.prefix first.hanging (shown_lines options first d)
+      ++ filled_end ending lines)
+      (divided-one (dividing_algorithm options.algorithm) _ _ division second divided by) ∙ sym same
+
+  laid-one : (beside : Bool) (bs : List (List LineText)) (text other : List ℕ)
+      → AreOfBlocks options ending beside bs text → AreOfBlocks options ending beside bs other
+      → text ≡ other
+  laid-one beside [] text other is same = is ∙ sym same
+  laid-one beside ([] ∷ bs) text other is same = laid-one beside bs text other is same
+  laid-one beside ((first ∷ lines) ∷ bs) text other (front, back, of, later, is)
+      (begin, rest, by, more, same) =
+      is ∙ ap (λ l. l ++ back) (block-one _ first (first ∷ lines) front begin of by)
+      ∙ ap (λ l. begin ++ l) (laid-one (is_beside first bs) bs back rest later more) ∙ sym same
+
+from-one : (options : ReflowOptions) (text first second : List ℕ)
+    → IsReflowedFrom options text first → IsReflowedFrom options text second → first ≡ second
+from-one options text first second of by =
+    laid-one options (ending_bytes (filled_ending options.ending text)) false
+    (blocks (lines_of_text options text)) first second of by
+
+pub behind-one : (marked : Bool) (options : ReflowOptions) (text first second : List ℕ)
+    → IsReflowedBehind marked options text first → IsReflowedBehind marked options text second
+    → first ≡ second
+behind-one true options text first second (rest, of, is) (other, by, same) =
+    is ∙ ap (λ l. byte_order_mark ++ l) (from-one options (drop 3 text) rest other of by) ∙ sym same
+behind-one false options text first second of by = from-one options text first second of by
+
+-- ---- what becomes of two texts of the same parts is the same
 
 module _ (options : ReflowOptions) (ending : List ℕ) where
   -- ---- one part

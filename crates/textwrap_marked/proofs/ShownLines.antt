@@ -1,19 +1,13 @@
 -- What lines show behind their margins: the words of their texts.
-use Rattle.textwrap_marked.proofs.LineNames.{◌≡◌, ℕ, ◌<◌, false, true, cond, Bool, List, [], ◌∷◌, ◌++◌, All}
-use Rattle.textwrap_marked.proofs.LineNames.{All-nil, All-weaker, ap, append_assoc, arith, length}
-use Rattle.textwrap_marked.proofs.LineNames.{length-append, line_as_read, LineText, lt-ltb, map, nat_lt}
-use Rattle.textwrap_marked.proofs.LineNames.{refl, spaced_text, SpacedText, StateText, subst, sym, ◌∙◌}
-use Rattle.textwrap_marked.proofs.LineNames.{without_returns}
-use Rattle.textwrap_marked.proofs.Common.{AreShown, LineShows, words_between_white}
-use Rattle.textwrap_marks.specs.declared.options.ReflowOptions.{ReflowOptions}
-use Rattle.textwrap_text.proofs.Common.{length-map, map-append}
-use Rattle.textwrap_marked.proofs.HangingForms.{IsHanging}
-use Rattle.textwrap_marked.proofs.HangingKinds.{full-before, IsFull}
-use Rattle.textwrap_marked.proofs.LaterLines.{IsOfText, line-read}
-use Rattle.textwrap_marked.proofs.LineKinds.{line-is}
-use Rattle.textwrap_marked.proofs.ParagraphLines.{regroup, text-parts}
-use Rattle.textwrap_marked.proofs.SpacedBack.{AreSpaced, IsLineText, IsWhite, spaced-in, text-words}
-use Rattle.textwrap_marked.specs.Laws.{IsMargin}
+use Rattle.textwrap_marked.proofs.Common.{LineText, lt-ltb, nat_lt, arith, false, subst, Bool, List, cond}
+use Rattle.textwrap_marked.proofs.Common.{SpacedText, length-map, map-append, StateText, AreShown, length}
+use Rattle.textwrap_marked.proofs.Common.{length-append, append_assoc, line_as_read, spaced_text, All-nil}
+use Rattle.textwrap_marked.proofs.Common.{refl, true, ◌++◌, All, map, sym, ◌<◌, ◌∙◌, ◌∷◌, ◌≡◌, [], ap, ℕ}
+use Rattle.textwrap_marked.proofs.Common.{words_between_white, without_returns, ReflowOptions, All-weaker}
+use Rattle.textwrap_marked.proofs.LaterLines.{read-split, text-parts, line-read, read-line, IsOfText}
+use Rattle.textwrap_marked.proofs.SpacedBack.{IsLineText, text-words, AreSpaced, spaced-in, IsWhite}
+use Rattle.textwrap_marked.proofs.{HangingForms.IsHanging, HangingKinds.full-before, HangingKinds.IsFull}
+use Rattle.textwrap_marked.specs.Laws.{LineShows, IsMargin}
 
 -- ---- a line
 
@@ -44,12 +38,9 @@ pub line-split : (options : ReflowOptions) (state : StateText) (raw : List ℕ) 
     → let line = line_as_read options state raw fed in
     without_returns raw ≡ line.prefix ++ spaced_text line.words
 line-split options state raw fed =
-    let (lead, cs, qs, bs, ws, read) = line-read options state raw in
-    let marks = cs ++ (qs ++ bs) in
-    let is = line-is lead cs qs bs ws options state raw fed read.text read.have in
-    read.text.is ∙ ap (λ l. lead ++ spaced_text l) (regroup cs qs bs ws)
-    ∙ ap (λ l. lead ++ l) (text-parts marks ws) ∙ sym (append_assoc lead (spaced_text marks) (spaced_text ws))
-    ∙ ap (λ (l : LineText). l.prefix ++ spaced_text l.words) (sym is)
+    let r = line-read options state raw in
+    read-split options state raw r
+    ∙ ap (λ (l : LineText). l.prefix ++ spaced_text l.words) (sym (read-line options state raw r fed))
 
 -- ---- a line of words behind marks
 
@@ -101,33 +92,28 @@ module _ (line lead : List ℕ) (marks ws : List SpacedText) (white : All IsWhit
         ∙ spaced-in ws spaced),
   )
 
-hanging-margin : (options : ReflowOptions) (in_block : Bool) (hanging lead : List ℕ) (ds rs : List SpacedText)
-    → IsHanging options in_block hanging lead ds rs → IsMargin options (lead ++ spaced_text (ds ++ rs))
-hanging-margin options in_block hanging lead ds rs hang = record {
-  lead = lead;
-  comments = ds;
-  quotes = rs;
-  in_block = in_block;
-  is = refl;
-  white = hang.white;
-  one = hang.marks.one;
-  comment = hang.marks.comment;
-  quote = hang.marks.quote;
-  apart = All-weaker IsFull (λ w. 0 < length w.white × All IsWhite w.white)
-      (λ w full. (full.some, full.spaced.white)) (ds ++ rs) hang.full;
-}
-
 -- a line behind a hanging form shows its words
-pub shows-later : (options : ReflowOptions) (in_block : Bool) (hanging lead : List ℕ) (ds rs : List SpacedText)
-    → IsHanging options in_block hanging lead ds rs → (state : StateText) (raw : List ℕ) (fed : Bool)
+pub shows-later : (options : ReflowOptions) (in_block : Bool) (hanging : List ℕ)
+    → IsHanging options in_block hanging → (state : StateText) (raw : List ℕ) (fed : Bool)
     → let line = line_as_read options state raw fed in
     IsOfText options in_block hanging state line → line.prefix ≡ hanging
     → LineShows options (without_returns raw) (map (λ w. w.word) line.words)
-shows-later options in_block hanging lead ds rs hang state raw fed of prefix =
+shows-later options in_block hanging hang state raw fed of prefix =
     let line = line_as_read options state raw fed in
-    shows-behind (without_returns raw) lead (ds ++ rs) line.words hang.white hang.full of.spaced of.some
-    (line-split options state raw fed ∙ ap (λ p. p ++ spaced_text line.words) (prefix ∙ hang.is)) options
-    (hanging-margin options in_block hanging lead ds rs hang)
+    shows-behind (without_returns raw) hang.lead (hang.cs ++ hang.qs) line.words hang.white hang.full of.spaced of.some
+    (line-split options state raw fed ∙ ap (λ p. p ++ spaced_text line.words) (prefix ∙ hang.is)) options (record {
+      lead = hang.lead;
+      comments = hang.cs;
+      quotes = hang.qs;
+      in_block = in_block;
+      is = refl;
+      white = hang.white;
+      one = hang.marks.one;
+      comment = hang.marks.comment;
+      quote = hang.marks.quote;
+      apart = All-weaker IsFull (λ w. 0 < length w.white × All IsWhite w.white)
+          (λ w full. (full.some, full.spaced.white)) (hang.cs ++ hang.qs) hang.full;
+    })
 
 -- ---- lines
 

@@ -1,18 +1,69 @@
 -- Words with white between them are read back from their text.
-use Rattle.textwrap_marked.proofs.LineNames.{◌≡◌, ℕ, ◌<◌, Bool, true, false, List, [], ◌∷◌, ◌++◌, All}
-use Rattle.textwrap_marked.proofs.LineNames.{All-cons, All-head, All-nil, All-tail, ap, append_assoc}
-use Rattle.textwrap_marked.proofs.LineNames.{append-nil, arith, cond, length, lt-ltb, map, refl, sym, ⊤}
-use Rattle.textwrap_marked.proofs.LineNames.{◌∙◌, has_bytes, is_white, spaced_text, spaced_words}
-use Rattle.textwrap_marked.proofs.LineNames.{SpacedText}
-use Rattle.textwrap_marked.proofs.Common.{words_between_white}
-use Rattle.textwrap_marked.proofs.WordsIn.{IsPlain, white-words, word-alone, words-white}
+use Rattle.textwrap_marked.proofs.Common.{cond, refl, true, ◌++◌, ◌==◌, map, sym, ◌<◌, ◌∙◌, ◌∷◌, ◌≡◌, ℕ, ⊤}
+use Rattle.textwrap_marked.proofs.Common.{flat_map, is_white, All-nil, length, lt-ltb, arith, false, List}
+use Rattle.textwrap_marked.proofs.Common.{slice_split, spaced_text, SpacedText, append-nil, onto_first, All}
+use Rattle.textwrap_marked.proofs.Common.{slice_split_none, flat_map-append, append_assoc, spaced_words, []}
+use Rattle.textwrap_marked.proofs.Common.{true≢false, has_bytes, All-cons, All-head, All-tail, eqb-true, ap}
+use Rattle.textwrap_marked.proofs.Common.{words_between_white, false_from_ne_true, length-slice_split, Bool}
 use Rattle.textwrap_marks.specs.Words.{onto_word, with_byte}
+use Rattle.textwrap_text.proofs.Lists.Parts.{onto_first-append}
+
+-- ---- texts
+
+split-white : (front : List ℕ) (c : ℕ) (rest : List ℕ) → is_white c ≡ true
+    → slice_split is_white (front ++ c ∷ rest) ≡ slice_split is_white front ++ slice_split is_white rest
+split-white [] c rest white =
+    ap (λ b. cond b ([] ∷ slice_split is_white rest) (onto_first c (slice_split is_white rest))) white
+split-white (x ∷ front) c rest white =
+    let first = slice_split is_white front in
+    let later = slice_split is_white rest in
+    ap (λ s. cond (is_white x) ([] ∷ s) (onto_first x s)) (split-white front c rest white)
+    ∙ elim (is_white x) as (λ b. cond b ([] ∷ (first ++ later)) (onto_first x (first ++ later))
+    ≡ cond b ([] ∷ first) (onto_first x first) ++ later) [
+      | true ↦ refl
+      | false ↦ onto_first-append x first later (omega (arith, length-slice_split is_white front))
+    ]
+
+-- the words before and behind white
+pub words-white : (front : List ℕ) (c : ℕ) (rest : List ℕ) → is_white c ≡ true
+    → words_between_white (front ++ c ∷ rest) ≡ words_between_white front ++ words_between_white rest
+words-white front c rest white =
+    ap (flat_map (λ w. cond (has_bytes w) (w ∷ []) [])) (split-white front c rest white)
+    ∙ flat_map-append (λ w. cond (has_bytes w) (w ∷ []) []) (slice_split is_white front)
+    (slice_split is_white rest)
+
+-- white in front adds none
+pub white-words : (white rest : List ℕ) → All (λ c. is_white c ≡ true) white
+    → words_between_white (white ++ rest) ≡ words_between_white rest
+white-words [] rest all = refl
+white-words (c ∷ white) rest all =
+    words-white [] c (white ++ rest) (All-head (λ c. is_white c ≡ true) c white all)
+    ∙ white-words white rest (All-tail (λ c. is_white c ≡ true) c white all)
+
+-- ---- words
+
+-- some bytes, and no white
+pub record IsPlain (word : List ℕ) : Type 0 where
+  pub some : 0 < length word
+  pub ink : All (λ c. is_white c ≡ false) word
+
+pub word-alone : (word : List ℕ) → IsPlain word → words_between_white word ≡ word ∷ []
+word-alone word plain =
+    ap (flat_map (λ w. cond (has_bytes w) (w ∷ []) [])) (slice_split_none is_white word plain.ink)
+    ∙ ap (λ b. cond b (word ∷ []) [] ++ []) (lt-ltb 0 (length word) plain.some)
+
+-- ---- words with white between them are read back from their text
 
 abbrev pub IsWhite : ℕ → Type 0
 IsWhite c = is_white c ≡ true
 
 abbrev pub IsInk : ℕ → Type 0
 IsInk c = is_white c ≡ false
+
+-- white is no other byte
+pub white-other : (c k : ℕ) → IsWhite c → is_white k ≡ false → (c == k) ≡ false
+white-other c k white other =
+    false_from_ne_true (c == k) (λ is. true≢false (sym white ∙ ap is_white (eqb-true c k is) ∙ other))
 
 -- a word and white behind it
 pub record IsSpaced (w : SpacedText) : Type 0 where
@@ -36,9 +87,12 @@ spaced-plain (w ∷ v ∷ ws) are =
     All-cons (λ w. IsPlain w.word) w (v ∷ ws) are.0.word (spaced-plain (v ∷ ws) are.2)
 
 -- the words of a line that begins with this white
+abbrev pub lead_words : List ℕ → List SpacedText
+lead_words [] = []
+lead_words (c ∷ cs) = record { word = []; white = c ∷ cs } ∷ []
+
 abbrev pub with_lead : List ℕ → List SpacedText → List SpacedText
-with_lead [] ws = ws
-with_lead (c ∷ cs) ws = record { word = []; white = c ∷ cs } ∷ ws
+with_lead lead ws = lead_words lead ++ ws
 
 abbrev pub BeginsPlain : List SpacedText → Type 0
 BeginsPlain [] = ⊤

@@ -1,25 +1,19 @@
 -- Words with blanks between them, as the words of a line's text.
-use Rattle.textwrap_marked.proofs.LineNames.{◌≡◌, ℕ, ◌-◌, ◌&&◌, ◌||◌, not, Bool, true, false, cond}
-use Rattle.textwrap_marked.proofs.LineNames.{List, [], ◌∷◌, ◌++◌, All, All-cons, All-head, All-nil}
-use Rattle.textwrap_marked.proofs.LineNames.{All-tail, ap, append-nil, append_assoc, arith, cases_Bool}
-use Rattle.textwrap_marked.proofs.LineNames.{codes, drop, length, list_any, map, refl, sym, take}
-use Rattle.textwrap_marked.proofs.LineNames.{true≢false, false_from_ne_true, suc, ◌==◌, ◌∙◌}
-use Rattle.textwrap_marked.proofs.LineNames.{All-replicate, bytes_eq, blank, is_among, is_bullet}
-use Rattle.textwrap_marked.proofs.LineNames.{is_comment_at, is_quote, blanks, quotes_len, begins_text}
-use Rattle.textwrap_marked.proofs.LineNames.{first_word, words_before_last, has_columns, is_column_word}
-use Rattle.textwrap_marked.proofs.LineNames.{last_white, last_word, opens_paragraph, spaced_text}
-use Rattle.textwrap_marked.proofs.LineNames.{SpacedText}
-use Rattle.textwrap_marks.specs.declared.options.ReflowOptions.{ReflowOptions}
-use Rattle.textwrap_marked.proofs.HangingKinds.{HasNoMark}
-use Rattle.textwrap_marked.proofs.LaterLines.{bullets-none}
-use Rattle.textwrap_marks.proofs.Letterless.{box-plain, quote-plain}
-use Rattle.textwrap_marked.proofs.LineKinds.{one_if}
-use Rattle.textwrap_marked.proofs.LineWords.{gap, shown, spread}
-use Rattle.textwrap_marks.proofs.ListLemmas.{none-any, not-yes}
-use Rattle.textwrap_marked.proofs.OpenBehind.{text-letter, text-other}
-use Rattle.textwrap_marked.proofs.SpacedBack.{AreSpaced, IsSpaced, IsWhite}
-use Rattle.textwrap_marked.proofs.WordsIn.{IsPlain}
-use Rattle.textwrap_marks.specs.Signs.{first_white, is_gap, last_of, may_go_on}
+use Rattle.textwrap_marked.proofs.Common.{append-nil, cases_Bool, first_word, last_white, quotes_len, arith}
+use Rattle.textwrap_marked.proofs.Common.{append_assoc, begins_text, has_columns, spaced_text, SpacedText}
+use Rattle.textwrap_marked.proofs.Common.{codes, false, List, cond, drop, refl, take, true, ◌&&◌, ◌++◌, map}
+use Rattle.textwrap_marked.proofs.Common.{false_from_ne_true, words_before_last, opens_paragraph, is_bullet}
+use Rattle.textwrap_marked.proofs.Common.{is_column_word, All-replicate, ReflowOptions, is_comment_at, Bool}
+use Rattle.textwrap_marked.proofs.Common.{is_quote, list_any, none-any, All-nil, blanks, length, blank, All}
+use Rattle.textwrap_marked.proofs.Common.{true≢false, last_word, All-cons, All-head, All-tail, bytes_eq, []}
+use Rattle.textwrap_marked.proofs.Common.{◌==◌, ◌||◌, not, suc, sym, ◌-◌, ◌∙◌, ◌∷◌, ◌≡◌, ap, ℕ}
+use Rattle.textwrap_marked.proofs.LineWords.{spread, shown, gap}
+use Rattle.textwrap_marked.proofs.SpacedBack.{AreSpaced, IsSpaced, IsPlain, IsWhite}
+use Rattle.textwrap_marked.proofs.{HangingKinds.HasNoMark, LineKinds.one_if}
+use Rattle.textwrap_marked.proofs.{LaterLines.bullets-none, OpenBehind.text-letter, OpenBehind.text-other}
+use Rattle.textwrap_marks.specs.Signs.{first_white, may_go_on, last_of, is_gap}
+use Rattle.textwrap_marks.{proofs.Letterless.quote-plain, proofs.Letterless.box-plain, specs.Marks.is_among}
+use Rattle.textwrap_text.proofs.Common.{not-true}
 
 -- a gap is white
 pub gap-white : (justify : Bool) (gaps : ℕ → ℕ) (n : ℕ) → All IsWhite (gap justify gaps n)
@@ -180,9 +174,9 @@ goes-on options starred word is =
     let parts = three-parts (begins_text starred word) (not (opens_paragraph word))
     (not (is_bullet word)) (not (is_among word options.markers.now)) is in record {
       begins = parts.0;
-      opens = not-yes (opens_paragraph word) parts.1;
-      bullet = not-yes (is_bullet word) parts.2;
-      marker = not-yes (is_among word options.markers.now) parts.3;
+      opens = not-true (opens_paragraph word) parts.1;
+      bullet = not-true (is_bullet word) parts.2;
+      marker = not-true (is_among word options.markers.now) parts.3;
     }
 
 pub text-no-quote : (starred : Bool) (word : List ℕ) → begins_text starred word ≡ true

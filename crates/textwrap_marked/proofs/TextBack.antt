@@ -1,34 +1,22 @@
 -- A new text, read again, has the parts of the text.
-use Rattle.textwrap_marked.proofs.LineNames.{None, Option, Some, ◌≡◌, ℕ, ◌<◌, ◌||◌, not, Bool, true}
-use Rattle.textwrap_marked.proofs.LineNames.{false, List, [], ◌∷◌, ◌++◌, ◌==◌, All, All-nil, ap, arith}
-use Rattle.textwrap_marked.proofs.LineNames.{join_with_byte, length, nat_lt, lt-ltb}
-use Rattle.textwrap_marked.proofs.LineNames.{cases_Bool, refl, slice_split, subst, sym, true≢false, ◌∙◌}
-use Rattle.textwrap_marked.proofs.LineNames.{all-left, flat, length-slice_split, first_state}
-use Rattle.textwrap_marked.proofs.LineNames.{lines_of_text}
-use Rattle.textwrap_marked.proofs.LineNames.{LineText, StateText, false_from_ne_true}
-use Rattle.textwrap_text.specs.declared.line_ending.LineEnding.{LineEnding}
-use Rattle.textwrap_marked.proofs.Common.{blocks, is_beside, stays, AreSameParts, AreShown}
-use Rattle.textwrap_marked.proofs.Common.{parts_of_blocks, text_parts, filled_ending, HasNoBarMark}
-use Rattle.textwrap_marked.proofs.Common.{lines_alone}
-use Rattle.textwrap_marked.proofs.Common.{AreOfBlocks, IsOfBlock, IsReflowedFrom}
-use Rattle.textwrap_marks.specs.declared.options.ReflowOptions.{ReflowOptions}
-use Rattle.textwrap_marked.proofs.AnewLines.{bytes-by, IsTold, returns_by}
-use Rattle.textwrap_marked.proofs.BegunAlike.{AreBegun}
-use Rattle.textwrap_marked.proofs.BlockOrder.{AreBlocks, blocks-are, blocks-back}
-use Rattle.textwrap_marked.proofs.Feedless.{IsFeedless, IsFeedlessLine, read-feedless}
-use Rattle.textwrap_marked.proofs.Feedless.{split-feedless, split-joined}
-use Rattle.textwrap_marked.proofs.FenceMarks.{IsSafe, safe-none}
-use Rattle.textwrap_marked.proofs.FilledBack.{filled-step}
-use Rattle.textwrap_marked.proofs.NewBlock.{paragraph-at}
-use Rattle.textwrap_marked.proofs.ReadBack.{ending, AreOfBlocksAny, IsReadBack, kept-step, laid-any}
-use Rattle.textwrap_marked.proofs.ReadBack.{within-any}
-use Rattle.textwrap_marked.specs.Within.{AreOfBlocksWithin, IsReflowedWithinFrom}
-use Rattle.textwrap_marked.specs.declared.within.LineRange.{LineRange}
-use Rattle.textwrap_marked.proofs.TextBlocks.{read, read-more}
-use Rattle.textwrap_marked.proofs.TextParts.{blocks-flat}
-
-level-first : (a b c : Bool) → (a || not b || c) ≡ false → a ≡ false
-level-first a b c is = grind (arith, cases_Bool)
+use Rattle.textwrap_marked.proofs.AnewLines.{returns_by, bytes-by, IsTold}
+use Rattle.textwrap_marked.proofs.Common.{IsOfBlock, LineRange, StateText, is_beside, all-left, All-nil, []}
+use Rattle.textwrap_marked.proofs.Common.{false_from_ne_true, length-slice_split, AreOfBlocksWithin, Option}
+use Rattle.textwrap_marked.proofs.Common.{filled_ending, lines_of_text, AreSameParts, AreOfBlocks, LineText}
+use Rattle.textwrap_marked.proofs.Common.{first_state, slice_split, LineEnding, text_parts, true≢false, All}
+use Rattle.textwrap_marked.proofs.Common.{or-left, blocks, length, lt-ltb, nat_lt, arith, false, stays, sym}
+use Rattle.textwrap_marked.proofs.Common.{parts_of_blocks, IsReflowedFrom, join_with_byte, ReflowOptions, ℕ}
+use Rattle.textwrap_marked.proofs.Common.{subst, Bool, List, None, Some, flat, refl, true, ◌++◌, ◌==◌, ◌||◌}
+use Rattle.textwrap_marked.proofs.Common.{◌<◌, ◌∙◌, ◌∷◌, ◌≡◌, ap}
+use Rattle.textwrap_marked.proofs.Feedless.{IsFeedlessLine, split-feedless, read-feedless, split-joined}
+use Rattle.textwrap_marked.proofs.LinesAlone.{none-alike, AreAlike}
+use Rattle.textwrap_marked.proofs.ReadBack.{AreOfBlocksAny, IsReadBack, within-any, kept-step, laid-any}
+use Rattle.textwrap_marked.proofs.TextBlocks.{read-more, read}
+use Rattle.textwrap_marked.proofs.TextParts.{blocks-back, blocks-flat, blocks-are, AreBlocks}
+use Rattle.textwrap_marked.proofs.{BegunAlike.AreBegun, Feedless.IsFeedless}
+use Rattle.textwrap_marked.proofs.{FenceMarks.safe-none, NewBlock.paragraph-at}
+use Rattle.textwrap_marked.proofs.{FilledBack.filled-step, ReadBack.ending, ReadBack.Walks}
+use Rattle.textwrap_marked.specs.Within.{IsReflowedWithinFrom}
 
 module _ (options : ReflowOptions) (returns : Bool) (told : IsTold options.ending returns) where
   read-none : (state : StateText) (raws : List (List ℕ)) → [] ≡ read options state raws → [] ≡ raws
@@ -48,16 +36,10 @@ module _ (options : ReflowOptions) (returns : Bool) (told : IsTold options.endin
     pub split : slice_split (λ c. c == 10) reflowed ≡ raw ∷ raws
     pub begun : AreBegun returns (slice_split (λ c. c == 10) text) (raw ∷ raws)
     pub feedless : All IsFeedless (raw ∷ raws)
-    pub shown : List (List ℕ)
-    pub text_shows : AreShown options (slice_split (λ c. c == 10) text) shown
-    pub new_shows : AreShown options (raw ∷ raws) shown
-    pub alone : HasNoBarMark options
-        → lines_alone options (raw ∷ raws) ≡ lines_alone options (slice_split (λ c. c == 10) text)
+    pub alike : AreAlike options (slice_split (λ c. c == 10) text) (raw ∷ raws)
 
-  pub walk-blocks : (bs : List (List LineText)) (beside : Bool) → AreBlocks bs → (state : StateText)
-      (raws : List (List ℕ)) (text : List ℕ) → flat bs ≡ read options state raws
-      → AreOfBlocksAny options returns told beside bs text → IsSafe options state
-      → All IsFeedless raws → IsReadBack options returns told state beside bs raws text
+  pub walk-blocks : (bs : List (List LineText)) (beside : Bool) → AreBlocks bs
+      → Walks options returns told beside bs
   walk-blocks [] beside are state raws text reads laid safe free = record {
     again = [];
     blocks = [];
@@ -69,10 +51,7 @@ module _ (options : ReflowOptions) (returns : Bool) (told : IsTold options.endin
     heads = tt;
     some = ap (λ l. nat_lt 0 (length l)) (read-none state raws reads);
     begun = none-begun raws;
-    shown = [];
-    raws_show = subst (λ l. AreShown options l []) (read-none state raws reads) refl;
-    again_show = refl;
-    alone = λ plain. ap (lines_alone options) (read-none state raws reads);
+    alike = subst (λ l. AreAlike options l []) (read-none state raws reads) (none-alike options);
   }
   walk-blocks ([] ∷ bs) beside are state raws text reads laid safe free = absurd are
   walk-blocks ((first ∷ lines) ∷ bs) beside are state raws text reads (is_kept, stay, front, back, of, later, is) safe
@@ -83,10 +62,7 @@ module _ (options : ReflowOptions) (returns : Bool) (told : IsTold options.endin
     where
       step : (b : Bool) → (stays (beside || is_beside first bs) first ≡ true → b ≡ true)
           → IsOfBlock options (ending options returns told) b first (first ∷ lines) front
-          → ((state : StateText) (raws : List (List ℕ)) (text : List ℕ) → flat bs ≡ read options state raws
-          → AreOfBlocksAny options returns told (is_beside first bs) bs text
-          → IsSafe options state → All IsFeedless raws
-          → IsReadBack options returns told state (is_beside first bs) bs raws text)
+          → Walks options returns told (is_beside first bs) bs
           → IsReadBack options returns told state beside ((first ∷ lines) ∷ bs) raws (front ++ back)
       step true stay of walks =
           kept-step options returns told beside first lines bs walks are state raws front back reads of
@@ -94,12 +70,11 @@ module _ (options : ReflowOptions) (returns : Bool) (told : IsTold options.endin
       step false kept of walks =
           let stay : stays (beside || is_beside first bs) first ≡ false =
           false_from_ne_true _ (λ so. true≢false (sym (kept so))) in
-          let apart = level-first first.apart first.chosen (beside || is_beside first bs) stay in
-          let (raw, left, whole, p, same) =
-          paragraph-at options state raws first lines (flat bs) reads apart are.0 in
+          let apart = or-left first.apart _ (or-left _ (beside || is_beside first bs) stay) in
+          let (raw, p, whole) = paragraph-at options state raws first lines (flat bs) reads apart are.0 in
           let lines_free = all-left IsFeedlessLine (first ∷ lines) (flat bs)
           (subst (All IsFeedlessLine) (sym reads) (read-feedless options raws state free)) in
-          filled-step options returns told state raw first lines bs p beside front back raws left whole same
+          filled-step options returns told state raw first lines bs p beside front back raws whole
           are stay of later walks safe free lines_free
 
   parts-again : (text reflowed : List ℕ) (raw : List ℕ) (raws : List (List ℕ))
@@ -120,10 +95,7 @@ module _ (options : ReflowOptions) (returns : Bool) (told : IsTold options.endin
         split = split ∙ some;
         begun = subst (AreBegun returns (slice_split (λ c. c == 10) text)) some r.begun;
         feedless = subst (All IsFeedless) some r.feedless;
-        shown = r.shown;
-        text_shows = r.raws_show;
-        new_shows = subst (λ l. AreShown options l r.shown) some r.again_show;
-        alone = λ plain. ap (lines_alone options) (sym some) ∙ r.alone plain;
+        alike = subst (AreAlike options (slice_split (λ c. c == 10) text)) some r.alike;
       }
 
   pub parts-back : (text reflowed : List ℕ)

@@ -1,29 +1,20 @@
 -- The lines of a paragraph of a text, one after another.
-use Rattle.textwrap_marked.proofs.LineNames.{◌≡◌, ℕ, ◌<◌, ◌&&◌, ◌||◌, not, Bool, true, false, List, []}
-use Rattle.textwrap_marked.proofs.LineNames.{◌∷◌, ◌++◌, All, All-append, All-map, All-head, All-tail}
-use Rattle.textwrap_marked.proofs.LineNames.{ap, append-nil, arith, codes, cases_Bool, length}
-use Rattle.textwrap_marked.proofs.LineNames.{length-append, map, nat_lt, refl, subst, sym, ⊤, ◌∙◌, ap₂}
-use Rattle.textwrap_marked.proofs.LineNames.{or-false, bytes_eq-Decides, bytes_eq, without_returns}
-use Rattle.textwrap_marked.proofs.LineNames.{as_title, entered, is_ended, line_as_read, LineText, passed}
-use Rattle.textwrap_marked.proofs.LineNames.{read_lines, StateText, with_titles, closes_block}
-use Rattle.textwrap_marked.proofs.LineNames.{closes_early, first_word, words_before_last, is_column_word}
-use Rattle.textwrap_marked.proofs.LineNames.{last_word, opens_paragraph, contains, SpacedText}
-use Rattle.textwrap_marked.proofs.Common.{AreShown, goes_on, HasNoBarMark, LineShows}
-use Rattle.textwrap_marked.proofs.Common.{lines_alone, stands_alone, words_of_lines}
-use Rattle.textwrap_marks.specs.declared.options.ReflowOptions.{ReflowOptions}
-use Rattle.textwrap_text.proofs.Common.{length-map}
-use Rattle.textwrap_marked.proofs.HangingForms.{IsHanging}
-use Rattle.textwrap_marked.proofs.LaterLines.{IsOfText}
-use Rattle.textwrap_marks.proofs.ListLemmas.{any-none, or-left, or-right}
+use Rattle.textwrap_marked.proofs.Common.{All-append, SpacedText, append-nil, cases_Bool, first_word, arith}
+use Rattle.textwrap_marked.proofs.Common.{LineText, any-none, as_title, bytes_eq, contains, is_ended, codes}
+use Rattle.textwrap_marked.proofs.Common.{length, nat_lt, passed, false, subst, Bool, List, drop, refl, All}
+use Rattle.textwrap_marked.proofs.Common.{length-append, closes_block, closes_early, line_as_read, All-cons}
+use Rattle.textwrap_marked.proofs.Common.{length-map, read_lines, StateText, last_word, All-head, All-tail}
+use Rattle.textwrap_marked.proofs.Common.{or-false, All-map, All-nil, entered, goes_on, or-left, get_or, []}
+use Rattle.textwrap_marked.proofs.Common.{true, ◌&&◌, ◌++◌, ◌||◌, ap₂, map, not, sym, ◌<◌, ◌∙◌, ◌∷◌, ◌≡◌, ⊤}
+use Rattle.textwrap_marked.proofs.Common.{without_returns, is_column_word, words_of_lines, ReflowOptions, ℕ}
+use Rattle.textwrap_marked.proofs.Common.{words_before_last, bytes_eq-Decides, opens_paragraph, with_titles}
+use Rattle.textwrap_marked.proofs.LinesAlone.{AreTextLines, more-lines, no-lines}
 use Rattle.textwrap_marked.proofs.OpenBehind.{behind_text, no-columns}
-use Rattle.textwrap_marked.proofs.ParagraphLines.{later-line}
-use Rattle.textwrap_marked.proofs.ShownLines.{shows-later}
-use Rattle.textwrap_marked.proofs.SpacedBack.{spaced-plain}
+use Rattle.textwrap_marked.proofs.SpacedBack.{spaced-plain, IsPlain}
 use Rattle.textwrap_marked.proofs.SpreadWords.{front-more, last-more, last_text}
-use Rattle.textwrap_marked.proofs.LinesAlone.{alone-skip, later-not-alone}
-use Rattle.textwrap_marked.proofs.WordsIn.{IsPlain}
-use Rattle.textwrap_marked.specs.Lines.{is_title}
-use Rattle.textwrap_marks.specs.Signs.{ends_early}
+use Rattle.textwrap_marked.proofs.{HangingForms.IsHanging, ParagraphLines.later-line}
+use Rattle.textwrap_marked.{proofs.Common.ap, proofs.LaterLines.IsOfText, specs.Lines.is_title}
+use Rattle.textwrap_marks.{proofs.ListLemmas.or-right, specs.Signs.ends_early}
 
 -- the last of some texts is that of those behind others
 pub last-behind : (words : List (List ℕ)) (word : List ℕ) (later : List (List ℕ))
@@ -53,10 +44,6 @@ title-same line [] = refl
 title-same line (next ∷ []) = refl
 title-same line (next ∷ more ∷ lines) = refl
 
-abbrev head_of : LineText → List LineText → LineText
-head_of d [] = d
-head_of d (line ∷ lines) = line
-
 -- ---- lines that are read
 
 module _ (options : ReflowOptions) where
@@ -77,6 +64,19 @@ module _ (options : ReflowOptions) where
       titles-more line later
       ∙ ap (λ b. as_title b line ∷ with_titles later) (sym (title-same line later))
 
+  -- what holds of each line that is read, a title or not, holds of all of them
+  pub read-all : (P : LineText → Type 0) (Q : List ℕ → Type 0) → ((state : StateText) (raw : List ℕ)
+      (fed is : Bool) → Q raw → P (as_title is (line_as_read options state raw fed)))
+      → (raws : List (List ℕ)) (state : StateText) → All Q raws → All P (read state raws)
+  read-all P Q each [] state all = All-nil P
+  read-all P Q each (raw ∷ raws) state all =
+      let at = entered state (without_returns raw) in
+      let line = line_at state raw raws in
+      let later = read (passed at line) raws in
+      subst (All P) (sym (read-more state raw raws)) (All-cons P (as_title (title_of line later) line) later
+      (each at raw (nat_lt 0 (length raws)) (title_of line later) (All-head Q raw raws all))
+      (read-all P Q each raws (passed at line) (All-tail Q raw raws all)))
+
   -- the first line that is read, and those behind it
   pub record IsPeeled (state : StateText) (line : LineText) (lines : List LineText)
       (raws : List (List ℕ)) : Type 0 where
@@ -94,17 +94,13 @@ module _ (options : ReflowOptions) where
       let behind = read (passed (entered state (without_returns raw)) here) raws in
       let whole : line ∷ lines ≡ as_title (title_of here behind) here ∷ behind =
       is ∙ read-more state raw raws in
-      let later : lines ≡ behind = ap rest_of whole in record {
+      let later : lines ≡ behind = ap (drop 1) whole in record {
         raw = raw;
         left = raws;
         whole = refl;
-        here = ap (head_of line) whole ∙ ap (λ l. as_title (title_of here l) here) (sym later);
+        here = ap (λ l. get_or l 0 line) whole ∙ ap (λ l. as_title (title_of here l) here) (sym later);
         later = later;
       }
-    where
-      rest_of : List LineText → List LineText
-      rest_of [] = []
-      rest_of (line ∷ lines) = lines
 
 -- a line that does not stand apart is no title
 pub untitled : (is : Bool) (line titled : LineText) → titled ≡ as_title is line
@@ -122,26 +118,27 @@ untitled is line titled same apart =
 abbrev pub NoClose : Bool → List ℕ → Type 0
 NoClose in_block word = (in_block && contains (codes "*/") word) ≡ false
 
+-- one of them but the last does, or the last not at its end
+abbrev pub closes_badly : List (List ℕ) → Bool
+closes_badly [] = false
+closes_badly (word ∷ []) = contains (codes "*/") word && ends_early word
+closes_badly (word ∷ next ∷ words) = contains (codes "*/") word || closes_badly (next ∷ words)
+
 -- only the last may, and at its end
 abbrev pub AreClosing : Bool → List (List ℕ) → Type 0
-AreClosing in_block [] = ⊤
-AreClosing in_block (word ∷ []) = (in_block && contains (codes "*/") word && ends_early word) ≡ false
-AreClosing in_block (word ∷ next ∷ words) = NoClose in_block word × AreClosing in_block (next ∷ words)
+AreClosing in_block words = (in_block && closes_badly words) ≡ false
 
 pub closing-before : (in_block : Bool) (words later : List (List ℕ)) → All (NoClose in_block) words
     → AreClosing in_block later → AreClosing in_block (words ++ later)
-closing-before in_block [] later all are = are
-closing-before in_block (word ∷ words) later all are =
-    more (words ++ later) (All-head (NoClose in_block) word words all)
-    (closing-before in_block words later (All-tail (NoClose in_block) word words all) are)
+closing-before false words later all are = refl
+closing-before true [] later all are = are
+closing-before true (word ∷ words) later all are =
+    more (words ++ later) (All-head (NoClose true) word words all)
+    (closing-before true words later (All-tail (NoClose true) word words all) are)
   where
-    more : (l : List (List ℕ)) → NoClose in_block word → AreClosing in_block l
-        → AreClosing in_block (word ∷ l)
-    more [] none are = masked in_block (contains (codes "*/") word) (ends_early word) none
-      where
-        masked : (a b c : Bool) → (a && b) ≡ false → (a && b && c) ≡ false
-        masked a b c is = ap (λ t. t && c) is
-    more (v ∷ l) none are = (none, are)
+    more : (l : List (List ℕ)) → NoClose true word → AreClosing true l → AreClosing true (word ∷ l)
+    more [] none are = ap (λ t. t && ends_early word) none
+    more (v ∷ l) none are = ap (λ t. t || closes_badly (v ∷ l)) none ∙ are
 
 masked-all : (in_block : Bool) (words : List SpacedText)
     → (in_block && closes_block words) ≡ false
@@ -151,38 +148,28 @@ masked-all false words is =
 masked-all true words is =
     All-map (NoClose true) (λ w. w.word) words (any-none (λ w. contains (codes "*/") w.word) words is)
 
-pub early-more : (w v : SpacedText) (ws : List SpacedText) → closes_early (w ∷ v ∷ ws)
-    ≡ ((contains (codes "*/") w.word || closes_block (words_before_last (v ∷ ws))) || ends_early (last_word (v ∷ ws)))
-early-more w v ws =
-    ap₂ (λ l k. closes_block l || ends_early (first_word k)) (front-more w v ws) (last-more w v ws)
+closing-is : (words : List SpacedText)
+    → (closes_block words && closes_early words) ≡ closes_badly (map (λ w. w.word) words)
+closing-is [] = refl
+closing-is (w ∷ []) =
+    elim (contains (codes "*/") w.word)
+    as (λ c. ((c || false) && (false || ends_early w.word)) ≡ (c && ends_early w.word))
+    [ true ↦ refl | false ↦ refl ]
+closing-is (w ∷ v ∷ ws) =
+    let all = closes_block (v ∷ ws) in
+    let front = closes_block (words_before_last (v ∷ ws)) in
+    let early = ends_early (last_word (v ∷ ws)) in
+    ap₂ (λ l k. (contains (codes "*/") w.word || all) && (closes_block l || ends_early (first_word k)))
+    (front-more w v ws) (last-more w v ws)
+    ∙ elim (contains (codes "*/") w.word)
+    as (λ c. ((c || all) && ((c || front) || early)) ≡ (c || (all && (front || early)))) [ true ↦ refl | false ↦ refl ]
+    ∙ ap (λ b. contains (codes "*/") w.word || b) (closing-is (v ∷ ws))
 
-last-closing : (in_block : Bool) (words : List SpacedText)
-    → (in_block && closes_block words && closes_early words) ≡ false
-    → AreClosing in_block (map (λ w. w.word) words)
-last-closing in_block [] is = tt
-last-closing in_block (w ∷ []) is =
-    cut in_block (contains (codes "*/") w.word) (ends_early w.word) is
-  where
-    cut : (a b c : Bool) → (a && (b || false) && (false || c)) ≡ false → (a && b && c) ≡ false
-    cut a b c is = grind (arith, cases_Bool)
-last-closing in_block (w ∷ v ∷ ws) is = (
-  without in_block (contains (codes "*/") w.word) (closes_block (v ∷ ws))
-      (closes_block (words_before_last (v ∷ ws))) (ends_early (last_word (v ∷ ws))) shown,
-  last-closing in_block (v ∷ ws) (behind in_block (contains (codes "*/") w.word) (closes_block (v ∷ ws))
-      (closes_block (words_before_last (v ∷ ws))) (ends_early (last_word (v ∷ ws))) shown),
-)
-  where
-    without : (a c b f e : Bool) → (a && (c || b) && ((c || f) || e)) ≡ false → (a && c) ≡ false
-    without a c b f e is = grind (arith, cases_Bool)
-
-    behind : (a c b f e : Bool) → (a && (c || b) && ((c || f) || e)) ≡ false
-        → (a && b && (f || e)) ≡ false
-    behind a c b f e is = grind (arith, cases_Bool)
-
-    shown : (in_block && (contains (codes "*/") w.word || closes_block (v ∷ ws))
-        && ((contains (codes "*/") w.word || closes_block (words_before_last (v ∷ ws)))
-        || ends_early (last_word (v ∷ ws)))) ≡ false
-    shown = ap (λ e. in_block && (contains (codes "*/") w.word || closes_block (v ∷ ws)) && e) (sym (early-more w v ws)) ∙ is
+pub closing-same : (in_block : Bool) (words : List SpacedText)
+    → (in_block && closes_block words && closes_early words)
+    ≡ (in_block && closes_badly (map (λ w. w.word) words))
+closing-same true words = closing-is words
+closing-same false words = refl
 
 -- ---- the lines of a paragraph
 
@@ -217,12 +204,16 @@ goes-facts line next is =
     (opens_paragraph (first_word next.words)) is in
     (facts.0, facts.1, (bytes_eq-Decides next.prefix line.hanging).0 facts.2, facts.3)
 
+-- what does not close a block comment leaves it as it is
+pub open_still : (a c : Bool) → (a && c) ≡ false → (a && not c) ≡ a
+open_still a c is = grind (arith, cases_Bool)
+
 ended-none : (in_block : Bool) (words : List SpacedText) → is_ended in_block words ≡ false
     → (in_block && closes_block words) ≡ false
 ended-none in_block words is = or-right _ (in_block && closes_block words) is
 
-module _ (options : ReflowOptions) (in_block : Bool) (hanging lead : List ℕ) (ds rs : List SpacedText)
-    (hang : IsHanging options in_block hanging lead ds rs) where
+module _ (options : ReflowOptions) (in_block : Bool) (hanging : List ℕ)
+    (hang : IsHanging options in_block hanging) where
   -- the paragraph up to its last line, and the lines behind it
   pub record IsWalked (line : LineText) (lines rest : List LineText) (raws : List (List ℕ)) : Type 0 where
     pub done : List (List ℕ)
@@ -239,8 +230,7 @@ module _ (options : ReflowOptions) (in_block : Bool) (hanging lead : List ℕ) (
     pub final : last_text (words_of_lines (line ∷ lines))
         ≡ last_text (map (λ w. w.word) (last_line line lines).words)
     pub words : AreTextWords in_block (words_of_lines (line ∷ lines))
-    pub shown : AreShown options done (words_of_lines lines)
-    pub alone : HasNoBarMark options → lines_alone options done ≡ []
+    pub texts : AreTextLines options done lines
 
   walked-last : (mine others : List (List ℕ)) → 0 < length others
       → last_text (mine ++ others) ≡ last_text others
@@ -253,16 +243,15 @@ module _ (options : ReflowOptions) (in_block : Bool) (hanging lead : List ℕ) (
     plain = All-map IsPlain (λ w. w.word) line.words (spaced-plain line.words of.spaced);
     columns = All-map (λ w. is_column_word w ≡ false) (λ w. w.word) line.words
         (no-columns options.justify line.words of.columns);
-    closing = last-closing in_block line.words of.closes;
+    closing = sym (closing-same in_block line.words) ∙ of.closes;
   }
 
   walk-more : (state : StateText) (line next : LineText) (lines rest : List LineText)
       (raw : List ℕ) (raws left : List (List ℕ)) → raws ≡ raw ∷ left
       → IsOfText options in_block hanging state line → line.ended ≡ false
-      → LineShows options (without_returns raw) (map (λ w. w.word) next.words)
-      → (HasNoBarMark options → stands_alone options (without_returns raw) ≡ false)
-      → IsWalked next lines rest left → IsWalked line (next ∷ lines) rest raws
-  walk-more state line next lines rest raw raws left whole of ended shows level walked =
+      → (walked : IsWalked next lines rest left) → AreTextLines options (raw ∷ walked.done) (next ∷ lines)
+      → IsWalked line (next ∷ lines) rest raws
+  walk-more state line next lines rest raw raws left whole of ended walked texts =
       let own = line-words state line of in
       let none = masked-all in_block line.words
       (ended-none in_block line.words (sym of.ends ∙ ended)) in
@@ -285,8 +274,7 @@ module _ (options : ReflowOptions) (in_block : Bool) (hanging lead : List ℕ) (
           columns = All-append NoColumn mine others own.columns walked.words.columns;
           closing = closing-before in_block mine others none walked.words.closing;
         };
-        shown = (_, words_of_lines lines, shows, walked.shown, refl);
-        alone = λ plain. alone-skip options raw walked.done (level plain) ∙ walked.alone plain;
+        texts = texts;
       }
 
   pub walk : (lines : List LineText) (line : LineText) (state : StateText) (rest : List LineText)
@@ -304,7 +292,7 @@ module _ (options : ReflowOptions) (in_block : Bool) (hanging lead : List ℕ) (
     apart = apart;
     title = title;
     fed = fed;
-    closing = last-closing in_block line.words of.closes;
+    closing = sym (closing-same in_block line.words) ∙ of.closes;
     words_some = omega (
       arith,
       of.some,
@@ -314,8 +302,7 @@ module _ (options : ReflowOptions) (in_block : Bool) (hanging lead : List ℕ) (
     final = ap last_text (append-nil (map (λ w. w.word) line.words));
     words = subst (AreTextWords in_block) (sym (append-nil (map (λ w. w.word) line.words)))
         (line-words state line of);
-    shown = refl;
-    alone = λ plain. refl;
+    texts = no-lines options;
   }
   walk (next ∷ lines) line state rest raws of apart title (goes, one) fed is =
       let (level, ended, prefix, opens) = goes-facts line next goes in
@@ -331,18 +318,13 @@ module _ (options : ReflowOptions) (in_block : Bool) (hanging lead : List ℕ) (
       let hung : read_line.prefix ≡ hanging =
       sym (ap (λ (l : LineText). l.prefix) same) ∙ prefix ∙ of.hangs in
       let fed_next = nat_lt 0 (length peeled.left) in
-      let of_read =
-      later-line options in_block hanging lead ds rs hang behind peeled.raw fed_next block free hung in
+      let of_read = later-line options in_block hanging hang behind peeled.raw fed_next block free hung in
       let of_next = subst (IsOfText options in_block hanging behind) (sym same) of_read in
       let title_next : title_of next (lines ++ rest) ≡ false =
       ap (λ l. title_of l (lines ++ rest)) same ∙ plain in
-      walk-more state line next lines rest peeled.raw raws peeled.left peeled.whole of ended
-      (subst (λ (l : LineText). LineShows options (without_returns peeled.raw) (map (λ w. w.word) l.words)) (sym same)
-      (shows-later options in_block hanging lead ds rs hang behind peeled.raw fed_next of_read hung))
-      (λ plain. later-not-alone options plain in_block hanging lead ds rs hang behind peeled.raw fed_next of_read hung)
-      (walk lines next behind rest peeled.left of_next level title_next one
+      let walked = walk lines next behind rest peeled.left of_next level title_next one
       (ap (λ (l : LineText). l.fed) same)
-      (peeled.later ∙ ap (λ l. read options (passed behind l) peeled.left) (sym same)))
-    where
-      open_still : (a c : Bool) → (a && c) ≡ false → (a && not c) ≡ a
-      open_still a c is = grind (arith, cases_Bool)
+      (peeled.later ∙ ap (λ l. read options (passed behind l) peeled.left) (sym same)) in
+      walk-more state line next lines rest peeled.raw raws peeled.left peeled.whole of ended walked
+      (subst (λ l. AreTextLines options (peeled.raw ∷ walked.done) (l ∷ lines)) (sym same)
+      (more-lines options in_block hanging hang behind peeled.raw fed_next walked.done lines of_read hung walked.texts))

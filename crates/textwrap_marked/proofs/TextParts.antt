@@ -1,16 +1,13 @@
--- A text is its parts, one after another.
-use Rattle.textwrap_marked.proofs.LineNames.{◌≡◌, ℕ, Bool, true, false, cond, List, [], ◌∷◌, ◌++◌}
-use Rattle.textwrap_marked.proofs.LineNames.{append_assoc, append-nil, ap, flat_map, None, refl, sym}
-use Rattle.textwrap_marked.proofs.LineNames.{◌∙◌, arith, join_with_byte, length, lt-ltb, nat_lt}
-use Rattle.textwrap_marked.proofs.LineNames.{slice_split, ◌==◌, flat_map-append, flat, without_returns}
-use Rattle.textwrap_marked.proofs.LineNames.{entered, first_state, line_as_read, LineText, passed}
-use Rattle.textwrap_marked.proofs.LineNames.{read_lines, StateText, with_titles}
-use Rattle.textwrap_marked.proofs.Common.{blocks, goes_on, is_beside, parts_of_blocks, text_parts}
-use Rattle.textwrap_marked.proofs.Common.{ending_if, kept_line}
-use Rattle.textwrap_marks.specs.declared.options.ReflowOptions.{ReflowOptions}
+-- A text is its parts, one after another, and what a list of blocks keeps to.
 use Rattle.std.proofs.lemmas.List.Splits.{join_with_byte-slice_split}
-use Rattle.textwrap_marked.specs.Blocks.{with_line}
-use Rattle.textwrap_marked.specs.Laws.{source}
+use Rattle.textwrap_marked.proofs.Common.{ReflowOptions, append_assoc, line_as_read, first_state, StateText}
+use Rattle.textwrap_marked.proofs.Common.{ending_if, is_beside, kept_line, with_line, LineText, flat_map, ℕ}
+use Rattle.textwrap_marked.proofs.Common.{entered, goes_on, blocks, length, lt-ltb, nat_lt, passed, arith}
+use Rattle.textwrap_marked.proofs.Common.{false, Bool, List, None, cond, flat, refl, true, ◌++◌, ◌==◌, ◌∙◌}
+use Rattle.textwrap_marked.proofs.Common.{flat_map-append, parts_of_blocks, without_returns, join_with_byte}
+use Rattle.textwrap_marked.proofs.Common.{slice_split, with_titles, append-nil, read_lines, text_parts, sym}
+use Rattle.textwrap_marked.proofs.Common.{◌∷◌, ◌≡◌, [], ap, ⊤}
+use Rattle.textwrap_marked.{proofs.TextBlocks.AreOneBlock, proofs.TextBlocks.last_line, specs.Laws.source}
 
 abbrev lines-text : List LineText → List ℕ
 lines-text lines = flat_map (kept_line None) lines
@@ -66,3 +63,50 @@ text-parts options text =
     sym (parts-text false (blocks (with_titles lines))
     ∙ ap lines-text (blocks-flat (with_titles lines))
     ∙ titles-text lines ∙ read-text options first_state raws ∙ join_with_byte-slice_split 10 text)
+
+-- ---- what a list of blocks keeps to, if it is that of some lines
+
+-- the first of the blocks does not go on with a line
+abbrev pub StopsAt : LineText → List (List LineText) → Type 0
+StopsAt line [] = ⊤
+StopsAt line ([] ∷ bs) = ⊤
+StopsAt line ((next ∷ lines) ∷ bs) = goes_on line next ≡ false
+
+abbrev pub AreBlocks : List (List LineText) → Type 0
+AreBlocks [] = ⊤
+AreBlocks ([] ∷ bs) = ⊥
+AreBlocks ((line ∷ lines) ∷ bs) =
+    AreOneBlock line lines × StopsAt (last_line line lines) bs × AreBlocks bs
+
+with-line : (line : LineText) (bs : List (List LineText)) → AreBlocks bs → AreBlocks (with_line line bs)
+with-line line [] are = (tt, tt, tt)
+with-line line ([] ∷ bs) are = absurd are
+with-line line ((next ∷ lines) ∷ bs) (one, stops, are) = joins (goes_on line next) refl
+  where
+    joins : (b : Bool) → goes_on line next ≡ b
+        → AreBlocks (cond b ((line ∷ next ∷ lines) ∷ bs) ((line ∷ []) ∷ (next ∷ lines) ∷ bs))
+    joins true goes = ((goes, one), stops, are)
+    joins false ends = (tt, ends, (one, stops, are))
+
+pub blocks-are : (lines : List LineText) → AreBlocks (blocks lines)
+blocks-are [] = tt
+blocks-are (line ∷ lines) = with-line line (blocks lines) (blocks-are lines)
+
+block-back : (lines : List LineText) (line : LineText) (bs : List (List LineText))
+    → AreOneBlock line lines → StopsAt (last_line line lines) bs → AreBlocks bs
+    → blocks (flat bs) ≡ bs → blocks (line ∷ (lines ++ flat bs)) ≡ (line ∷ lines) ∷ bs
+block-back [] line [] one stops are is = ap (with_line line) is
+block-back [] line ([] ∷ bs) one stops are is = absurd are
+block-back [] line ((next ∷ lines) ∷ bs) one stops are is =
+    ap (with_line line) is
+    ∙ ap (λ b. cond b ((line ∷ next ∷ lines) ∷ bs) ((line ∷ []) ∷ (next ∷ lines) ∷ bs)) stops
+block-back (next ∷ lines) line bs (goes, one) stops are is =
+    ap (with_line line) (block-back lines next bs one stops are is)
+    ∙ ap (λ b. cond b ((line ∷ next ∷ lines) ∷ bs) ((line ∷ []) ∷ (next ∷ lines) ∷ bs)) goes
+
+-- blocks in their order are those of their own lines
+pub blocks-back : (bs : List (List LineText)) → AreBlocks bs → blocks (flat bs) ≡ bs
+blocks-back [] are = refl
+blocks-back ([] ∷ bs) are = absurd are
+blocks-back ((line ∷ lines) ∷ bs) (one, stops, are) =
+    block-back lines line bs one stops are (blocks-back bs are)

@@ -1,19 +1,15 @@
 -- The words of a paragraph's last line, and the last of them.
-use Rattle.textwrap_marked.proofs.LineNames.{◌≡◌, ◌≢◌, ℕ, ◌<◌, ◌&&◌, ◌||◌, not, Bool, true, false, cond}
-use Rattle.textwrap_marked.proofs.LineNames.{List, [], ◌∷◌, ◌++◌, All, All-cons, All-nil, ap}
-use Rattle.textwrap_marked.proofs.LineNames.{append-nil, arith, bytes_eq, cases_Bool, codes, ends_with, length}
-use Rattle.textwrap_marked.proofs.LineNames.{map, nat_eq, refl, subst, sym, ◌∙◌, deeper_by, begins_text}
-use Rattle.textwrap_marked.proofs.LineNames.{closes_block, closes_early, first_word, words_before_last}
-use Rattle.textwrap_marked.proofs.LineNames.{last_word, contains, SpacedText}
-use Rattle.textwrap_marked.proofs.Common.{is_cut}
-use Rattle.textwrap_marks.specs.declared.options.ReflowOptions.{ReflowOptions}
-use Rattle.textwrap_marks.proofs.Letterless.{dots-plain}
+use Rattle.textwrap_marked.proofs.Common.{Bool, List, cond, refl, true, ◌&&◌, ◌++◌, ◌||◌, map, not, sym, ap}
+use Rattle.textwrap_marked.proofs.Common.{ReflowOptions, closes_block, closes_early, begins_text, and-false}
+use Rattle.textwrap_marked.proofs.Common.{SpacedText, append-nil, cases_Bool, first_word, deeper_by, is_cut}
+use Rattle.textwrap_marked.proofs.Common.{ends_with, last_word, All-cons, bytes_eq, contains, none-any, All}
+use Rattle.textwrap_marked.proofs.Common.{or-false, All-nil, length, nat_eq, arith, codes, false, subst, []}
+use Rattle.textwrap_marked.proofs.Common.{◌<◌, ◌∙◌, ◌∷◌, ◌≡◌, ◌≢◌, ℕ}
 use Rattle.textwrap_marked.proofs.LineWords.{MayPart, spread}
-use Rattle.textwrap_marks.proofs.ListLemmas.{none-any}
-use Rattle.textwrap_marked.proofs.OpenBehind.{text-other}
-use Rattle.textwrap_marked.proofs.SpreadWords.{last_text, spread-any, spread-words}
-use Rattle.textwrap_marked.proofs.TextBlocks.{AreClosing, closing-before, early-more, NoClose}
-use Rattle.textwrap_marks.specs.Signs.{ends_early, is_example_key, may_go_on}
+use Rattle.textwrap_marked.proofs.SpreadWords.{spread-words, spread-any, last_text}
+use Rattle.textwrap_marked.proofs.TextBlocks.{closing-before, closes_badly, closing-same, AreClosing}
+use Rattle.textwrap_marked.proofs.{OpenBehind.text-other, TextBlocks.NoClose}
+use Rattle.textwrap_marks.{proofs.Letterless.dots-plain, specs.Signs.is_example_key, specs.Signs.may_go_on}
 
 -- ---- the last of some texts
 
@@ -37,20 +33,26 @@ cut-facts options starred last word later is =
 
 -- ---- what closes a block comment
 
+closing-parts : (a c r : Bool) → (a && (c || r)) ≡ false → ((a && c) ≡ false) × ((a && r) ≡ false)
+closing-parts a c r is = grind (arith, cases_Bool)
+
 pub closing-after : (in_block : Bool) (words : List (List ℕ)) (word : List ℕ) (later : List (List ℕ))
     → AreClosing in_block (words ++ word ∷ later)
     → All (NoClose in_block) words × AreClosing in_block (word ∷ later)
 closing-after in_block [] word later are = (All-nil (NoClose in_block), are)
-closing-after in_block (v ∷ []) word later (none, are) =
-    (All-cons (NoClose in_block) v [] none (All-nil (NoClose in_block)), are)
-closing-after in_block (v ∷ w ∷ words) word later (none, are) =
-    let (all, rest) = closing-after in_block (w ∷ words) word later are in
+closing-after in_block (v ∷ []) word later are =
+    let (none, rest) = closing-parts in_block (contains (codes "*/") v) (closes_badly (word ∷ later)) are in
+    (All-cons (NoClose in_block) v [] none (All-nil (NoClose in_block)), rest)
+closing-after in_block (v ∷ w ∷ words) word later are =
+    let (none, behind) =
+    closing-parts in_block (contains (codes "*/") v) (closes_badly (w ∷ (words ++ word ∷ later))) are in
+    let (all, rest) = closing-after in_block (w ∷ words) word later behind in
     (All-cons (NoClose in_block) v (w ∷ words) none all, rest)
 
 pub closing-alone : (in_block : Bool) (words : List (List ℕ)) → All (NoClose in_block) words
     → AreClosing in_block words
 closing-alone in_block words all =
-    subst (AreClosing in_block) (append-nil words) (closing-before in_block words [] all tt)
+    subst (AreClosing in_block) (append-nil words) (closing-before in_block words [] all (and-false in_block))
 
 pub spread-none : (in_block justify : Bool) (gaps : ℕ → ℕ) (words : List (List ℕ)) (end : List ℕ)
     → All (NoClose in_block) words → (in_block && closes_block (spread justify gaps words end)) ≡ false
@@ -59,34 +61,12 @@ spread-none true justify gaps words end all =
     spread-any justify gaps (λ w. contains (codes "*/") w) words end
     ∙ none-any (λ w. contains (codes "*/") w) words all
 
-closing-free : (in_block : Bool) (words : List SpacedText)
-    → AreClosing in_block (map (λ w. w.word) words)
-    → (in_block && closes_block words && closes_early words) ≡ false
-closing-free in_block [] are = none in_block (closes_early [])
-  where
-    none : (a b : Bool) → (a && false && b) ≡ false
-    none a b = grind (arith, cases_Bool)
-closing-free in_block (w ∷ []) are =
-    one in_block (contains (codes "*/") w.word) (ends_early w.word) are
-  where
-    one : (a b c : Bool) → (a && b && c) ≡ false → (a && (b || false) && (false || c)) ≡ false
-    one a b c is = grind (arith, cases_Bool)
-closing-free in_block (w ∷ v ∷ ws) (none, are) =
-    ap (λ e. in_block && (contains (codes "*/") w.word || closes_block (v ∷ ws)) && e) (early-more w v ws)
-    ∙ more in_block (contains (codes "*/") w.word) (closes_block (v ∷ ws))
-    (closes_block (words_before_last (v ∷ ws))) (ends_early (last_word (v ∷ ws))) none
-    (closing-free in_block (v ∷ ws) are)
-  where
-    more : (a c b f e : Bool) → (a && c) ≡ false → (a && b && (f || e)) ≡ false
-        → (a && (c || b) && ((c || f) || e)) ≡ false
-    more a c b f e none is = grind (arith, cases_Bool)
-
 pub spread-free : (in_block justify : Bool) (gaps : ℕ → ℕ) (words : List (List ℕ)) (end : List ℕ)
     → AreClosing in_block words → let ws = spread justify gaps words end in
     (in_block && closes_block ws && closes_early ws) ≡ false
 spread-free in_block justify gaps words end are =
-    closing-free in_block (spread justify gaps words end)
-    (subst (AreClosing in_block) (sym (spread-words justify gaps words end)) are)
+    closing-same in_block (spread justify gaps words end)
+    ∙ ap (λ l. in_block && closes_badly l) (spread-words justify gaps words end) ∙ are
 
 -- whether they close one, the last says
 pub closes-last : (in_block : Bool) (words : List SpacedText) → 0 < length words
@@ -94,13 +74,12 @@ pub closes-last : (in_block : Bool) (words : List SpacedText) → 0 < length wor
     → (in_block && closes_block words)
     ≡ (in_block && contains (codes "*/") (last_text (map (λ w. w.word) words)))
 closes-last in_block [] some are = absurd (omega (arith, some))
-closes-last in_block (w ∷ []) some are = one in_block (contains (codes "*/") w.word)
-  where
-    one : (a b : Bool) → (a && (b || false)) ≡ (a && b)
-    one a b = grind (arith, cases_Bool)
-closes-last in_block (w ∷ v ∷ ws) some (none, are) =
+closes-last in_block (w ∷ []) some are = ap (λ b. in_block && b) (or-false (contains (codes "*/") w.word))
+closes-last in_block (w ∷ v ∷ ws) some are =
+    let (none, rest) = closing-parts in_block (contains (codes "*/") w.word)
+    (closes_badly (map (λ w. w.word) (v ∷ ws))) are in
     more in_block (contains (codes "*/") w.word) (closes_block (v ∷ ws)) none
-    ∙ closes-last in_block (v ∷ ws) (omega arith) are
+    ∙ closes-last in_block (v ∷ ws) (omega arith) rest
   where
     more : (a b c : Bool) → (a && b) ≡ false → (a && (b || c)) ≡ (a && c)
     more a b c is = grind (arith, cases_Bool)

@@ -1,16 +1,14 @@
 -- Where a text stands in another: somewhere, in front or at the end.
-use Rattle.textwrap_text.proofs.Common.{◌≡◌, ℕ, ◌+◌, ◌-◌, Bool, true, false, ◌||◌, List, [], ◌∷◌}
-use Rattle.textwrap_text.proofs.Common.{◌++◌, length, take, drop, refl, ap, sym, ◌∙◌, arith, nat_eq}
-use Rattle.textwrap_text.proofs.Common.{starts_with, false_from_ne_true, ◌↔◌, ends_with, None}
-use Rattle.textwrap_text.proofs.Common.{nat_tests, Option, Some, take_at, Bor, length-append}
-use Rattle.textwrap_text.proofs.Lists.Parts.{starts_with-rest, starts_with-true}
-use Rattle.textwrap_text.proofs.Lists.Parts.{ends_with-front, ends_with-true, stripped_suffix}
-use Rattle.std.proofs.Common.{ap₂}
+use Rattle.std.proofs.{Common.ap₂, Math.Bool.or-true, lemmas.List.Folds.list_any-append}
 use Rattle.std.specs.Option.{MatchOption}
-use Rattle.std.specs.Str.Iter.{HasSubslice}
-use Rattle.std.specs.Str.Pattern.{FindsTextSuffix, StripsSuffix}
-use Rattle.std.specs.Prelude.{◌<◌, ◌==◌, ◌&&◌, slice_index_or}
-use Rattle.textwrap_marks.specs.Words.{contains, has_byte}
+use Rattle.std.specs.Str.{Iter.HasSubslice, Pattern.FindsTextSuffix, Pattern.StripsSuffix}
+use Rattle.textwrap_marks.proofs.Common.{arith, false, List, drop, refl, take, true, ◌++◌, ◌||◌, sym, ◌+◌}
+use Rattle.textwrap_marks.proofs.Common.{false_from_ne_true, true≢false, contains, list_any, length, Bool}
+use Rattle.textwrap_marks.proofs.Common.{◌-◌, ◌<◌, ◌∙◌, ◌∷◌, ◌≡◌, [], ap, ℕ}
+use Rattle.textwrap_text.proofs.Common.{None, Some, Bor, ◌↔◌}
+use Rattle.textwrap_text.proofs.Common.{length-append, starts_with, ends_with, take_at, Option, nat_eq}
+use Rattle.textwrap_text.proofs.Lists.Parts.{starts_with-rest, starts_with-true, ends_with-front}
+use Rattle.textwrap_text.proofs.Lists.Parts.{stripped_suffix, ends_with-true}
 
 module _ (part : List ℕ) where
   contains-from : (text a b : List ℕ) → text ≡ a ++ (part ++ b) → contains part text ≡ true
@@ -20,11 +18,7 @@ module _ (part : List ℕ) where
       ap (λ t. t || contains part cs) (starts_with-true part (c ∷ cs) b is)
   contains-from (c ∷ cs) (x ∷ a) b is =
       ap (λ t. starts_with nat_eq (c ∷ cs) part || t)
-      (contains-from cs a b (ap (drop 1) is)) ∙ both (starts_with nat_eq (c ∷ cs) part)
-    where
-      both : (t : Bool) → (t || true) ≡ true
-      both true = refl
-      both false = refl
+      (contains-from cs a b (ap (drop 1) is)) ∙ or-true (starts_with nat_eq (c ∷ cs) part)
 
   contains-to : (text : List ℕ) → contains part text ≡ true → HasSubslice text part
   contains-to [] is = ([], drop (length part) [], starts_with-rest part [] is)
@@ -66,21 +60,23 @@ contains-nothing [] [] none = refl
 contains-nothing [] (c ∷ cs) none = refl
 contains-nothing (byte ∷ part) text none = absurd (omega (arith, none))
 
-flip : (a b : ℕ) → (a == b) ≡ false → (b == a) ≡ false
-flip a b is = grind (arith, nat_tests, is)
+-- a test that some byte of a part passes, and none of a text: the part does not stand in the text
+has-any : (test : ℕ → Bool) (part text : List ℕ) → HasSubslice text part → list_any test part ≡ true
+    → list_any test text ≡ true
+has-any test part text (a, b, is) some =
+    ap (list_any test) is ∙ list_any-append test a (part ++ b)
+    ∙ ap (λ t. list_any test a || t) (list_any-append test part b ∙ ap (λ t. t || list_any test b) some)
+    ∙ or-true (list_any test a)
 
--- a text without the first byte of a part does not have the part
-pub contains-lacks : (part text : List ℕ) → 0 < length part
-    → has_byte (slice_index_or part 0 0) text ≡ false → contains part text ≡ false
-contains-lacks [] text some lacks = absurd (omega (arith, some))
-contains-lacks (byte ∷ part) [] some lacks = refl
-contains-lacks (byte ∷ part) (c ∷ cs) some lacks =
-    split (c == byte) refl lacks (contains-lacks (byte ∷ part) cs some)
-  where
-    split : (t : Bool) → (c == byte) ≡ t → (t || has_byte byte cs) ≡ false
-        → (has_byte byte cs ≡ false → contains (byte ∷ part) cs ≡ false)
-        → contains (byte ∷ part) (c ∷ cs) ≡ false
-    split true is bad later = let no : true ≡ false = bad in cc
-    split false is lacks later =
-        ap (λ t. (t && starts_with nat_eq cs part) || contains (byte ∷ part) cs) (flip c byte is)
-        ∙ later lacks
+pub contains-lacks : (test : ℕ → Bool) (part text : List ℕ) → list_any test part ≡ true
+    → list_any test text ≡ false → contains part text ≡ false
+contains-lacks test part text some none =
+    false_from_ne_true (contains part text)
+    (λ found. true≢false (sym (has-any test part text (contains-to part text found) some) ∙ none))
+
+-- nor does the text begin with it
+pub begins-lacks : (test : ℕ → Bool) (part text : List ℕ) → list_any test part ≡ true
+    → list_any test text ≡ false → starts_with nat_eq text part ≡ false
+begins-lacks test part text some none =
+    false_from_ne_true (starts_with nat_eq text part) (λ starts. true≢false (sym (has-any test part text
+    ([], drop (length part) text, starts_with-rest part text starts) some) ∙ none))

@@ -1,9 +1,9 @@
 -- The words of a line, each with the white behind it, from the front on.
-use Rattle.textwrap_text.proofs.Common.{◌≡◌, ℕ, ◌+◌, ◌<◌, Bool, true, false, suc, List, [], ◌∷◌}
-use Rattle.textwrap_text.proofs.Common.{length, take, drop, refl, ap, sym, ◌∙◌, arith}
-use Rattle.textwrap_text.proofs.Common.{prefix_len, cases_Bool, length-drop, nat_tests}
-use Rattle.textwrap_marks.specs.Words.{behind_spaced, is_ink, is_white, spaced_words, SpacedText}
-use Rattle.textwrap_marks.specs.Words.{with_byte}
+use Rattle.textwrap_marks.proofs.Common.{Bool, List, drop, refl, take, true, sym, ◌+◌, ◌<◌, ◌∙◌, ◌∷◌, ◌≡◌}
+use Rattle.textwrap_marks.proofs.Common.{behind_spaced, spaced_words, length-drop, SpacedText, cases_Bool}
+use Rattle.textwrap_marks.proofs.Common.{prefix_len, nat_tests, is_white, is_ink, length, arith, false, ℕ}
+use Rattle.textwrap_marks.{proofs.Common.[], proofs.Common.ap, specs.Words.with_byte}
+use Rattle.textwrap_text.proofs.Common.{suc}
 
 pub up : (n : ℕ) → 1 + n ≡ suc n
 up n = omega arith

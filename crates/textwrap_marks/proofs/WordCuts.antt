@@ -1,24 +1,20 @@
 -- A text that is cut between two words: the words of its parts are its words.
-use Rattle.textwrap_marks.proofs.Common.{◌≡◌, ℕ, ◌+◌, ◌-◌, ◌<◌, ◌≤◌, Bool, true, false, suc, zero}
-use Rattle.textwrap_marks.proofs.Common.{List, [], ◌∷◌, ◌++◌, length, take, drop, refl, ap, sym, ◌∙◌}
-use Rattle.textwrap_marks.proofs.Common.{append-nil, arith, get_or, length-append}
-use Rattle.textwrap_marks.proofs.Common.{prefix_len, subst, true≢false, is_white, spaced_text, spaced_words}
-use Rattle.textwrap_marks.proofs.Common.{SpacedText, cond, first_word, has_bytes, is_comment_at}
-use Rattle.textwrap_marks.proofs.Common.{ReflowOptions, words_before_last, ◌==◌}
-use Rattle.textwrap_text.proofs.Common.{IsCharBoundary, IsCharBoundary-after_ascii, IsUtf8, cases_Bool}
-use Rattle.textwrap_text.proofs.Common.{IsCharBoundary-start, drop_all, length-drop, nat_tests, take_all}
-use Rattle.std.proofs.Math.ListN.{drop_of_length-le}
-use Rattle.std.proofs.Math.Seq.{drop-append_seam, take-append_seam}
-use Rattle.std.proofs.lemmas.List.{drop-drop, get_or-drop}
-use Rattle.std.proofs.lemmas.List.Sums.{prefix_len-le-length, prefix_len_is, prefix_len_passes}
-use Rattle.std.proofs.lemmas.List.Sums.{prefix_len_stops}
-use Rattle.textwrap_marks.proofs.SpacedLemmas.{behind-shorter, behind_word, first_spaced, word_len}
-use Rattle.textwrap_marks.proofs.SpacedLemmas.{before-word, up, white-small, words-turn}
-use Rattle.textwrap_marks.specs.Fences.{is_long_run}
-use Rattle.textwrap_marks.specs.Prefixes.{comment_len, lead_len}
-use Rattle.textwrap_marks.specs.Signs.{is_rule, last_of}
-use Rattle.textwrap_marks.specs.Words.{behind_spaced, is_ink, with_byte, AreWhite}
+use Rattle.std.proofs.Math.{ListN.drop_of_length-le, Seq.drop-append_seam, Seq.take-append_seam}
+use Rattle.std.proofs.lemmas.List.Sums.{prefix_len-le-length, prefix_len_passes, prefix_len_stops}
+use Rattle.std.proofs.lemmas.List.{get_or-drop, drop-drop, Sums.prefix_len_is}
+use Rattle.textwrap_marks.proofs.Common.{ReflowOptions, behind_spaced, is_comment_at, spaced_words, arith}
+use Rattle.textwrap_marks.proofs.Common.{false, subst, Bool, List, drop, refl, take, true, ◌++◌, ◌==◌, []}
+use Rattle.textwrap_marks.proofs.Common.{length-drop, SpacedText, cases_Bool, prefix_len, true≢false, sym}
+use Rattle.textwrap_marks.proofs.Common.{nat_tests, AreWhite, is_white, IsUtf8, get_or, is_ink, length, ℕ}
+use Rattle.textwrap_marks.proofs.Common.{◌+◌, ◌-◌, ◌<◌, ◌∙◌, ◌∷◌, ◌≡◌, ◌≤◌, ap}
+use Rattle.textwrap_marks.proofs.SpacedLemmas.{behind-shorter, first_spaced, before-word, behind_word, up}
+use Rattle.textwrap_marks.proofs.SpacedLemmas.{white-small, words-turn, word_len}
+use Rattle.textwrap_marks.specs.Signs.{words_before_last, first_word, is_rule, last_of}
+use Rattle.textwrap_marks.specs.Words.{spaced_text, has_bytes, with_byte}
 use Rattle.textwrap_marks.specs.declared.fences.FenceRun.{FenceRun}
+use Rattle.textwrap_marks.specs.{Fences.is_long_run, Prefixes.comment_len, Prefixes.lead_len}
+use Rattle.textwrap_text.proofs.Common.{IsCharBoundary-after_ascii, IsCharBoundary-start, IsCharBoundary}
+use Rattle.textwrap_text.proofs.Common.{length-append, append-nil, drop_all, take_all, cond, zero, suc}
 
 -- behind white, and before what is none; or at an end of the text
 abbrev pub IsWordCut : List ℕ → ℕ → Type 0

@@ -1,17 +1,12 @@
 use Rattle.textwrap_marked.proofs.filling.push_at_least_cost.Goals as goal
-use Rattle.textwrap_text.proofs.Common.{◌≡◌, ◌++◌, ◌∷◌, [], Bool, List, ℕ, map, ap, sym, ◌∙◌, subst}
-use Rattle.textwrap_text.proofs.Common.{drop, flat_map, IsUtf8, string_bytes}
-use Rattle.textwrap_words.proofs.Common.{Algorithm, IsDividedBy, sizes_of, word_of, WordText}
-use Rattle.textwrap_words.specs.Cuts.{AreCuts, parts_between}
-use Rattle.textwrap_marked.proofs.LaidLemmas.{divided-filled, first-of}
-use Rattle.textwrap_marked.proofs.PieceCuts.{joined-cuts}
-use Rattle.textwrap_marked.proofs.PieceLemmas.{joined-pieces}
-use Rattle.textwrap_marked.specs.Lines.{LineText, marked_line_view}
-use Rattle.textwrap_marked.specs.Pieces.{IsJoined, Joined, joined_view, pieces, with_blank}
-use Rattle.textwrap_marked.specs.Pieces.{words_of_lines}
-use Rattle.textwrap_marked.specs.Reflow.{AreFilled, dividing_algorithm, filled_end, line_texts, printed}
-use Rattle.textwrap_marked.specs.Reflow.{room_behind}
-use Rattle.textwrap_marks.specs.declared.options.ReflowOptions.{ReflowOptions}
+use Rattle.textwrap_marked.proofs.Common.{LineText, WordText, flat_map, sizes_of, AreCuts, printed, subst}
+use Rattle.textwrap_marked.proofs.Common.{ReflowOptions, parts_between, string_bytes, IsDividedBy, IsUtf8}
+use Rattle.textwrap_marked.proofs.Common.{dividing_algorithm, marked_line_view, words_of_lines, Algorithm}
+use Rattle.textwrap_marked.proofs.Common.{joined_view, filled_end, line_texts, with_blank, AreFilled, map}
+use Rattle.textwrap_marked.proofs.Common.{word_of, pieces, Bool, List, drop, ◌++◌, sym, ◌∙◌, ◌∷◌, ◌≡◌, []}
+use Rattle.textwrap_marked.proofs.PieceLemmas.{joined-pieces, joined-cuts}
+use Rattle.textwrap_marked.proofs.{Common.ap, Common.ℕ, LaidLemmas.divided-filled, LaidLemmas.first-of}
+use Rattle.textwrap_marked.specs.{Pieces.IsJoined, Pieces.Joined, Reflow.room_behind}
 
 -- the lines of the joined words are written, and what stands behind them
 joined-filled : (options : ReflowOptions) (ending : List ℕ) (algorithm : Algorithm)

@@ -1,12 +1,10 @@
 use Rattle.textwrap_marked.proofs.filling.push_division.Goals as goal
-use Rattle.textwrap_marked.proofs.LineNames.{◌≡◌, ℕ, ◌-◌, ◌<◌, ◌==◌, ◌&&◌, Bool, not, List, [], ◌∷◌}
-use Rattle.textwrap_marked.proofs.LineNames.{◌++◌, ap, append_assoc, arith, drop, flat_map, length}
-use Rattle.textwrap_marked.proofs.LineNames.{map, nat_lt, refl, sym, take, take_all, ◌∙◌, WordText}
 use Rattle.std.proofs.lemmas.Result.{on_ok_weaker}
-use Rattle.textwrap_text.proofs.Common.{get_or, length-map, nat_tests}
-use Rattle.textwrap_marked.specs.Pieces.{piece_view}
+use Rattle.textwrap_marked.proofs.Common.{append_assoc, length-map, line_texts, piece_view, line_text, []}
+use Rattle.textwrap_marked.proofs.Common.{length, nat_lt, Bool, List, drop, refl, take, ◌&&◌, ◌++◌, ◌==◌}
+use Rattle.textwrap_marked.proofs.Common.{map, not, sym, ◌-◌, ◌<◌, ◌∙◌, ◌∷◌, ◌≡◌, ap, ℕ}
+use Rattle.textwrap_marked.proofs.Common.{nat_tests, WordText, flat_map, take_all, printed, get_or, arith}
 use Rattle.textwrap_marked.proofs.PrintedLines.{texts_more}
-use Rattle.textwrap_marked.specs.Reflow.{line_text, line_texts, printed}
 
 not-none : (n : ℕ) → not (n == 0) ≡ nat_lt 0 n
 not-none n = grind (arith, nat_tests)

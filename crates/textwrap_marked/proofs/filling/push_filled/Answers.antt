@@ -1,12 +1,10 @@
 use Rattle.textwrap_marked.proofs.filling.push_filled.Goals as goal
-use Rattle.textwrap_text.proofs.Common.{◌≡◌, ◌++◌, List, ℕ, map, ap, sym, ◌∙◌, subst}
-use Rattle.textwrap_text.proofs.Common.{drop, refl, string_bytes}
 use Rattle.textwrap_base.specs.declared.penalties.Penalties.{Penalties}
+use Rattle.textwrap_marked.proofs.Common.{dividing_algorithm, marked_line_view, string_bytes, AreFilled}
+use Rattle.textwrap_marked.proofs.Common.{subst, List, drop, refl, ◌++◌, map, sym, ◌∙◌, ◌≡◌, ap, ℕ}
 use Rattle.textwrap_marked.proofs.LaidLemmas.{divided-filled, first-of}
-use Rattle.textwrap_marked.specs.Lines.{marked_line_view}
-use Rattle.textwrap_marked.specs.Reflow.{AreFilled, dividing_algorithm}
+use Rattle.textwrap_marks.specs.declared.options.Algorithm.TheVariants.{LeastCost, FirstFit}
 use Rattle.textwrap_marks.specs.declared.options.Algorithm.{Algorithm}
-use Rattle.textwrap_marks.specs.declared.options.Algorithm.TheVariants.{FirstFit, LeastCost}
 
 neither : (a : Algorithm) → ((p : Penalties) → a ≡ LeastCost p → ⊥) → a ≡ FirstFit
 neither FirstFit not = refl

@@ -1,10 +1,8 @@
 use Rattle.textwrap_marked.proofs.filling.push_joined.Goals as goal
-use Rattle.textwrap_text.proofs.Common.{◌≡◌, ◌∷◌, [], List, ℕ, map, ap, ◌∙◌, subst, arith}
 use Rattle.textwrap_base.proofs.Division.Map.{IsDividedBy-map}
-use Rattle.textwrap_words.proofs.Common.{ByOptimalFit, IsDividedBy, sizes_of, word_of}
-use Rattle.textwrap_words.specs.Cuts.{parts_between}
-use Rattle.textwrap_marked.proofs.FittingPieces.{pieces-fit}
-use Rattle.textwrap_marked.specs.Pieces.{piece_view}
+use Rattle.textwrap_marked.proofs.Common.{parts_between, ByOptimalFit, IsDividedBy, piece_view, sizes_of}
+use Rattle.textwrap_marked.proofs.Common.{word_of, arith, subst, List, map, ◌∙◌, ◌∷◌, ◌≡◌, [], ap, ℕ}
+use Rattle.textwrap_marked.proofs.PieceSums.{pieces-fit}
 
 pub pieces_between-requires : goal.pieces_between-requires
 pieces_between-requires c = rw c.deref.ensures.value c.requires

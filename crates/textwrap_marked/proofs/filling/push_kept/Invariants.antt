@@ -1,6 +1,5 @@
 use Rattle.textwrap_marked.proofs.filling.push_kept.Given as goal
-use Rattle.textwrap_text.proofs.Common.{◌≡◌, ◌++◌, drop, map, string_bytes}
-use Rattle.textwrap_marked.specs.Lines.{marked_line_view}
+use Rattle.textwrap_marked.proofs.Common.{marked_line_view, string_bytes, drop, ◌++◌, map, ◌≡◌}
 use Rattle.textwrap_marked.specs.Reflow.{kept_text}
 
 -- with the lines that are left, it is the whole

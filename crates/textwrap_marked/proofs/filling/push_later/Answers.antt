@@ -1,12 +1,9 @@
 use Rattle.textwrap_marked.proofs.filling.push_later.Goals as goal
-use Rattle.textwrap_text.proofs.Common.{◌≡◌, ℕ, ◌+◌, ◌-◌, ◌<◌, ◌++◌, ◌&&◌, List, ◌∷◌, ap}
-use Rattle.textwrap_text.proofs.Common.{append_assoc, arith, Bool, drop, drop_more, flat_map}
-use Rattle.textwrap_text.proofs.Common.{get_or, length, length-drop, length-map, map, nat_lt}
-use Rattle.textwrap_text.proofs.Common.{nat_tests, sym, ◌∙◌}
-use Rattle.textwrap_words.proofs.Common.{WordText}
-use Rattle.textwrap_marked.specs.Pieces.{piece_view}
+use Rattle.textwrap_marked.proofs.Common.{append_assoc, length-drop, length-map, line_texts, piece_view}
+use Rattle.textwrap_marked.proofs.Common.{drop_more, line_text, nat_tests, WordText, flat_map, get_or, ap}
+use Rattle.textwrap_marked.proofs.Common.{length, nat_lt, arith, Bool, List, drop, ◌&&◌, ◌++◌, map, sym}
+use Rattle.textwrap_marked.proofs.Common.{◌+◌, ◌-◌, ◌<◌, ◌∙◌, ◌∷◌, ◌≡◌, ℕ}
 use Rattle.textwrap_marked.proofs.PrintedLines.{texts_more}
-use Rattle.textwrap_marked.specs.Reflow.{line_text, line_texts}
 
 fewer : (n m : ℕ) → nat_lt 0 (n - m) ≡ nat_lt m n
 fewer n m = grind (arith, nat_tests)

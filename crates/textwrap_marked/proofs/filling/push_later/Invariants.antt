@@ -1,7 +1,6 @@
 use Rattle.textwrap_marked.proofs.filling.push_later.Given as goal
-use Rattle.textwrap_text.proofs.Common.{◌≡◌, ◌++◌, drop, flat_map, map, string_bytes}
-use Rattle.textwrap_marked.specs.Pieces.{piece_view}
-use Rattle.textwrap_marked.specs.Reflow.{line_texts}
+use Rattle.textwrap_marked.proofs.Common.{string_bytes, line_texts, piece_view, flat_map, drop, ◌++◌, map}
+use Rattle.textwrap_marked.proofs.Common.{◌≡◌}
 
 -- with the lines that are left, it is the whole
 abbrev pub invariant-loop-i : goal.invariant-loop-i

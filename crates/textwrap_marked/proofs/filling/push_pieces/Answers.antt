@@ -1,7 +1,8 @@
 use Rattle.textwrap_marked.proofs.filling.push_pieces.Goals as goal
-use Rattle.textwrap_marked.proofs.filling.push_pieces.Goals.{then-i-line+in_ok-push_str, else-i-line+in_ok-push_str-2}
-use Rattle.textwrap_text.proofs.Common.{◌∙◌, ◌++◌, ap, string_bytes}
-use Rattle.textwrap_marked.proofs.CoveredLemmas.{pieces-last, pieces-next}
+use Rattle.textwrap_marked.proofs.Common.{string_bytes, ◌++◌, ◌∙◌, ap}
+use Rattle.textwrap_marked.proofs.PieceSums.{pieces-last, pieces-next}
+use Rattle.textwrap_marked.proofs.filling.push_pieces.Goals.{else-i-line+in_ok-push_str-2}
+use Rattle.textwrap_marked.proofs.filling.push_pieces.Goals.{then-i-line+in_ok-push_str}
 
 pub loop-i-preserved : goal.loop-i-preserved
 loop-i-preserved c =

@@ -1,7 +1,5 @@
 use Rattle.textwrap_marked.proofs.filling.push_pieces.Given as goal
-use Rattle.textwrap_text.proofs.Common.{◌≡◌, ◌++◌, map, drop, string_bytes}
-use Rattle.textwrap_layout.specs.Paragraph.{covered}
-use Rattle.textwrap_marked.specs.Pieces.{piece_view}
+use Rattle.textwrap_marked.proofs.Common.{string_bytes, piece_view, covered, drop, ◌++◌, map, ◌≡◌}
 
 -- with the pieces that are left, it is the whole
 abbrev pub invariant-loop-i : goal.invariant-loop-i

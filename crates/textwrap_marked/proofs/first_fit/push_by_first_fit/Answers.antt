@@ -1,17 +1,12 @@
 use Rattle.textwrap_marked.proofs.first_fit.push_by_first_fit.Goals as goal
-use Rattle.textwrap_text.proofs.Common.{◌++◌, ◌+◌, ◌∙◌, ◌∷◌, [], List, None, ℕ, ap, arith, drop, drop_all}
-use Rattle.textwrap_text.proofs.Common.{drop_more, map, refl, string_bytes, subst, sym}
 use Rattle.std.proofs.lemmas.Result.{on_ok_weaker}
 use Rattle.textwrap_base.proofs.Common.{IsGreedy}
-use Rattle.textwrap_words.proofs.Common.{sizes_of, word_of}
-use Rattle.textwrap_marks.specs.Words.{spaced_words}
-use Rattle.textwrap_marked.proofs.FirstFitLines.{paragraph-lines}
-use Rattle.textwrap_marked.specs.FirstFit.{left, fitting_view}
-use Rattle.textwrap_marked.specs.Lines.{marked_line_view}
-use Rattle.textwrap_marked.specs.Pieces.{pieces, words_of_lines}
-use Rattle.textwrap_marked.specs.Reflow.{line_texts, printed, room_behind}
-use Rattle.textwrap_marked.specs.declared.first_fit.FittingLine.{FittingLine}
-use Rattle.textwrap_marked.specs.declared.first_fit.ParagraphForm.{ParagraphForm}
+use Rattle.textwrap_marked.proofs.Common.{marked_line_view, words_of_lines, fitting_view, spaced_words, ℕ}
+use Rattle.textwrap_marked.proofs.Common.{printed, word_of, arith, subst, List, None, drop, left, refl}
+use Rattle.textwrap_marked.proofs.Common.{string_bytes, line_texts, drop_more, drop_all, sizes_of, pieces}
+use Rattle.textwrap_marked.proofs.Common.{◌++◌, map, sym, ◌+◌, ◌∙◌, ◌∷◌, [], ap}
+use Rattle.textwrap_marked.specs.declared.first_fit.{FittingLine.FittingLine, ParagraphForm.ParagraphForm}
+use Rattle.textwrap_marked.{proofs.FirstFitLines.paragraph-lines, specs.Reflow.room_behind}
 
 pub loop-line-preserved : goal.loop-line-preserved
 loop-line-preserved c =

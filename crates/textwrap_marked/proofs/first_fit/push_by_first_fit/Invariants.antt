@@ -1,8 +1,6 @@
 use Rattle.textwrap_marked.proofs.first_fit.push_by_first_fit.Given as goal
-use Rattle.textwrap_text.proofs.Common.{◌≡◌, ◌++◌, drop, map, string_bytes}
-use Rattle.textwrap_marked.specs.FirstFit.{left}
-use Rattle.textwrap_marked.specs.Lines.{marked_line_view}
-use Rattle.textwrap_marked.specs.Pieces.{words_of_lines}
+use Rattle.textwrap_marked.proofs.Common.{marked_line_view, words_of_lines, string_bytes, drop, left, map}
+use Rattle.textwrap_marked.proofs.Common.{◌++◌, ◌≡◌}
 
 -- with the words of the lines that are left, the whole stays the same
 abbrev pub invariant-loop-line : goal.invariant-loop-line

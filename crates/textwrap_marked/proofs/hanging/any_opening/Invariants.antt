@@ -1,7 +1,5 @@
 use Rattle.textwrap_marked.proofs.hanging.any_opening.Given as goal
-use Rattle.textwrap_text.proofs.Common.{◌≡◌, list_any}
-use Rattle.textwrap_marks.specs.Marks.{is_comment_opening}
-use Rattle.textwrap_marks.specs.Words.{spaced_words}
+use Rattle.textwrap_marked.proofs.Common.{is_comment_opening, spaced_words, list_any, ◌≡◌}
 
 -- none of the words so far passes
 abbrev pub invariant-loop-word : goal.invariant-loop-word

@@ -1,8 +1,7 @@
 use Rattle.textwrap_marked.proofs.hanging.hanging_margin.Goals as goal
-use Rattle.textwrap_text.proofs.Common.{◌≡◌, ◌++◌, ap, slice_range, string_bytes, take, ◌∙◌}
+use Rattle.textwrap_marked.proofs.Common.{hanging_comments, spaced_words, string_bytes, slice_range, take}
+use Rattle.textwrap_marked.proofs.Common.{spaced_text, ◌++◌, ◌∙◌, ◌≡◌, ap}
 use Rattle.textwrap_marks.proofs.WordCuts.{text-of}
-use Rattle.textwrap_marked.specs.Hanging.{hanging_comments}
-use Rattle.textwrap_marks.specs.Words.{spaced_text, spaced_words}
 
 pub returns : goal.returns
 returns c =

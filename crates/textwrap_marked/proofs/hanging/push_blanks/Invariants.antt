@@ -1,6 +1,5 @@
 use Rattle.textwrap_marked.proofs.hanging.push_blanks.Given as goal
-use Rattle.textwrap_text.proofs.Common.{◌≡◌, ◌-◌, ◌≤◌, ◌++◌, string_bytes}
-use Rattle.textwrap_marked.specs.Hanging.{blanks}
+use Rattle.textwrap_marked.proofs.Common.{string_bytes, blanks, ◌++◌, ◌-◌, ◌≡◌, ◌≤◌}
 
 abbrev pub invariant-loop-len : goal.invariant-loop-len
 invariant-loop-len l = (l.len ≤ l.count)

@@ -1,7 +1,5 @@
 use Rattle.textwrap_marked.proofs.hanging.push_hanging_bullets.Given as goal
-use Rattle.textwrap_text.proofs.Common.{◌≡◌, ◌++◌, string_bytes}
-use Rattle.textwrap_marked.specs.Hanging.{hanging_bullets}
-use Rattle.textwrap_marks.specs.Words.{spaced_words}
+use Rattle.textwrap_marked.proofs.Common.{hanging_bullets, spaced_words, string_bytes, ◌++◌, ◌≡◌}
 
 -- with the words that are left, it is the whole
 abbrev pub invariant-loop-word : goal.invariant-loop-word

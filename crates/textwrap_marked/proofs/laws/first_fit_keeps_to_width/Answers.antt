@@ -1,6 +1,5 @@
 use Rattle.textwrap_marked.proofs.laws.first_fit_keeps_to_width.Goals as goal
-use Rattle.textwrap_marked.proofs.FilledParts.{within-width}
-use Rattle.textwrap_marked.proofs.NewParts.{new-parts}
+use Rattle.textwrap_marked.proofs.NewParts.{within-width, new-parts}
 use Rattle.textwrap_marked.specs.Laws.{PartKeepsToWidth}
 
 pub returns : goal.returns

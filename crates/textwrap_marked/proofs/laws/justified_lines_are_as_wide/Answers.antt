@@ -1,7 +1,5 @@
 use Rattle.textwrap_marked.proofs.laws.justified_lines_are_as_wide.Goals as goal
-use Rattle.textwrap_marked.proofs.FilledParts.{fills-width}
-use Rattle.textwrap_marked.proofs.NewParts.{new-parts}
-use Rattle.textwrap_marked.specs.Laws.{FillsWidth}
+use Rattle.textwrap_marked.{proofs.NewParts.fills-width, proofs.NewParts.new-parts, specs.Laws.FillsWidth}
 
 pub returns : goal.returns
 returns c = λ options text reflowed justify is.

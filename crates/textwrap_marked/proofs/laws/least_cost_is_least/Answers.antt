@@ -1,7 +1,5 @@
 use Rattle.textwrap_marked.proofs.laws.least_cost_is_least.Goals as goal
-use Rattle.textwrap_marked.proofs.FilledParts.{costs-least}
-use Rattle.textwrap_marked.proofs.NewParts.{new-parts}
-use Rattle.textwrap_marked.specs.Laws.{CostsLeast}
+use Rattle.textwrap_marked.{proofs.NewParts.costs-least, proofs.NewParts.new-parts, specs.Laws.CostsLeast}
 
 pub returns : goal.returns
 returns c = λ options penalties text reflowed least.

@@ -1,5 +1,5 @@
 use Rattle.textwrap_marked.proofs.laws.nothing_is_lost.Goals as goal
-use Rattle.textwrap_marked.proofs.NewTexts.{nothing-lost}
+use Rattle.textwrap_marked.proofs.NewTexts.{read-whole, shown-same}
 
 pub returns : goal.returns
-returns c = nothing-lost
+returns c = λ options text reflowed is. shown-same options text reflowed (read-whole options text reflowed is)

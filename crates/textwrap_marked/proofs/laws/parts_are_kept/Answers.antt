@@ -1,5 +1,5 @@
 use Rattle.textwrap_marked.proofs.laws.parts_are_kept.Goals as goal
-use Rattle.textwrap_marked.proofs.NewTexts.{parts-kept}
+use Rattle.textwrap_marked.proofs.NewTexts.{parts-same, read-whole}
 
 pub returns : goal.returns
-returns c = parts-kept
+returns c = λ options text reflowed is. parts-same options text reflowed (read-whole options text reflowed is)

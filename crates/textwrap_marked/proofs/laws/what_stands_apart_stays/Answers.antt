@@ -1,6 +1,5 @@
 use Rattle.textwrap_marked.proofs.laws.what_stands_apart_stays.Goals as goal
-use Rattle.textwrap_marked.proofs.FilledParts.{kept-or-behind}
-use Rattle.textwrap_marked.proofs.NewParts.{new-parts}
+use Rattle.textwrap_marked.proofs.NewParts.{kept-or-behind, new-parts}
 use Rattle.textwrap_marked.specs.Laws.{IsKeptOrBehind}
 
 pub returns : goal.returns

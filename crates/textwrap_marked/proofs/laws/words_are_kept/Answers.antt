@@ -1,6 +1,5 @@
 use Rattle.textwrap_marked.proofs.laws.words_are_kept.Goals as goal
-use Rattle.textwrap_marked.proofs.FilledParts.{kept-words}
-use Rattle.textwrap_marked.proofs.NewParts.{new-parts}
+use Rattle.textwrap_marked.proofs.NewParts.{kept-words, new-parts}
 use Rattle.textwrap_marked.specs.Laws.{PartKeepsWords}
 
 pub returns : goal.returns

@@ -1,7 +1,6 @@
 use Rattle.textwrap_marked.proofs.least_cost.divide_at_least_cost.Goals as goal
 use Rattle.textwrap_base.proofs.Cost.Chosen.{by_table-chosen}
-use Rattle.textwrap_marked.proofs.PieceSums.{row-sums}
-use Rattle.textwrap_marked.specs.Pieces.{piece_priced}
+use Rattle.textwrap_marked.{proofs.PieceSums.row-sums, specs.Pieces.piece_priced}
 
 pub search-requires-clause-measured : goal.search-requires-clause-measured
 search-requires-clause-measured c = row-sums c.args.pieces.now c.requires.row c.requires.fits

@@ -1,9 +1,8 @@
 use Rattle.textwrap_marked.proofs.least_cost.search.Goals as goal
-use Rattle.textwrap_text.proofs.Common.{map, subst, ◌∙◌}
+use Rattle.textwrap_base.proofs.Cost.Table.{length_reported, starts_reported, first_reported}
+use Rattle.textwrap_base.proofs.{Common.FollowStarts, Cost.Table.later_reported}
+use Rattle.textwrap_marked.proofs.Common.{subst, map, ◌∙◌}
 use Rattle.textwrap_text.proofs.Numbers.{both}
-use Rattle.textwrap_base.proofs.Common.{FollowStarts}
-use Rattle.textwrap_base.proofs.Cost.Table.{first_reported, later_reported, length_reported}
-use Rattle.textwrap_base.proofs.Cost.Table.{starts_reported}
 
 pub lines_by-requires-clause-len : goal.lines_by-requires-clause-len
 lines_by-requires-clause-len c =

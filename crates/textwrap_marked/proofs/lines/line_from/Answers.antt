@@ -1,21 +1,16 @@
 use Rattle.textwrap_marked.proofs.lines.line_from.Goals as goal
-use Rattle.textwrap_text.proofs.Common.{◌≡◌, ℕ, ◌++◌, ◌==◌, ◌&&◌, ◌||◌, Bool, not, List}
-use Rattle.textwrap_text.proofs.Common.{take, drop, slice_range, string_bytes, refl, sym, ap, ◌∙◌}
-use Rattle.textwrap_text.proofs.Common.{Option, Some, None, option_map, arith, cases_Bool}
-use Rattle.textwrap_text.proofs.Common.{false, list_any, true, subst}
 use Rattle.std.proofs.lemmas.List.Elements.{All-drop}
-use Rattle.std.specs.Prelude.{is_some}
-use Rattle.textwrap_marks.proofs.PlainWords.{words-plain}
-use Rattle.textwrap_marks.proofs.WordCuts.{text-of}
-use Rattle.textwrap_marks.specs.Fences.{fence_view}
-use Rattle.textwrap_marked.specs.Lines.{is_chosen, is_deep, is_ended, line_from_words, stands_apart}
-use Rattle.textwrap_marked.specs.Lines.{state_view, StateText, without_returns}
-use Rattle.textwrap_marked.specs.Hanging.{hanging_bullets, hanging_margin, has_opening}
-use Rattle.textwrap_marks.specs.Signs.{ArePlain, closes_block, first_word, is_column_byte, is_key}
-use Rattle.textwrap_marks.specs.Words.{has_byte, spaced_text, SpacedText, spaced_words}
-use Rattle.textwrap_marks.specs.declared.fences.Fence.{Fence}
-use Rattle.textwrap_marks.specs.declared.options.ReflowOptions.{ReflowOptions}
-use Rattle.textwrap_marks.specs.declared.prefixes.PrefixEnds.{PrefixEnds}
+use Rattle.textwrap_marked.proofs.Common.{Option, is_key, false, subst, Bool, List, None, Some, drop, refl}
+use Rattle.textwrap_marked.proofs.Common.{closes_block, spaced_words, stands_apart, string_bytes, StateText}
+use Rattle.textwrap_marked.proofs.Common.{hanging_bullets, line_from_words, without_returns, ReflowOptions}
+use Rattle.textwrap_marked.proofs.Common.{option_map, has_byte, is_ended, list_any, is_deep, is_some, arith}
+use Rattle.textwrap_marked.proofs.Common.{slice_range, spaced_text, SpacedText, cases_Bool, first_word, not}
+use Rattle.textwrap_marked.proofs.Common.{take, true, ◌&&◌, ◌++◌, ◌==◌, ◌||◌, sym, ◌∙◌, ◌≡◌, ap, ℕ}
+use Rattle.textwrap_marked.specs.Hanging.{hanging_margin, has_opening}
+use Rattle.textwrap_marked.specs.Lines.{state_view, is_chosen}
+use Rattle.textwrap_marks.proofs.{PlainWords.words-plain, WordCuts.text-of}
+use Rattle.textwrap_marks.specs.declared.{fences.Fence.Fence, prefixes.PrefixEnds.PrefixEnds}
+use Rattle.textwrap_marks.specs.{Fences.fence_view, Signs.is_column_byte, Signs.ArePlain}
 
 is_some-view : (fence : Option Fence) → is_some fence ≡ is_some (option_map fence_view fence)
 is_some-view None = refl

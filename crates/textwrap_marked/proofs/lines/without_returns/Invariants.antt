@@ -1,6 +1,5 @@
 use Rattle.textwrap_marked.proofs.lines.without_returns.Given as goal
-use Rattle.textwrap_text.proofs.Common.{◌≡◌, ◌+◌, ◌<◌, ◌≤◌, take, length, get_or, suffix_len}
-use Rattle.textwrap_marked.specs.Lines.{is_return}
+use Rattle.textwrap_marked.proofs.Common.{suffix_len, is_return, get_or, length, take, ◌+◌, ◌<◌, ◌≡◌, ◌≤◌}
 
 -- the bytes passed, and those at the end of what is left, are those at the end
 abbrev pub invariant-loop-end : goal.invariant-loop-end

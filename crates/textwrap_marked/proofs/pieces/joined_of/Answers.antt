@@ -1,9 +1,7 @@
 use Rattle.textwrap_marked.proofs.pieces.joined_of.Goals as goal
-use Rattle.textwrap_text.proofs.Common.{◌++◌, ◌+◌, ◌∙◌, ap, drop, drop_all, drop_more, map, refl, sym, arith}
-use Rattle.textwrap_marks.specs.Words.{spaced_words}
-use Rattle.textwrap_marked.proofs.JoinedTurns.{joined-all}
-use Rattle.textwrap_marked.specs.Lines.{marked_line_view}
-use Rattle.textwrap_marked.specs.Pieces.{joined_view, with_words, words_of_lines}
+use Rattle.textwrap_marked.proofs.Common.{marked_line_view, words_of_lines, spaced_words, joined_view, ap}
+use Rattle.textwrap_marked.proofs.Common.{with_words, drop_more, drop_all, arith, drop, refl, ◌++◌, map}
+use Rattle.textwrap_marked.proofs.{Common.sym, Common.◌+◌, Common.◌∙◌, PieceLemmas.joined-all}
 
 pub loop-line-preserved : goal.loop-line-preserved
 loop-line-preserved c =

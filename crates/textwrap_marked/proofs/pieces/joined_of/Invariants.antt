@@ -1,7 +1,6 @@
 use Rattle.textwrap_marked.proofs.pieces.joined_of.Given as goal
-use Rattle.textwrap_text.proofs.Common.{◌≡◌, drop, map}
-use Rattle.textwrap_marked.specs.Lines.{marked_line_view}
-use Rattle.textwrap_marked.specs.Pieces.{joined_view, with_words, words_of_lines}
+use Rattle.textwrap_marked.proofs.Common.{map, ◌≡◌}
+use Rattle.textwrap_marked.proofs.Common.{marked_line_view, words_of_lines, joined_view, with_words, drop}
 
 -- with the words of the lines that are left, they are all words
 abbrev pub invariant-loop-line : goal.invariant-loop-line

@@ -1,9 +1,7 @@
 use Rattle.textwrap_marked.proofs.pieces.pieces_between.Goals as goal
-use Rattle.textwrap_text.proofs.Common.{append_assoc, drop_more, map_push, arith, refl, map}
-use Rattle.textwrap_text.proofs.Common.{List, ◌++◌, sym, ◌∙◌, ◌∷◌, ◌≡◌, []}
-use Rattle.textwrap_words.proofs.Common.{WordText}
-use Rattle.textwrap_marked.specs.Pieces.{piece_view}
-use Rattle.textwrap_marked.specs.declared.pieces.JoinedPiece.{JoinedPiece}
+use Rattle.textwrap_marked.proofs.Common.{append_assoc, JoinedPiece, piece_view, drop_more, WordText, map}
+use Rattle.textwrap_marked.proofs.Common.{arith, List, refl, ◌++◌, sym, ◌∙◌, ◌∷◌, ◌≡◌, []}
+use Rattle.textwrap_text.proofs.Common.{map_push}
 
 pub returns-then-is_empty-clause-pieces : goal.returns-then-is_empty-clause-pieces
 returns-then-is_empty-clause-pieces c =

@@ -1,8 +1,8 @@
 use Rattle.textwrap_marked.proofs.pieces.pieces_between.Given as goal
-use Rattle.textwrap_text.proofs.Common.{IsCharBoundary, drop, List, ◌++◌, map, ◌<◌, ◌≡◌, ◌≤◌}
-use Rattle.textwrap_words.proofs.Common.{parts_onward, IsNextPoint, AreNext, word_of}
-use Rattle.textwrap_marked.specs.Pieces.{AreInRow, piece_view}
-use Rattle.textwrap_marked.specs.declared.pieces.JoinedPiece.{JoinedPiece}
+use Rattle.textwrap_marked.proofs.Common.{JoinedPiece, piece_view, word_of, List, drop, ◌++◌, map, ◌<◌}
+use Rattle.textwrap_marked.{proofs.Common.◌≡◌, proofs.Common.◌≤◌, specs.Pieces.AreInRow}
+use Rattle.textwrap_text.proofs.Common.{IsCharBoundary}
+use Rattle.textwrap_words.proofs.Common.{parts_onward, IsNextPoint, AreNext}
 
 -- the pieces so far, and those of what follows the last cut, are those of the text, and with any that
 -- open behind them they are in a row

@@ -1,7 +1,6 @@
 use Rattle.textwrap_marked.proofs.reading.next_line.Goals as goal
-use Rattle.textwrap_text.proofs.Common.{ap, ◌∙◌}
-use Rattle.textwrap_marked.proofs.ReadLemmas.{fed-is, reads-line}
-use Rattle.textwrap_marked.specs.Lines.{entered, marked_line_view, read_lines, state_view}
+use Rattle.textwrap_marked.proofs.Common.{marked_line_view, read_lines, entered, ◌∙◌, ap}
+use Rattle.textwrap_marked.{proofs.ReadLemmas.reads-line, proofs.ReadLemmas.fed-is, specs.Lines.state_view}
 use Rattle.textwrap_marks.specs.Words.{parts_behind_mark}
 
 pub returns-clause-lines : goal.returns-clause-lines

@@ -1,9 +1,6 @@
 use Rattle.textwrap_marked.proofs.reflowing.is_beside.Goals as goal
-use Rattle.textwrap_text.proofs.Common.{ap, sym, ◌∙◌}
-use Rattle.textwrap_marked.proofs.BlockLemmas.{blocks-first}
-use Rattle.textwrap_marked.specs.Blocks.{blocks, is_beside}
-use Rattle.textwrap_marked.specs.Lines.{marked_line_view}
-use Rattle.textwrap_marked.specs.Reading.{lines_ahead, lines_left}
+use Rattle.textwrap_marked.proofs.Common.{marked_line_view, lines_ahead, lines_left, is_beside, blocks}
+use Rattle.textwrap_marked.proofs.{Common.sym, Common.◌∙◌, Common.ap, LaidLemmas.blocks-first}
 
 pub returns-in-Some : goal.returns-in-Some
 returns-in-Some c = λ options.

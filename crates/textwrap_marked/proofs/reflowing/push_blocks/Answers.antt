@@ -1,11 +1,8 @@
 use Rattle.textwrap_marked.proofs.reflowing.push_blocks.Goals as goal
-use Rattle.textwrap_text.proofs.Common.{◌≡◌, ◌++◌, [], ◌||◌, ap, append_assoc, append-nil, map}
-use Rattle.textwrap_text.proofs.Common.{refl, subst, sym, ◌∙◌}
+use Rattle.textwrap_marked.proofs.Common.{append-nil, lines_left, is_beside, blocks, refl, ◌++◌, ◌||◌, []}
+use Rattle.textwrap_marked.proofs.Common.{map, sym, ◌∙◌, ◌≡◌, ap}
+use Rattle.textwrap_marked.proofs.Common.{marked_line_view, append_assoc, AreOfBlocks, lines_ahead, subst}
 use Rattle.textwrap_marked.proofs.LaidLemmas.{block-begins, laid-first, of-first}
-use Rattle.textwrap_marked.specs.Blocks.{blocks, is_beside}
-use Rattle.textwrap_marked.specs.Lines.{marked_line_view}
-use Rattle.textwrap_marked.specs.Reading.{lines_ahead, lines_left}
-use Rattle.textwrap_marked.specs.Reflow.{AreOfBlocks}
 
 pub loop-ahead-preserved : goal.loop-ahead-preserved
 loop-ahead-preserved c = λ back laid.

@@ -1,14 +1,10 @@
 use Rattle.textwrap_marked.proofs.within.push_blocks.Goals as goal
-use Rattle.textwrap_text.proofs.Common.{◌≡◌, ◌++◌, [], ◌||◌, ap, append_assoc, append-nil, map}
-use Rattle.textwrap_text.proofs.Common.{refl, length, length-map, subst, sym, ◌∙◌, ◌+◌}
-use Rattle.std.proofs.Common.{ap₂}
-use Rattle.std.specs.Prelude.{not}
-use Rattle.textwrap_marked.proofs.LaidLemmas.{block-begins, of-first}
-use Rattle.textwrap_marked.proofs.WithinLemmas.{behind-more, behind-none, touches-behind, within-first}
-use Rattle.textwrap_marked.specs.Blocks.{blocks, is_beside}
-use Rattle.textwrap_marked.specs.Lines.{marked_line_view}
-use Rattle.textwrap_marked.specs.Reading.{lines_ahead, lines_left}
-use Rattle.textwrap_marked.specs.Within.{AreOfBlocksWithin, range_behind, touches}
+use Rattle.textwrap_marked.proofs.Common.{AreOfBlocksWithin, marked_line_view, append_assoc, range_behind}
+use Rattle.textwrap_marked.proofs.Common.{lines_ahead, append-nil, length-map, lines_left, is_beside, ap₂}
+use Rattle.textwrap_marked.proofs.Common.{touches, blocks, length, subst, refl, ◌++◌, ◌||◌, map, not, sym}
+use Rattle.textwrap_marked.proofs.Common.{◌+◌, ◌∙◌, ◌≡◌, [], ap}
+use Rattle.textwrap_marked.proofs.LaidLemmas.{behind-none, of-first}
+use Rattle.textwrap_marked.proofs.LaidLemmas.{touches-behind, block-begins, within-first, behind-more}
 
 pub loop-ahead-init : goal.loop-ahead-init
 loop-ahead-init c = (0, behind-none c.args.range, λ back laid. (back, laid, refl))

@@ -1,7 +1,6 @@
 use Rattle.textwrap_marks.proofs.columns.columns.Given as goal
-use Rattle.textwrap_text.proofs.Common.{◌≡◌}
-use Rattle.textwrap_marks.specs.Columns.{text_columns, columns_behind}
-use Rattle.textwrap_marks.specs.Words.{bytes_left, parts_behind_mark}
+use Rattle.textwrap_marks.specs.Columns.{columns_behind, text_columns}
+use Rattle.textwrap_marks.{proofs.Common.◌≡◌, specs.Words.parts_behind_mark, specs.Words.bytes_left}
 
 -- the columns behind what is left are those of the text
 abbrev pub invariant-loop-rest : goal.invariant-loop-rest

@@ -1,8 +1,7 @@
 use Rattle.textwrap_marks.proofs.columns.depth_of.Goals as goal
-use Rattle.textwrap_text.proofs.Common.{◌≡◌, ◌∙◌, ◌-◌, List, ℕ, [], ap, arith, length, nat_tests}
-use Rattle.textwrap_text.proofs.Common.{sym}
 use Rattle.std.proofs.lemmas.List.{nil_from_length}
-use Rattle.textwrap_marks.specs.Columns.{depth_of, DepthText}
+use Rattle.textwrap_marks.proofs.Common.{nat_tests, length, arith, List, sym, ◌-◌, ◌∙◌, ◌≡◌, [], ap, ℕ}
+use Rattle.textwrap_marks.specs.Columns.{DepthText, depth_of}
 use Rattle.textwrap_words.proofs.Word.Words.{text_width-nil}
 
 pub returns-then-is_empty : goal.returns-then-is_empty

@@ -1,6 +1,6 @@
 use Rattle.textwrap_marks.proofs.columns.without_final_white.Given as goal
-use Rattle.textwrap_text.proofs.Common.{◌≡◌, ◌+◌, ◌<◌, ◌≤◌, take, length, get_or, suffix_len}
-use Rattle.textwrap_marks.specs.Words.{is_white}
+use Rattle.textwrap_marks.proofs.Common.{is_white, get_or, length, take, ◌+◌, ◌<◌, ◌≡◌, ◌≤◌}
+use Rattle.textwrap_text.proofs.Common.{suffix_len}
 
 -- the bytes passed, and those at the end of what is left, are those at the end
 abbrev pub invariant-loop-end : goal.invariant-loop-end

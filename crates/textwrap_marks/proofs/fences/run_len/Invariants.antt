@@ -1,5 +1,5 @@
 use Rattle.textwrap_marks.proofs.fences.run_len.Given as goal
-use Rattle.textwrap_text.proofs.Common.{◌≡◌, ◌+◌, ◌-◌, ◌≤◌, ◌==◌, drop, length, prefix_len}
+use Rattle.textwrap_marks.proofs.Common.{prefix_len, length, drop, ◌==◌, ◌+◌, ◌-◌, ◌≡◌, ◌≤◌}
 
 -- the bytes passed, and those at the beginning of what is left, are those at the beginning
 abbrev pub invariant-loop-len : goal.invariant-loop-len

@@ -1,9 +1,8 @@
 use Rattle.textwrap_marks.proofs.prefixes.bullets_len.Given as goal
+use Rattle.textwrap_marks.proofs.Common.{spaced_words, length, ◌+◌, ◌≡◌}
+use Rattle.textwrap_marks.specs.Prefixes.{bullets_len}
 use denote.Shadow.{shadow}
 use denote.Text.{Utf8}
-use Rattle.textwrap_text.proofs.Common.{◌≡◌, ◌+◌, length}
-use Rattle.textwrap_marks.specs.Prefixes.{bullets_len}
-use Rattle.textwrap_marks.specs.Words.{spaced_words}
 
 -- with the bullets that are left, they are all
 abbrev pub invariant-loop-rest : goal.invariant-loop-rest

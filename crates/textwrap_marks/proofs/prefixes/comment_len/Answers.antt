@@ -1,8 +1,7 @@
 use Rattle.textwrap_marks.proofs.prefixes.comment_len.Goals as goal
-use Rattle.textwrap_text.proofs.Common.{ap, arith, cond, nat_tests, sym, ◌∙◌}
+use Rattle.textwrap_marks.proofs.Common.{is_comment_at, spaced_words, nat_tests, arith, sym, ◌∙◌, ap}
 use Rattle.textwrap_marks.proofs.WordCuts.{comment_is, words_some}
-use Rattle.textwrap_marks.specs.Marks.{is_comment_at}
-use Rattle.textwrap_marks.specs.Words.{spaced_words}
+use Rattle.textwrap_text.proofs.Common.{cond}
 
 pub returns-then-is_comment_at-clause-len : goal.returns-then-is_comment_at-clause-len
 returns-then-is_comment_at-clause-len c =

@@ -1,10 +1,7 @@
 use Rattle.textwrap_marks.proofs.prefixes.prefix_ends.Goals as goal
-use Rattle.textwrap_text.proofs.Common.{◌≡◌, ℕ, ◌+◌, Bool, List, arith, drop, length-drop, refl}
-use Rattle.textwrap_marks.proofs.WordCuts.{words_fewer}
-use Rattle.textwrap_marks.specs.Prefixes.{bullets_len, comment_len, lead_len, prefix_ends}
-use Rattle.textwrap_marks.specs.Prefixes.{quotes_len}
-use Rattle.textwrap_marks.specs.Words.{SpacedText}
-use Rattle.textwrap_marks.specs.declared.options.ReflowOptions.{ReflowOptions}
+use Rattle.textwrap_marks.proofs.Common.{ReflowOptions, length-drop, SpacedText, arith, Bool, List, drop}
+use Rattle.textwrap_marks.proofs.{Common.refl, Common.◌+◌, Common.◌≡◌, Common.ℕ, WordCuts.words_fewer}
+use Rattle.textwrap_marks.specs.Prefixes.{bullets_len, comment_len, prefix_ends, quotes_len, lead_len}
 
 -- each part is counted behind the parts before it
 ends-are : (options : ReflowOptions) (in_block : Bool) (words : List SpacedText)

@@ -1,7 +1,6 @@
 use Rattle.textwrap_marks.proofs.prefixes.quotes_len.Given as goal
-use Rattle.textwrap_text.proofs.Common.{◌≡◌, ◌+◌, length}
+use Rattle.textwrap_marks.proofs.Common.{spaced_words, length, ◌+◌, ◌≡◌}
 use Rattle.textwrap_marks.specs.Prefixes.{quotes_len}
-use Rattle.textwrap_marks.specs.Words.{spaced_words}
 
 -- with the marks that are left, they are all
 abbrev pub invariant-loop-word : goal.invariant-loop-word

@@ -1,7 +1,5 @@
 use Rattle.textwrap_marks.proofs.signs.any_column_word.Goals as goal
-use Rattle.textwrap_text.proofs.Common.{sym}
-use Rattle.textwrap_marks.proofs.PlainWords.{plain-none}
-use Rattle.textwrap_marks.specs.Words.{spaced_words}
+use Rattle.textwrap_marks.proofs.{Common.spaced_words, Common.sym, PlainWords.plain-none}
 
 pub returns-then-plain : goal.returns-then-plain
 returns-then-plain c =

@@ -1,6 +1,5 @@
 use Rattle.textwrap_marks.proofs.signs.any_contains.Given as goal
-use Rattle.textwrap_text.proofs.Common.{◌≡◌, list_any}
-use Rattle.textwrap_marks.specs.Words.{contains, spaced_words}
+use Rattle.textwrap_marks.proofs.Common.{spaced_words, contains, list_any, ◌≡◌}
 
 -- none of the words so far passes
 abbrev pub invariant-loop-word : goal.invariant-loop-word

@@ -1,7 +1,6 @@
 use Rattle.textwrap_marks.proofs.signs.any_gap.Given as goal
-use Rattle.textwrap_text.proofs.Common.{◌≡◌, list_any}
+use Rattle.textwrap_marks.proofs.Common.{spaced_words, list_any, ◌≡◌}
 use Rattle.textwrap_marks.specs.Signs.{is_gap}
-use Rattle.textwrap_marks.specs.Words.{spaced_words}
 
 -- none of the words so far passes
 abbrev pub invariant-loop-word : goal.invariant-loop-word

@@ -1,6 +1,5 @@
 use Rattle.textwrap_marks.proofs.signs.any_letter.Given as goal
-use Rattle.textwrap_text.proofs.Common.{◌≡◌, list_any}
-use Rattle.textwrap_marks.specs.Words.{has_letter, spaced_words}
+use Rattle.textwrap_marks.proofs.Common.{spaced_words, has_letter, list_any, ◌≡◌}
 
 -- none of the words so far passes
 abbrev pub invariant-loop-word : goal.invariant-loop-word

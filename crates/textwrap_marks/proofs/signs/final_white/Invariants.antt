@@ -1,6 +1,5 @@
 use Rattle.textwrap_marks.proofs.signs.final_white.Given as goal
-use Rattle.textwrap_text.proofs.Common.{true, ◌≤◌, length}
-use Rattle.textwrap_marks.specs.Words.{AreWhite}
+use Rattle.textwrap_marks.proofs.Common.{AreWhite, length, true, ◌≤◌}
 
 abbrev pub invariant-loop-end : goal.invariant-loop-end
 invariant-loop-end l = (l.end ≤ length l.bytes) × AreWhite true l.bytes l.end (length l.bytes)

@@ -1,5 +1,5 @@
 use Rattle.textwrap_marks.proofs.signs.has_column_byte.Given as goal
-use Rattle.textwrap_text.proofs.Common.{◌≡◌, ◌||◌, drop, list_any}
+use Rattle.textwrap_marks.proofs.Common.{list_any, drop, ◌||◌, ◌≡◌}
 use Rattle.textwrap_marks.specs.Signs.{is_column_byte}
 
 -- with the bytes that are left, it says whether any byte is one

@@ -1,13 +1,10 @@
 use Rattle.textwrap_marks.proofs.signs.is_small.Goals as goal
-use Rattle.textwrap_text.proofs.Common.{◌≡◌, ℕ, ◌<◌, ◌≤◌, ◌++◌, ◌∙◌, ◌||◌, Bool, true, List, []}
-use Rattle.textwrap_text.proofs.Common.{◌∷◌, ap, arith, length, cases_Bool, list_any, nat_tests}
-use Rattle.textwrap_text.proofs.Common.{sym, IsUtf8}
 use Rattle.std.proofs.lemmas.Str.{chars_past_char, encode_ascii}
-use Rattle.std.specs.Char.{is_ascii_lowercase}
-use Rattle.std.specs.Char.Unicode.Alphabetic.{alphabetic_ranges, is_alphabetic}
-use Rattle.std.specs.Char.Unicode.Rows.{in_ranges}
-use Rattle.std.specs.Prelude.{slice_index_or}
-use Rattle.textwrap_marks.specs.Words.{has_letter, is_letter_or_digit}
+use Rattle.std.specs.Char.Unicode.{Alphabetic.alphabetic_ranges, Alphabetic.is_alphabetic, Rows.in_ranges}
+use Rattle.std.specs.{Char.is_ascii_lowercase, Prelude.slice_index_or}
+use Rattle.textwrap_marks.proofs.Common.{arith, Bool, List, true, ◌++◌, ◌||◌, ◌<◌, ◌∙◌, ◌∷◌, ◌≡◌, ◌≤◌, []}
+use Rattle.textwrap_marks.proofs.Common.{cases_Bool, has_letter, nat_tests, list_any, IsUtf8, length, sym}
+use Rattle.textwrap_marks.{proofs.Common.ap, proofs.Common.ℕ, specs.Words.is_letter_or_digit}
 
 small-letter : (c : ℕ) → is_ascii_lowercase c ≡ true → is_letter_or_digit c ≡ true
 unfolding is_alphabetic in_ranges alphabetic_ranges

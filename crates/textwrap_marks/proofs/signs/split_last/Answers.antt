@@ -1,7 +1,6 @@
 use Rattle.textwrap_marks.proofs.signs.split_last.Goals as goal
-use Rattle.textwrap_text.proofs.Common.{ap, arith, length, ◌∙◌}
-use Rattle.textwrap_marks.proofs.WordCuts.{IsLastCut, boundary-at, last-cut}
-use Rattle.textwrap_marks.specs.Words.{spaced_words}
+use Rattle.textwrap_marks.proofs.Common.{spaced_words, length, arith, ◌∙◌, ap}
+use Rattle.textwrap_marks.proofs.WordCuts.{boundary-at, IsLastCut, last-cut}
 
 last : (c : goal.After-split_at) → IsLastCut c.args.text.now c.word_start.result
 last c =

@@ -1,6 +1,5 @@
 use Rattle.textwrap_marks.proofs.signs.word_start.Given as goal
-use Rattle.textwrap_text.proofs.Common.{false, ◌≤◌}
-use Rattle.textwrap_marks.specs.Words.{AreWhite}
+use Rattle.textwrap_marks.proofs.Common.{AreWhite, false, ◌≤◌}
 
 abbrev pub invariant-loop-start : goal.invariant-loop-start
 invariant-loop-start l = (l.start ≤ l.end) × AreWhite false l.bytes l.start l.end

@@ -1,7 +1,7 @@
 use Rattle.textwrap_marks.proofs.words.split_at.Goals as goal
-use Rattle.textwrap_text.proofs.Common.{◌==◌, None, Some}
 use Rattle.std.proofs.lemmas.Str.Pattern.{split_once_first}
-use Rattle.textwrap_marks.proofs.ListLemmas.{split-first, split-one}
+use Rattle.textwrap_marks.proofs.{Common.◌==◌, ListLemmas.split-first, ListLemmas.split-one}
+use Rattle.textwrap_text.proofs.Common.{None, Some}
 
 pub returns-in-Some-clause-parts : goal.returns-in-Some-clause-parts
 returns-in-Some-clause-parts c =

@@ -1,8 +1,7 @@
 use Rattle.textwrap_marks.proofs.words.split_first.Goals as goal
-use Rattle.textwrap_text.proofs.Common.{◌≡◌, ℕ, List, ap, drop, prefix_len, subst, sym, take, length, ◌<◌, ◌∙◌}
-use Rattle.textwrap_text.proofs.Common.{◌∷◌}
+use Rattle.textwrap_marks.proofs.Common.{List, drop, take, sym, ◌<◌, ◌∙◌, ◌∷◌, ◌≡◌, ap, ℕ}
+use Rattle.textwrap_marks.proofs.Common.{behind_spaced, spaced_words, prefix_len, is_white, length, subst}
 use Rattle.textwrap_marks.proofs.SpacedLemmas.{behind-shorter, words-turn, word_len}
-use Rattle.textwrap_marks.specs.Words.{behind_spaced, is_white, spaced_words}
 
 -- what is left behind the first word
 left : (text after rest : List ℕ) → after ≡ drop (word_len text) text

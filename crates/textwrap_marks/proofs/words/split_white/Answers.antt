@@ -1,9 +1,8 @@
 use Rattle.textwrap_marks.proofs.words.split_white.Goals as goal
-use Rattle.textwrap_text.proofs.Common.{◌≡◌, ◌<◌, true, length, get_or, ap, sym, ◌∙◌, arith}
-use Rattle.textwrap_text.proofs.Common.{zero-add, IsCharBoundary-after_ascii, IsCharBoundary-start}
 use Rattle.std.proofs.lemmas.List.Sums.{prefix_len-drop_yes}
+use Rattle.textwrap_marks.proofs.Common.{is_white, get_or, length, arith, true, sym, ◌<◌, ◌∙◌, ◌≡◌, ap}
 use Rattle.textwrap_marks.proofs.SpacedLemmas.{white-small}
-use Rattle.textwrap_marks.specs.Words.{is_white}
+use Rattle.textwrap_text.proofs.Common.{IsCharBoundary-after_ascii, IsCharBoundary-start, zero-add}
 
 pub loop-end-init : goal.loop-end-init
 loop-end-init c = (IsCharBoundary-start c.args.text.now c.utf8.text, zero-add _)

@@ -1,7 +1,6 @@
 use Rattle.textwrap_marks.proofs.words.split_white.Given as goal
-use Rattle.textwrap_text.proofs.Common.{◌≡◌, ◌+◌, ◌-◌, drop, length, IsCharBoundary}
-use Rattle.std.specs.List.{prefix_len}
-use Rattle.textwrap_marks.specs.Words.{is_white}
+use Rattle.textwrap_marks.proofs.Common.{prefix_len, is_white, length, drop, ◌+◌, ◌-◌, ◌≡◌}
+use Rattle.textwrap_text.proofs.Common.{IsCharBoundary}
 
 -- the bytes passed, and those at the beginning of what is left, are those at the beginning
 abbrev pub invariant-loop-end : goal.invariant-loop-end

@@ -1,7 +1,5 @@
 use Rattle.textwrap_marks.proofs.words.split_word.Given as goal
-use Rattle.textwrap_text.proofs.Common.{◌≡◌, ◌+◌, ◌-◌, ◌≤◌, drop, length}
-use Rattle.std.specs.List.{prefix_len}
-use Rattle.textwrap_marks.specs.Words.{is_ink}
+use Rattle.textwrap_marks.proofs.Common.{prefix_len, is_ink, length, drop, ◌+◌, ◌-◌, ◌≡◌, ◌≤◌}
 
 -- the bytes passed, and those at the beginning of what is left, are those at the beginning
 abbrev pub invariant-loop-end : goal.invariant-loop-end

@@ -1,12 +1,10 @@
 use Rattle.textwrap_marks.proofs.words.split_words.Goals as goal
-use Rattle.textwrap_marks.proofs.words.split_words.Goals.{else-loop-len-test}
-use Rattle.textwrap_marks.proofs.words.split_words.Goals.{then-loop-len-test+else-not-is_empty}
-use Rattle.textwrap_marks.proofs.words.split_words.Goals.{After-split_at}
-use Rattle.textwrap_text.proofs.Common.{◌≡◌, ◌+◌, ◌-◌, ◌<◌, IsUtf8, ap, arith, length, nat_tests}
-use Rattle.textwrap_text.proofs.Common.{rules, subst, sym, ◌∙◌}
 use Rattle.std.proofs.lemmas.Str.{IsCharBoundary-from_drop}
+use Rattle.textwrap_marks.proofs.Common.{spaced_words, nat_tests, IsUtf8, length, arith, rules, subst, ap}
+use Rattle.textwrap_marks.proofs.Common.{sym, ◌+◌, ◌-◌, ◌<◌, ◌∙◌, ◌≡◌}
 use Rattle.textwrap_marks.proofs.WordCuts.{IsBehindWords, behind-next, parts-are}
-use Rattle.textwrap_marks.specs.Words.{spaced_words}
+use Rattle.textwrap_marks.proofs.words.split_words.Goals.{else-loop-len-test, After-split_at}
+use Rattle.textwrap_marks.proofs.words.split_words.Goals.{then-loop-len-test+else-not-is_empty}
 
 pub loop-len-init : goal.loop-len-init
 loop-len-init c = search rules

@@ -1,8 +1,7 @@
 use Rattle.textwrap_marked.proofs.blocks.BlocksAhead.next.Given as goal
-use Rattle.textwrap_text.proofs.Common.{◌≡◌, ◌≤◌, ◌++◌, ◌∷◌, map, Some}
-use Rattle.textwrap_marked.specs.Blocks.{behind_block, first_block}
-use Rattle.textwrap_marked.specs.Lines.{marked_line_view}
-use Rattle.textwrap_marked.specs.Reading.{bytes_ahead, lines_ahead, lines_left}
+use Rattle.textwrap_marked.proofs.Common.{lines_left, ◌++◌, map, ◌∷◌, ◌≡◌, ◌≤◌}
+use Rattle.textwrap_marked.proofs.Common.{marked_line_view, behind_block, first_block, lines_ahead, Some}
+use Rattle.textwrap_marked.specs.Reading.{bytes_ahead}
 
 -- with those of the block that are left, they are the block, and what is behind it stays
 abbrev pub invariant-loop-later : goal.invariant-loop-later

@@ -1,10 +1,9 @@
 use Rattle.textwrap_marked.proofs.first_fit.OpenParagraph.push.Goals as goal
-use Rattle.textwrap_marked.proofs.first_fit.OpenParagraph.push.Goals.{then-is_cut_behind+in_ok-take, else-is_cut_behind}
-use Rattle.textwrap_text.proofs.Common.{◌∙◌, ◌++◌, ◌∷◌, [], ap, append_assoc, sym, string_bytes}
-use Rattle.std.specs.Option.{option_map}
-use Rattle.textwrap_text.specs.Blanks.{blank}
-use Rattle.textwrap_marked.proofs.FirstFitLines.{read-cut, read-kept}
-use Rattle.textwrap_marked.specs.FirstFit.{fitting_view}
+use Rattle.textwrap_marked.proofs.Common.{append_assoc, fitting_view, string_bytes, option_map, blank, []}
+use Rattle.textwrap_marked.proofs.Common.{◌++◌, sym, ◌∙◌, ◌∷◌, ap}
+use Rattle.textwrap_marked.proofs.FirstFitLines.{read-kept, read-cut}
+use Rattle.textwrap_marked.proofs.first_fit.OpenParagraph.push.Goals.{else-is_cut_behind}
+use Rattle.textwrap_marked.proofs.first_fit.OpenParagraph.push.Goals.{then-is_cut_behind+in_ok-take}
 
 pub returns : goal.returns
 returns c = λ words.

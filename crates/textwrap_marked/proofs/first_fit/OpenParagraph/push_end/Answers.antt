@@ -1,8 +1,8 @@
 use Rattle.textwrap_marked.proofs.first_fit.OpenParagraph.push_end.Goals as goal
-use Rattle.textwrap_marked.proofs.first_fit.OpenParagraph.push_end.Goals.{then-is_some+in_ok-take, else-is_some}
-use Rattle.textwrap_text.proofs.Common.{◌∙◌, ◌++◌, ◌∷◌, [], ap, cond, sym, string_bytes}
-use Rattle.textwrap_marked.proofs.FirstFitLines.{words-end}
-use Rattle.textwrap_marked.specs.FirstFit.{left_of_pieces, fitting_view}
+use Rattle.textwrap_marked.proofs.Common.{fitting_view, string_bytes, cond, ◌++◌, sym, ◌∙◌, ◌∷◌, [], ap}
+use Rattle.textwrap_marked.proofs.first_fit.OpenParagraph.push_end.Goals.{else-is_some}
+use Rattle.textwrap_marked.proofs.first_fit.OpenParagraph.push_end.Goals.{then-is_some+in_ok-take}
+use Rattle.textwrap_marked.{proofs.FirstFitLines.words-end, specs.FirstFit.left_of_pieces}
 
 pub returns : goal.returns
 returns c =

@@ -1,6 +1,5 @@
 use Rattle.textwrap_marked.proofs.first_fit.OpenParagraph.push_words.Goals as goal
-use Rattle.textwrap_text.proofs.Common.{◌++◌, ◌∙◌, ap, map, string_bytes, sym}
-use Rattle.textwrap_marked.specs.FirstFit.{left}
+use Rattle.textwrap_marked.proofs.Common.{string_bytes, left, ◌++◌, map, sym, ◌∙◌, ap}
 
 pub loop-word-preserved : goal.loop-word-preserved
 loop-word-preserved c = λ words.

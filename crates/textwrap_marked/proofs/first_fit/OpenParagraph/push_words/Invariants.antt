@@ -1,7 +1,5 @@
 use Rattle.textwrap_marked.proofs.first_fit.OpenParagraph.push_words.Given as goal
-use Rattle.textwrap_text.proofs.Common.{◌≡◌, ◌++◌, List, map, ℕ, string_bytes}
-use Rattle.textwrap_marks.specs.Words.{spaced_words}
-use Rattle.textwrap_marked.specs.FirstFit.{left}
+use Rattle.textwrap_marked.proofs.Common.{spaced_words, string_bytes, List, left, ◌++◌, map, ◌≡◌, ℕ}
 
 -- with the words that are left, and any behind them, the whole stays the same
 abbrev pub invariant-loop-word : goal.invariant-loop-word

@@ -1,7 +1,6 @@
 use Rattle.textwrap_marked.proofs.pieces.JoinedWords.push_words.Goals as goal
-use Rattle.textwrap_text.proofs.Common.{◌++◌, ◌∙◌, ap, map, sym}
-use Rattle.textwrap_marked.proofs.JoinedTurns.{joined-next}
-use Rattle.textwrap_marked.specs.Pieces.{joined_view, with_words}
+use Rattle.textwrap_marked.proofs.Common.{joined_view, with_words, ◌++◌, map, sym, ◌∙◌, ap}
+use Rattle.textwrap_marked.proofs.PieceLemmas.{joined-next}
 
 pub loop-word-preserved : goal.loop-word-preserved
 loop-word-preserved c = λ words.

@@ -1,7 +1,5 @@
 use Rattle.textwrap_marked.proofs.pieces.JoinedWords.push_words.Given as goal
-use Rattle.textwrap_text.proofs.Common.{◌≡◌, ◌++◌, List, map, ℕ}
-use Rattle.textwrap_marks.specs.Words.{spaced_words}
-use Rattle.textwrap_marked.specs.Pieces.{joined_view, with_words}
+use Rattle.textwrap_marked.proofs.Common.{spaced_words, joined_view, with_words, List, ◌++◌, map, ◌≡◌, ℕ}
 
 -- with the words that are left, and any behind them, the whole stays the same
 abbrev pub invariant-loop-word : goal.invariant-loop-word

@@ -3,7 +3,7 @@ use Rattle.std.specs.List.{list_all}
 use Rattle.std.specs.Prelude.{not}
 use Rattle.std.proofs.lemmas.List.Folds.{list_all_at}
 use Rattle.std.proofs.lemmas.List.FromFn.{get_or-range_with_len, length-range_with_len}
-use Rattle.textwrap_patterns.proofs.Common.{Bool, ap, arith, false, get_or, range_with_len, refl}
+use Rattle.textwrap_patterns.proofs.Common.{Bool, arith, false, get_or, range_with_len, refl}
 use Rattle.textwrap_patterns.proofs.Common.{sym, true, true≢false, ℕ, ◌+◌, ◌-◌, ◌<◌, ◌∙◌, ◌≡◌, ◌≤◌}
 use Rattle.textwrap_patterns.specs.Letters.{is_combining_mark}
 use Rattle.ucd_derived.specs.AlphabeticRanges.{alphabetic_ranges}
@@ -21,9 +21,7 @@ each-of p a n c all le lt = by (p c) refl
 
     by : (b : Bool) → p c ≡ b → b ≡ true
     by true is = refl
-    by false is = absurd (true≢false (sym all
-        ∙ list_all_at p (range_with_len a n) (c - a) 0 (omega (arith, length-range_with_len a n))
-        (ap p here ∙ is)))
+    by false is = grind (arith, list_all_at, length-range_with_len, here)
 
 pub mark-none : (c : ℕ) → c < 128 → is_combining_mark c ≡ false
 unfolding is_grapheme_extend in_ranges grapheme_extend_ranges

@@ -1,15 +1,14 @@
 -- Patterns at whose hyphen letters change: the levels that they keep.
-use Rattle.std.specs.Prelude.{Option, None, Some, ◌%◌, ◌&&◌, if◌then◌else◌, nat_le, nat_lt}
+use Rattle.std.specs.Prelude.{Option, None, Some, ◌%◌, if◌then◌else◌, nat_lt}
 use Rattle.std.proofs.lemmas.Bool.{leb-true}
 use Rattle.textwrap_text.proofs.Common.{and_parts, le-leb, lt-ltb}
 use Rattle.std.proofs.lemmas.Grind.{get_or_after_one}
-use Rattle.std.specs.Int.{is_in_range}
 use Rattle.textwrap_patterns.proofs.Common.{Bool, List, ℕ, [], ap, arith, cases_Bool, drop, false, false≢true}
-use Rattle.textwrap_patterns.proofs.Common.{get_or, inl, inr, length, refl, subst, suc, sym, true, zero}
-use Rattle.textwrap_patterns.proofs.Common.{◌+◌, ◌-◌, ◌<◌, ◌≤◌, ◌⊎◌, ◌∙◌, ◌∷◌, ◌≡◌}
+use Rattle.textwrap_patterns.proofs.Common.{get_or, inl, inr, length, refl, suc, true, zero}
+use Rattle.textwrap_patterns.proofs.Common.{◌+◌, ◌-◌, ◌<◌, ◌≤◌, ◌⊎◌, ◌∷◌, ◌≡◌}
 use Rattle.textwrap_patterns.specs.Changes.{barred_at, barred_from, text_before, without_changes}
-use Rattle.textwrap_patterns.specs.Entries.{Said, Pattern, Changed, Exception, Left, Right, CompoundLeft}
-use Rattle.textwrap_patterns.specs.Entries.{CompoundRight, NextGroup, Nothing, Wrong, changed_by, changed_said}
+use Rattle.textwrap_patterns.specs.Entries.{Said, Pattern, Changed}
+use Rattle.textwrap_patterns.specs.Entries.{Wrong, changed_by, changed_said}
 use Rattle.textwrap_patterns.specs.Entries.{changes_at, exception_or_fault, exception_said, exception_written}
 use Rattle.textwrap_patterns.specs.Entries.{has_sign, has_slash, is_exception, pattern_said, slashed_said}
 use Rattle.textwrap_patterns.specs.Entries.{unslashed_said, word_said}
@@ -22,8 +21,7 @@ use Rattle.textwrap_patterns.specs.declared.errors.Fault.TheVariants.{Replacemen
 
 low-digit : (c : ℕ) (levels : List ℕ) (k : ℕ) → is_digit c ≡ true → ((j : ℕ) → get_or levels j 0 < 10)
     → get_or ((c - 0x30) ∷ drop 1 levels) k 0 < 10
-low-digit c levels zero is rest =
-    omega (arith, leb-true c 0x39 (and_parts (nat_le 0x30 c) (nat_le c 0x39) is).1)
+low-digit c levels zero is rest = grind (arith, leb-true, and_parts)
 low-digit c levels (suc k) is rest = omega (arith, get_or_after_one levels k 0, rest (1 + k))
 
 low-letter : (levels : List ℕ) (k : ℕ) → ((j : ℕ) → get_or levels j 0 < 10) → get_or (0 ∷ levels) k 0 < 10
@@ -42,21 +40,13 @@ low (c ∷ cs) k = elim (cases_Bool (is_digit c)) [
 -- each level is the one that was written, or the next
 at-place : (region : Region) (n : ℕ) (levels : List ℕ) (k : ℕ)
     → get_or (barred_from region n levels) k 0 ≡ barred_at region (n + k) (get_or levels k 0)
-at-place region n [] k = elim (cases_Bool (is_in_range region.first region.last (n + k))) [
-  | inl is ↦ rw is refl
-  | inr is ↦ rw is refl
-]
-at-place region n (level ∷ levels) zero =
-    ap (λ m. barred_at region m level) (let e : n ≡ n + 0 = omega arith in e)
-at-place region n (level ∷ levels) (suc k) =
-    at-place region (suc n) levels k
-    ∙ ap (λ m. barred_at region m (get_or levels k 0)) (let e : suc n + k ≡ n + suc k = omega arith in e)
+at-place region n [] k = grind arith
+at-place region n (level ∷ levels) zero = grind arith
+at-place region n (level ∷ levels) (suc k) = grind (arith, at-place region (suc n) levels k)
 
 inside-even : (region : Region) (place level : ℕ) → level < 10 → region.first ≤ place → place ≤ region.last
     → barred_at region place level % 2 ≡ 0
-inside-even region place level digit from to =
-    rw (le-leb region.first place from, le-leb place region.last to, lt-ltb level 10 digit)
-    (let e : (level + level % 2) % 2 ≡ 0 = omega arith in e)
+inside-even region place level digit from to = grind (arith, le-leb, lt-ltb)
 
 outside-same : (region : Region) (place level : ℕ) → (place < region.first) ⊎ (region.last < place)
     → barred_at region place level ≡ level
@@ -64,70 +54,31 @@ outside-same region place level (inl before) = grind (arith, before)
 outside-same region place level (inr behind) = grind (arith, behind)
 
 never-lower : (region : Region) (place level : ℕ) → level ≤ barred_at region place level
-never-lower region place level =
-    elim (cases_Bool (is_in_range region.first region.last place && nat_lt level 10)) [
-      | inl is ↦ rw is (omega arith)
-      | inr is ↦ rw is (omega arith)
-    ]
+never-lower region place level = grind arith
 
 at-start : (region : Region) (levels : List ℕ) (k : ℕ)
     → get_or (barred_from region 0 levels) k 0 ≡ barred_at region k (get_or levels k 0)
-at-start region levels k = at-place region 0 levels k
-    ∙ ap (λ m. barred_at region m (get_or levels k 0)) (let e : 0 + k ≡ k = omega arith in e)
+at-start region levels k = grind (arith, at-place)
 
 is-changed : (region : Region) (word : List ℕ) → IsChanged region word (without_changes region (pattern_written word))
-is-changed region word = record {
-  letters = refl;
-  inside = λ k from to. ap (λ level. level % 2) (at-start region (levels_written word) k)
-      ∙ inside-even region k (get_or (levels_written word) k 0) (low word k) from to;
-  outside = λ k is. at-start region (levels_written word) k
-      ∙ outside-same region k (get_or (levels_written word) k 0) is;
-  never_lower = λ k. omega (
-    arith,
-    at-start region (levels_written word) k,
-    never-lower region k (get_or (levels_written word) k 0),
-  );
-}
-
--- what is no change, which is told apart from one
-abbrev pattern_in : Said → PatternText → PatternText
-pattern_in (Changed p) other = p
-pattern_in (Pattern p) other = other
-pattern_in (Exception e) other = other
-pattern_in (Left n) other = other
-pattern_in (Right n) other = other
-pattern_in (CompoundLeft n) other = other
-pattern_in (CompoundRight n) other = other
-pattern_in NextGroup other = other
-pattern_in Nothing other = other
-pattern_in (Wrong f) other = other
+is-changed region word = grind (arith, at-start, inside-even, low, outside-same, never-lower)
 
 abbrev is_changed : Said → Bool
 is_changed (Changed p) = true
-is_changed (Pattern p) = false
-is_changed (Exception e) = false
-is_changed (Left n) = false
-is_changed (Right n) = false
-is_changed (CompoundLeft n) = false
-is_changed (CompoundRight n) = false
-is_changed NextGroup = false
-is_changed Nothing = false
-is_changed (Wrong f) = false
+is_changed _ = false
 
 -- what a word with a change says, by where it is and whether it is too long
 by-long : (word : List ℕ) (region : Region) (p : PatternText) (b : Bool)
     → (if b then Wrong TooLong else Changed (without_changes region (pattern_written word))) ≡ Changed p
     → IsChanged region word p
 by-long word region p true is = absurd (false≢true (ap is_changed is))
-by-long word region p false is =
-    subst (IsChanged region word) (ap (λ said. pattern_in said p) is) (is-changed region word)
+by-long word region p false is = grind (arith, is-changed region word)
 
 by-region : (word : List ℕ) (found : Option Region) (p : PatternText)
     → changed_by found (pattern_written word) ≡ Changed p
     → (region : Region) × (found ≡ Some region) × IsChanged region word p
 by-region word None p is = absurd (false≢true (ap is_changed is))
-by-region word (Some region) p is =
-    (region, refl, by-long word region p (nat_lt 255 (length (letters_written word))) is)
+by-region word (Some region) p is = grind (arith, by-long)
 
 by-exception : (cs : List ℕ) (p : PatternText) (b : Bool)
     → (if b then Wrong Replacement else changed_said cs) ≡ Changed p
@@ -151,8 +102,7 @@ by-slash : (section : Section) (cs : List ℕ) (p : PatternText) (b : Bool)
     → (if b then slashed_said section cs else unslashed_said section cs) ≡ Changed p
     → (region : Region) × (changes_at cs ≡ Some region) × IsChanged region (text_before 0x2F cs) p
 by-slash section cs p true is = by-exception cs p (is_exception section cs) is
-by-slash section cs p false is =
-    absurd (false≢true (sym (unslashed cs (is_exception section cs)) ∙ ap is_changed is))
+by-slash section cs p false is = grind (arith, unslashed)
 
 by-sign : (section : Section) (cs : List ℕ) (p : PatternText) (b : Bool)
     → (if b then Wrong Sign else if has_slash cs then slashed_said section cs else unslashed_said section cs)

@@ -9,12 +9,12 @@ use Rattle.textwrap_patterns.proofs.Common.{◌≡◌, ◌⊎◌, ◌≤◌}
 use Rattle.textwrap_patterns.proofs.FirstWrong.{IsJudged, command-none, judged, of-word, wrong-says}
 use Rattle.textwrap_patterns.proofs.Skipped.{comment-skipped, first-step, list-step, section_of}
 use Rattle.textwrap_patterns.specs.Charsets.{names_charset, plain_name}
-use Rattle.textwrap_patterns.specs.Entries.{Said, Pattern, Changed, Exception, Left, Right, CompoundLeft, CompoundRight}
-use Rattle.textwrap_patterns.specs.Entries.{NextGroup, Nothing, Wrong, begins, is_exception, is_start, list_said, other_said}
+use Rattle.textwrap_patterns.specs.Entries.{Said, Right}
+use Rattle.textwrap_patterns.specs.Entries.{NextGroup, Wrong, begins, is_exception, is_start, list_said}
 use Rattle.textwrap_patterns.specs.Faults.{IsFirstWrong, IsWrong, IsWrongLine, are_among, begins_word, groups_in}
 use Rattle.textwrap_patterns.specs.Faults.{is_hyphened, is_of_line}
 use Rattle.textwrap_patterns.specs.Listed.{Listed}
-use Rattle.textwrap_patterns.specs.Parsing.{Outcome, and_then, counted_on, ended, end_fault, is_skipped, is_tex, listed_said}
+use Rattle.textwrap_patterns.specs.Parsing.{Outcome, and_then, ended, end_fault, is_skipped, is_tex, listed_said}
 use Rattle.textwrap_patterns.specs.Parsing.{no_patterns, parsed, unmarked, with_all, with_lines}
 use Rattle.textwrap_patterns.specs.declared.entries.Section.{Section}
 use Rattle.textwrap_patterns.specs.declared.entries.Section.TheVariants.{Start, Listing, Words}
@@ -23,11 +23,6 @@ use Rattle.textwrap_patterns.specs.declared.errors.Fault.TheVariants as fault
 use Rattle.textwrap_patterns.specs.declared.errors.ParseError.TheVariants.{Memory, Line}
 
 -- ---- errors
-
-abbrev pub line_told : Outcome → ℕ
-line_told (Ok h) = 0
-line_told (Err (Memory error)) = 0
-line_told (Err (Line n f)) = n
 
 abbrev pub fault_told : Outcome → Fault
 fault_told (Ok h) = fault.Empty
@@ -58,20 +53,15 @@ module _ (m n : ℕ) (f : Fault) (saids : List Said) (h : Listed) (P : Listed �
     (rest : (k : Listed) → P k → (next k ≡ Err (Line n f)) ↔ Later) where
   pub line-to : IsStep P m saids h W → and_then (with_all m saids h) next ≡ Err (Line n f)
       → ((n ≡ m) × W f) ⊎ (((g : Fault) → ¬ W g) × Later)
-  line-to (inl (g, is, wrong, one)) told =
-      let same = sym (ap (λ o. and_then o next) is) ∙ told in
-      inl (sym (ap line_told same), subst W (ap fault_told same) wrong)
-  line-to (inr (k, is, room, none)) told =
-      inr (none, (rest k room).0 (sym (ap (λ o. and_then o next) is) ∙ told))
+  line-to (inl (g, is, wrong, one)) told = grind arith
+  line-to (inr (k, is, room, none)) told = grind arith
 
   pub line-from : IsStep P m saids h W → ((n ≡ m) × W f) ⊎ (((g : Fault) → ¬ W g) × Later)
       → and_then (with_all m saids h) next ≡ Err (Line n f)
-  line-from (inl (g, is, wrong, one)) (inl (here, own)) = ap (λ o. and_then o next) is
-      ∙ ap (λ e. Err (Line m e)) (sym (one f own)) ∙ ap (λ l. Err (Line l f)) (sym here)
+  line-from (inl (g, is, wrong, one)) (inl (here, own)) = grind arith
   line-from (inl (g, is, wrong, one)) (inr (none, later)) = absurd (none g wrong)
   line-from (inr (k, is, room, none)) (inl (here, own)) = absurd (none f own)
-  line-from (inr (k, is, room, none)) (inr (nothing, later)) =
-      ap (λ o. and_then o next) is ∙ (rest k room).1 later
+  line-from (inr (k, is, room, none)) (inr (nothing, later)) = grind arith
 
 counted : (t : List ℕ → Bool) (line : List ℕ) (ls : List (List ℕ)) (b : Bool) → t line ≡ b
     → length (filter t (line ∷ ls)) ≡ (if b then suc (length (filter t ls)) else length (filter t ls))
@@ -82,10 +72,7 @@ abbrev is_group_line : List ℕ → Bool
 is_group_line line = begins (codes "NEXTLEVEL") (trim line)
 
 groups-more : (line : List ℕ) (ls : List (List ℕ)) → groups_in ls ≤ groups_in (line ∷ ls)
-groups-more line ls = elim (cases_Bool (is_group_line line)) [
-  | inl is ↦ omega (arith, counted is_group_line line ls true is)
-  | inr is ↦ omega (arith, counted is_group_line line ls false is)
-]
+groups-more line ls = grind (arith, counted)
 
 room-kept : (h k : Listed) (line : List ℕ) (ls : List (List ℕ)) → length k.joints ≡ length h.joints
     → Room h (line ∷ ls) → Room k ls
@@ -106,14 +93,12 @@ module _ (among : Bool) (section : Section) (start : is_start section ≡ false)
     (same : (cs : List ℕ) → is_exception section cs ≡ (among || is_hyphened cs)) where
   unright : (line : List ℕ) (said : Said) → list_said section line ≡ said → IsRight said → (g : Fault)
       → IsWrong among g line → ⊥
-  unright line said is right g wrong =
-      subst IsRight (sym is ∙ (wrong-says among section start same g line wrong).1) right
+  unright line said is right g wrong = grind (arith, wrong-says)
 
   group-is : (m : ℕ) (line : List ℕ) (h : Listed) (ls : List (List ℕ)) → is_group_line line ≡ true
       → list_said section (trim line) ≡ NextGroup → Room h (line ∷ ls)
       → IsLine m (NextGroup ∷ []) h ls (λ f. IsWrong among f (trim line))
-  group-is m line h ls group is (inl none) =
-      absurd (omega (arith, none, counted is_group_line line ls true group))
+  group-is m line h ls group is (inl none) = grind (arith, counted)
   group-is m line h ls group is (inr (joints, few)) = inr (
     record h { joints = h.patterns; patterns = [] },
     rw joints refl,
@@ -131,28 +116,13 @@ module _ (among : Bool) (section : Section) (start : is_start section ≡ false)
   said-is : (m : ℕ) (line : List ℕ) (h : Listed) (ls : List (List ℕ)) (said : Said) → IsJudged among (trim line) said
       → list_said section (trim line) ≡ said → Room h (line ∷ ls)
       → IsLine m (said ∷ []) h ls (λ f. IsWrong among f (trim line))
-  said-is m line h ls (Pattern p) judge is room =
-      goes-on m line h (record h { patterns = h.patterns ++ p ∷ [] }) ls (Pattern p) refl refl tt is room
-  said-is m line h ls (Changed p) judge is room = goes-on m line h
-      (record h { patterns = h.patterns ++ p ∷ []; changed = counted_on h.changed }) ls (Changed p) refl refl tt is room
-  said-is m line h ls (Exception e) judge is room =
-      goes-on m line h (record h { exceptions = h.exceptions ++ e ∷ [] }) ls (Exception e) refl refl tt is room
-  said-is m line h ls (Left n) judge is room =
-      goes-on m line h (record h { left = n }) ls (Left n) refl refl tt is room
-  said-is m line h ls (Right n) judge is room =
-      goes-on m line h (record h { right = n }) ls (Right n) refl refl tt is room
-  said-is m line h ls (CompoundLeft n) judge is room =
-      goes-on m line h (record h { compound_left = n }) ls (CompoundLeft n) refl refl tt is room
-  said-is m line h ls (CompoundRight n) judge is room =
-      goes-on m line h (record h { compound_right = n }) ls (CompoundRight n) refl refl tt is room
   said-is m line h ls NextGroup judge is room = group-is m line h ls judge is room
-  said-is m line h ls Nothing judge is room = goes-on m line h h ls Nothing refl refl tt is room
   said-is m line h ls (Wrong f) judge is room =
       inl (f, refl, judge, λ g wrong. ap fault_said (sym ((wrong-says among section start same g (trim line) wrong).1) ∙ is))
+  said-is m line h ls said judge is room = goes-on m line h _ ls said refl refl tt is room
 
   unshown : (line : List ℕ) → is_skipped line ≡ true → (g : Fault) → IsWrong among g line → ⊥
-  unshown line skipped g wrong =
-      false≢true (sym ((wrong-says among section start same g line wrong).0) ∙ comment-skipped line ∙ skipped)
+  unshown line skipped g wrong = grind (arith, wrong-says, comment-skipped)
 
   line-by : (m : ℕ) (line : List ℕ) (h : Listed) (ls : List (List ℕ)) (b : Bool) → is_skipped (trim line) ≡ b
       → Room h (line ∷ ls)
@@ -172,8 +142,7 @@ line-of m false line h ls room = line-by false Listing refl (λ cs. refl) m line
 
 named : (word line : List ℕ) → names_charset (plain_name (word ++ drop (length word) line)) ≡ false
     → begins word line ≡ true → names_charset (plain_name line) ≡ false
-named word line none is = of-word (λ l. names_charset (plain_name l) ≡ false) word line (drop (length word) line)
-    (starts_with-rest word line is) none
+named word line none is = grind (arith, of-word, starts_with-rest)
 
 either : (a b : Bool) (P : Type 0) → (a || b) ≡ true → (a ≡ true → P) → (b ≡ true → P) → P
 either true b P is one other = one refl
@@ -199,9 +168,7 @@ wordless line is = elim (cases_Bool (begins_word line)) [
 ]
 
 charset-said : (line : List ℕ) → names_charset (plain_name line) ≡ true → list_said Start line ≡ Right 2
-charset-said line is =
-    ap (λ said. Rattle.std.specs.Option.unwrap_or said (other_said Start line)) (command-none line (wordless line is))
-    ∙ rw is refl
+charset-said line is = grind (arith, command-none line (wordless line is))
 
 first-said : (line : List ℕ) → names_charset (plain_name line) ≡ false
     → list_said Start line ≡ list_said Listing line
@@ -250,16 +217,12 @@ ended-own : (k n : ℕ) (o : Option Fault) (h : Listed) (f : Fault) → own_of o
     → ended k o h ≡ Err (Line n f) → ⊥
 unfolding own_of
 ended-own k n None h f none own told = false≢true (ap is_told told)
-ended-own k n (Some g) h f none own told =
-    false≢true (sym none ∙ ap is_of_line (ap fault_told told) ∙ own)
+ended-own k n (Some g) h f none own told = grind arith
 
 lines-iff : (k : ℕ) (among : Bool) (ls : List (List ℕ)) (h : Listed) (n : ℕ) (f : Fault) → Room h ls
     → is_of_line f ≡ true
     → (with_lines (suc k) (section_of among) ls h ≡ Err (Line n f)) ↔ IsFirstWrong among (suc k) ls n f
-lines-iff k among [] h n f room own = (
-  ended-own (suc k) n (end_fault (section_of among) (length h.patterns) (length h.exceptions)) h f (end-own among) own,
-  λ never. absurd never,
-)
+lines-iff k among [] h n f room own = grind (arith, ended-own, section_of, end-own)
   where
     end-own : (x : Bool) → own_of (end_fault (section_of x) (length h.patterns) (length h.exceptions)) ≡ false
     end-own true = counts-own _ _

@@ -5,22 +5,22 @@ use Rattle.std.specs.List.{slice_split}
 use Rattle.std.specs.Str.Lines.{lines}
 use Rattle.textwrap_text.proofs.Common.{ne_eqb}
 use Rattle.textwrap_patterns.proofs.Common.{Bool, List, ℕ, [], ap, arith, false, false≢true, inl, inr, length, map}
-use Rattle.textwrap_patterns.proofs.Common.{refl, subst, suc, sym, true, ⊤, ◌∙◌, ◌∷◌, ◌≡◌, ◌++◌}
-use Rattle.textwrap_patterns.proofs.FirstLines.{IsRight, IsStep, fault_said, fault_told, is_told, line-from, line-to}
+use Rattle.textwrap_patterns.proofs.Common.{refl, subst, suc, sym, true, ⊤, ◌∙◌, ◌∷◌, ◌≡◌}
+use Rattle.textwrap_patterns.proofs.FirstLines.{IsRight, IsStep, fault_said, line-from, line-to}
 use Rattle.textwrap_patterns.proofs.FirstWrong.{IsJudgedWord, word-judged, word-wrong}
 use Rattle.textwrap_patterns.proofs.Skipped.{bare-text, with_bare}
-use Rattle.textwrap_patterns.specs.Entries.{Said, Pattern, Changed, Exception, Left, Right, CompoundLeft}
-use Rattle.textwrap_patterns.specs.Entries.{CompoundRight, NextGroup, Nothing, Wrong, is_exception, word_said}
+use Rattle.textwrap_patterns.specs.Entries.{Said}
+use Rattle.textwrap_patterns.specs.Entries.{NextGroup, Wrong, is_exception, word_said}
 use Rattle.textwrap_patterns.specs.Faults.{IsFirstWrongTex, IsFirstWrongWord, IsWrongTex, IsWrongWord}
 use Rattle.textwrap_patterns.specs.Faults.{has_exceptions, is_empty, is_of_end, words_between}
 use Rattle.textwrap_patterns.specs.Laws.{AreTex, uncommented}
 use Rattle.textwrap_patterns.specs.Listed.{Listed}
-use Rattle.textwrap_patterns.specs.Parsing.{closed_text, counted_on, end_fault, ended, is_group}
-use Rattle.textwrap_patterns.specs.Parsing.{no_patterns, opened, opened_text, outside_fault, parsed, tex_after}
+use Rattle.textwrap_patterns.specs.Parsing.{closed_text, is_group}
+use Rattle.textwrap_patterns.specs.Parsing.{opened, opened_text, outside_fault, parsed, tex_after}
 use Rattle.textwrap_patterns.specs.Parsing.{fault_said as fault_saids, tex_said, text_said, unmarked}
 use Rattle.textwrap_patterns.specs.Parsing.{words_said}
 use Rattle.textwrap_patterns.specs.declared.entries.Section.{Section}
-use Rattle.textwrap_patterns.specs.declared.entries.Section.TheVariants.{Preamble, Minima}
+use Rattle.textwrap_patterns.specs.declared.entries.Section.TheVariants.{Preamble}
 use Rattle.textwrap_patterns.specs.declared.entries.Section.TheVariants.{Patterns, Exceptions}
 use Rattle.textwrap_patterns.specs.declared.errors.Fault.{Fault}
 use Rattle.textwrap_patterns.specs.declared.errors.Fault.TheVariants as fault
@@ -50,41 +50,19 @@ module _ (section : Section) (exception : Bool) (same : (cs : List ℕ) → is_e
 
   unwrong : (word : List ℕ) (said : Said) → word_said section word ≡ said → IsRight said
       → (g : Fault) → ¬ IsWrongWord exception g word
-  unwrong word said is right g wrong = subst IsRight (sym is ∙ word-wrong section word g
-      (subst (λ b. IsWrongWord b g word) (sym (same word)) wrong)) right
+  unwrong word said is right g wrong = grind (arith, word-wrong)
 
   by-said : (m : ℕ) (word : List ℕ) (words : List (List ℕ)) (h : Listed) (more : List Said) (said : Said)
       → word_said section word ≡ said → IsJudgedWord exception word said
       → ((k : Listed) → IsStep Anything m more k (λ f. IsFirstWrongWord exception f words))
       → IsStep Anything m (said ∷ more) h (λ f. IsFirstWrongWord exception f (word ∷ words))
-  by-said m word words h more (Pattern p) is judge rest =
-      let k = record h { patterns = h.patterns ++ p ∷ [] } in
-      goes-on m word words k more (unwrong word (Pattern p) is tt) (rest k)
-  by-said m word words h more (Changed p) is judge rest =
-      let k = record h { patterns = h.patterns ++ p ∷ []; changed = counted_on h.changed } in
-      goes-on m word words k more (unwrong word (Changed p) is tt) (rest k)
-  by-said m word words h more (Exception e) is judge rest =
-      let k = record h { exceptions = h.exceptions ++ e ∷ [] } in
-      goes-on m word words k more (unwrong word (Exception e) is tt) (rest k)
-  by-said m word words h more (Left n) is judge rest =
-      let k = record h { left = n } in goes-on m word words k more (unwrong word (Left n) is tt) (rest k)
-  by-said m word words h more (Right n) is judge rest =
-      let k = record h { right = n } in goes-on m word words k more (unwrong word (Right n) is tt) (rest k)
-  by-said m word words h more (CompoundLeft n) is judge rest =
-      let k = record h { compound_left = n } in
-      goes-on m word words k more (unwrong word (CompoundLeft n) is tt) (rest k)
-  by-said m word words h more (CompoundRight n) is judge rest =
-      let k = record h { compound_right = n } in
-      goes-on m word words k more (unwrong word (CompoundRight n) is tt) (rest k)
   by-said m word words h more NextGroup is judge rest = absurd judge
-  by-said m word words h more Nothing is judge rest =
-      goes-on m word words h more (unwrong word Nothing is tt) (rest h)
   by-said m word words h more (Wrong f) is judge rest = inl (f, refl, inl judge, only)
     where
       only : (g : Fault) → IsFirstWrongWord exception g (word ∷ words) → g ≡ f
-      only g (inl here) = ap fault_said (sym (word-wrong section word g
-          (subst (λ b. IsWrongWord b g word) (sym (same word)) here)) ∙ is)
+      only g (inl here) = grind (arith, fault_said, word-wrong)
       only g (inr (before, later)) = absurd (before f judge)
+  by-said m word words h more said is judge rest = goes-on m word words _ more (unwrong word said is tt) (rest _)
 
   words-are : (m : ℕ) (words : List (List ℕ)) (h : Listed)
       → IsStep Anything m (words_said section words) h
@@ -103,8 +81,7 @@ module _ (section : Section) (exception : Bool) (same : (cs : List ℕ) → is_e
 
 step-as : (m : ℕ) (saids : List Said) (h : Listed) (V W : Fault → Type 0) → ((f : Fault) → V f → W f)
     → ((f : Fault) → W f → V f) → IsStep Anything m saids h V → IsStep Anything m saids h W
-step-as m saids h V W to from (inl (f, is, wrong, one)) =
-    inl (f, is, to f wrong, λ g other. one g (from g other))
+step-as m saids h V W to from (inl (f, is, wrong, one)) = grind (arith, from)
 step-as m saids h V W to from (inr (k, is, room, none)) = inr (k, is, tt, λ g other. none g (from g other))
 
 same-group : (section : Section) → is_group section ≡ true → (cs : List ℕ)
@@ -156,37 +133,9 @@ line-is section m line h false is = outside-is section m line h (outside_fault l
 
 -- ---- texts
 
-is_end : Option Fault → Bool
-is_end None = true
-is_end (Some f) = is_of_end f
-
-counts-end : (x y : Bool)
-    → is_end (if x then Some fault.TooMany else if y then Some fault.Empty else None) ≡ true
-unfolding is_end
-counts-end true y = refl
-counts-end false true = refl
-counts-end false false = refl
-
-ends : (section : Section) (patterns exceptions : ℕ) → is_end (end_fault section patterns exceptions) ≡ true
-unfolding is_end
-ends Preamble patterns exceptions = refl
-ends Minima patterns exceptions = refl
-ends Patterns patterns exceptions = refl
-ends Exceptions patterns exceptions = refl
-ends _ patterns exceptions = counts-end _ _
-
-never-ended : (k n : ℕ) (o : Option Fault) (h : Listed) (f : Fault) → is_end o ≡ true → is_of_end f ≡ false
-    → ended k o h ≡ Err (Line n f) → ⊥
-unfolding is_end
-never-ended k n None h f is own told = false≢true (ap is_told told)
-never-ended k n (Some g) h f is own told = false≢true (sym own ∙ ap is_of_end (sym (ap fault_told told)) ∙ is)
-
 tex-iff : (k : ℕ) (section : Section) (ls : List (List ℕ)) (h : Listed) (n : ℕ) (f : Fault) → is_of_end f ≡ false
     → (with_bare k section ls h ≡ Err (Line n f)) ↔ IsFirstWrongTex section k ls n f
-tex-iff k section [] h n f own = (
-  never-ended k n (end_fault section (length h.patterns) (length h.exceptions)) h f (ends section _ _) own,
-  λ never. absurd never,
-)
+tex-iff k section [] h n f own = grind arith
 tex-iff k section (line ∷ ls) h n f own =
     let m = suc k in
     let W : Fault → Type 0 = λ g. IsWrongTex section g line in
@@ -202,7 +151,4 @@ tex-iff k section (line ∷ ls) h n f own =
 
 pub errors-of-tex : (text : List ℕ) (n : ℕ) (f : Fault) → AreTex (lines (unmarked text)) → is_of_end f ≡ false
     → (parsed text ≡ Err (Line n f)) ↔ IsFirstWrongTex Preamble 0 (map uncommented (lines (unmarked text))) n f
-errors-of-tex text n f are own =
-    subst (λ o. (o ≡ Err (Line n f)) ↔ IsFirstWrongTex Preamble 0 (map uncommented (lines (unmarked text))) n f)
-    (sym (bare-text (lines (unmarked text)) are))
-    (tex-iff 0 Preamble (map uncommented (lines (unmarked text))) no_patterns n f own)
+errors-of-tex text n f are own = grind (arith, bare-text, tex-iff)

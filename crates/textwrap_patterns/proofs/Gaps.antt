@@ -72,19 +72,13 @@ gaps (c ∷ cs) = elim (cases_Bool (is_hyphen_sign c)) [
 places-or : (n : ℕ) (cs : List ℕ) → 0 < length cs
     → (0 < length (hyphens_past n cs)) ⊎ (0 < length (letters_between cs))
 places-or n [] some = absurd (omega (arith, some))
-places-or n (c ∷ cs) some = elim (cases_Bool (is_hyphen_sign c)) [
-  | inl hyphen ↦ inl (omega (arith, ap length (hyphen-here n c cs hyphen).0))
-  | inr letter ↦ inr (omega (arith, ap length (letter-here n c cs letter).1))
-]
+places-or n (c ∷ cs) some = grind (arith, hyphen-here, letter-here)
 
 first-place : (len : ℕ) (places : List ℕ) → (0 < length places) ⊎ (0 < len)
     → are_places len 0 places ≡ (nat_lt 0 len && are_places len 0 places)
 first-place len [] (inl some) = absurd (omega (arith, some))
 first-place len [] (inr some) = rw (lt-ltb 0 len some) refl
-first-place len (place ∷ places) some = elim (cases_Bool (nat_lt 0 len)) [
-  | inl above ↦ rw above refl
-  | inr none ↦ rw (none, below place len none) (ap (λ b. b && are_places len place places) (and-false (nat_lt 0 place)))
-]
+first-place len (place ∷ places) some = grind (arith, below, and-false)
   where
     below : (p l : ℕ) → nat_lt 0 l ≡ false → nat_lt p l ≡ false
     below p l is = le-ltb p l (omega (arith, ltb-false 0 l is))

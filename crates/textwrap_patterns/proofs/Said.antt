@@ -4,9 +4,9 @@ use Rattle.std.specs.Prelude.{option_map, if◌then◌else◌, ◌≢◌, Err, I
 use Rattle.textwrap_text.proofs.Lists.Parts.{starts_with-false, starts_with-true}
 use Rattle.textwrap_text.proofs.Common.{drop_at, false_from_ne_true, ltb-true, lt-ltb}
 use Rattle.textwrap_words.specs.Cuts.{AreNext}
-use Rattle.textwrap_patterns.proofs.Common.{List, ℕ, ◌≡◌, ◌∷◌, [], ◌<◌, ◌∙◌, ap, drop, length, true}
+use Rattle.textwrap_patterns.proofs.Common.{List, ℕ, ◌≡◌, ◌∷◌, [], ◌<◌, drop, length, true}
 use Rattle.textwrap_patterns.proofs.Common.{false, refl, arith, Bool, suc}
-use Rattle.textwrap_patterns.proofs.Common.{false≢true, subst, sym, ◌++◌}
+use Rattle.textwrap_patterns.proofs.Common.{false≢true, ◌++◌}
 use Rattle.textwrap_patterns.specs.Entries.{hyphens_past, is_hyphen_sign}
 use Rattle.textwrap_patterns.specs.Places.{are_places}
 use Rattle.textwrap_patterns.specs.Entries.{letters_between}
@@ -23,9 +23,7 @@ use Rattle.textwrap_patterns.specs.declared.patterns.Exception.{Exception}
 pub places-are : (len last : ℕ) (places : List ℕ) → AreNext (IsNextPlace len) places last
     → are_places len last places ≡ true
 places-are len last [] inner = refl
-places-are len last (place ∷ places) inner =
-    rw (lt-ltb last place inner.0.0, lt-ltb place len inner.0.1, places-are len place places inner.1)
-    refl
+places-are len last (place ∷ places) inner = grind (arith, places-are len place places inner.1, lt-ltb)
 
 are-next : (len last place : ℕ) (places : List ℕ) (a b : Bool) → nat_lt last place ≡ a
     → nat_lt place len ≡ b
@@ -34,15 +32,12 @@ are-next : (len last place : ℕ) (places : List ℕ) (a b : Bool) → nat_lt la
     → AreNext (IsNextPlace len) (place ∷ places) last
 are-next len last place places false b above below rest is = absurd (false≢true is)
 are-next len last place places true false above below rest is = absurd (false≢true is)
-are-next len last place places true true above below rest is =
-    ((ltb-true last place above, ltb-true place len below), rest is)
+are-next len last place places true true above below rest is = grind (arith, ltb-true)
 
 pub are-places : (len last : ℕ) (places : List ℕ) → are_places len last places ≡ true
     → AreNext (IsNextPlace len) places last
 are-places len last [] is = tt
-are-places len last (place ∷ places) is =
-    are-next len last place places (nat_lt last place) (nat_lt place len) refl refl
-    (are-places len place places) is
+are-places len last (place ∷ places) is = grind (arith, are-places len place places, are-next)
 
 pub hyphen-here : (n c : ℕ) (cs : List ℕ) → is_hyphen_sign c ≡ true
     → (hyphens_past n (c ∷ cs) ≡ n ∷ hyphens_past n cs) × (letters_between (c ∷ cs)
@@ -60,22 +55,15 @@ pub made-written : {A : Type 0} (letters places : List ℕ) (r : Option (Excepti
     → (IsSome r ↔ AreInnerPlaces (length letters) places)
     → option_map exception_view r
     ≡ (if are_places (length letters) 0 places then Some (exception_text letters places) else None)
-made-written letters places (Some made) is inner =
-    rw (places-are (length letters) 0 places (inner.0 refl)) (ap Some is)
-made-written letters places None is inner =
-    let never : are_places (length letters) 0 places ≡ false =
-    false_from_ne_true (are_places (length letters) 0 places)
-    (λ are. false≢true (inner.1 (are-places (length letters) 0 places are))) in
-    rw never refl
+made-written letters places (Some made) is inner = grind (arith, places-are)
+made-written letters places None is inner = grind (arith, false_from_ne_true, are-places)
 
 -- ---- marks
 
 pub mark-here : (mark line text : List ℕ) → 0 < length line → line ≡ mark ++ text
     → after_mark mark line ≡ Some text
 mark-here mark [] text some is = absurd (omega arith)
-mark-here mark (c ∷ cs) text some is =
-    rw (starts_with-true mark (c ∷ cs) text is) (ap (λ l. Some (drop (length mark) l)) is
-    ∙ ap Some (drop_at mark text (length mark) refl))
+mark-here mark (c ∷ cs) text some is = grind (arith, starts_with-true, drop_at)
 
 pub mark-later : (mark line : List ℕ) → 0 < length line
     → ((text : List ℕ) → line ≢ mark ++ text) → after_mark mark line ≡ after_mark mark (drop 1 line)
@@ -89,5 +77,4 @@ pub lines-refused : {T U : Type 0} (v : T → Listed) (w : U → Listed) (first 
     → Reads whole w r
 lines-refused v w first whole next e (Ok x) all said is = absurd is
 lines-refused v w first whole next e (Err (Memory f)) all said is = tt
-lines-refused v w first whole next e (Err (Line n fault)) all said is =
-    sym all ∙ ap (λ o. and_then o next) (subst (λ f. Reads first v (Err f)) (sym is) said)
+lines-refused v w first whole next e (Err (Line n fault)) all said is = grind arith

@@ -2,22 +2,21 @@
 use Rattle.std.specs.Prelude.{Option, None, Some, Ok, Err, ◌==◌, ◌&&◌, ◌||◌, if◌then◌else◌, is_some, not}
 use Rattle.std.specs.Str.{trim}
 use Rattle.std.specs.Str.Lines.{lines}
-use Rattle.textwrap_patterns.proofs.Common.{All, All-head, All-tail, Bool, List, ℕ, [], ap, arith, cases_Bool, false}
-use Rattle.textwrap_patterns.proofs.Common.{inl, inr, length, map, nat_tests, refl, suc, sym, true, false≢true}
+use Rattle.textwrap_patterns.proofs.Common.{All, All-head, All-tail, Bool, List, ℕ, [], ap, arith, false}
+use Rattle.textwrap_patterns.proofs.Common.{length, map, nat_tests, refl, suc, sym, true, false≢true}
 use Rattle.textwrap_patterns.proofs.Common.{◌++◌, ◌∙◌, ◌∷◌, ◌≡◌}
-use Rattle.textwrap_patterns.specs.Entries.{Said, Pattern, Changed, Exception, Left, Right, CompoundLeft}
-use Rattle.textwrap_patterns.specs.Entries.{CompoundRight, NextGroup, Nothing, Wrong}
+use Rattle.textwrap_patterns.specs.Entries.{Said}
+use Rattle.textwrap_patterns.specs.Entries.{NextGroup, Wrong}
 use Rattle.textwrap_patterns.specs.Faults.{are_among, has_exceptions, is_comment, marks_exceptions, is_silent}
 use Rattle.textwrap_patterns.specs.Laws.{AreListed, AreTex, uncommented, without_line}
 use Rattle.textwrap_patterns.specs.Listed.{Listed}
-use Rattle.textwrap_patterns.specs.Parsing.{Outcome, after_mark, and_then, begins_exceptions, closed, ends_exceptions, comment_in, counted_on, exceptions_mark, end_fault, ended, is_list}
-use Rattle.textwrap_patterns.specs.Parsing.{is_closed, is_group, is_minima, is_skipped, is_tex, line_said, listed_said}
-use Rattle.textwrap_patterns.specs.Parsing.{names_minima, opened, patterns_mark, opened_text, parsed, section_after}
+use Rattle.textwrap_patterns.specs.Parsing.{Outcome, after_mark, and_then, begins_exceptions, ends_exceptions, comment_in, exceptions_mark, end_fault, ended, is_list}
+use Rattle.textwrap_patterns.specs.Parsing.{is_minima, is_skipped, is_tex, line_said, listed_said}
+use Rattle.textwrap_patterns.specs.Parsing.{names_minima, opened, patterns_mark, parsed, section_after}
 use Rattle.textwrap_patterns.specs.Parsing.{tex_after, tex_said, unmarked, with_all, with_lines, no_patterns}
 use Rattle.textwrap_patterns.specs.declared.entries.Section.{Section}
 use Rattle.textwrap_patterns.specs.declared.entries.Section.TheVariants.{Start, Listing, Words, Preamble}
-use Rattle.textwrap_patterns.specs.declared.entries.Section.TheVariants.{Patterns, Exceptions}
-use Rattle.textwrap_patterns.specs.declared.entries.Section.TheVariants.{Behind, Minima}
+use Rattle.textwrap_patterns.specs.declared.entries.Section.TheVariants.{Minima}
 use Rattle.textwrap_patterns.specs.declared.errors.Fault.{Fault}
 
 -- ---- the numbers of lines
@@ -26,26 +25,10 @@ pub all-shifted : (n m : ℕ) (saids : List Said) (h : Listed) (next other : Lis
     → ((k : Listed) → without_line (next k) ≡ without_line (other k))
     → without_line (and_then (with_all n saids h) next) ≡ without_line (and_then (with_all m saids h) other)
 all-shifted n m [] h next other same = same h
-all-shifted n m (Pattern p ∷ more) h next other same =
-    all-shifted n m more (record h { patterns = h.patterns ++ p ∷ [] }) next other same
-all-shifted n m (Changed p ∷ more) h next other same =
-    all-shifted n m more (record h { patterns = h.patterns ++ p ∷ []; changed = counted_on h.changed }) next other same
-all-shifted n m (Exception e ∷ more) h next other same =
-    all-shifted n m more (record h { exceptions = h.exceptions ++ e ∷ [] }) next other same
-all-shifted n m (Left left ∷ more) h next other same =
-    all-shifted n m more (record h { left = left }) next other same
-all-shifted n m (Right right ∷ more) h next other same =
-    all-shifted n m more (record h { right = right }) next other same
-all-shifted n m (CompoundLeft left ∷ more) h next other same =
-    all-shifted n m more (record h { compound_left = left }) next other same
-all-shifted n m (CompoundRight right ∷ more) h next other same =
-    all-shifted n m more (record h { compound_right = right }) next other same
-all-shifted n m (NextGroup ∷ more) h next other same = elim (cases_Bool (length h.joints == 0)) [
-  | inl none ↦ rw none (all-shifted n m more (record h { joints = h.patterns; patterns = [] }) next other same)
-  | inr some ↦ rw some refl
-]
-all-shifted n m (Nothing ∷ more) h next other same = all-shifted n m more h next other same
+all-shifted n m (NextGroup ∷ more) h next other same =
+    grind (arith, all-shifted n m more (record h { joints = h.patterns; patterns = [] }), next, other)
 all-shifted n m (Wrong fault ∷ more) h next other same = refl
+all-shifted n m (said ∷ more) h next other same = all-shifted n m more _ next other same
 
 end-shifted : (n m : ℕ) (fault : Option Fault) (h : Listed)
     → without_line (ended n fault h) ≡ without_line (ended m fault h)
@@ -54,11 +37,9 @@ end-shifted n m (Some fault) h = refl
 
 lines-shifted : (n m : ℕ) (section : Section) (ls : List (List ℕ)) (h : Listed)
     → without_line (with_lines n section ls h) ≡ without_line (with_lines m section ls h)
-lines-shifted n m section [] h =
-    end-shifted n m (end_fault section (length h.patterns) (length h.exceptions)) h
+lines-shifted n m section [] h = grind (arith, nat_tests, end-shifted)
 lines-shifted n m section (line ∷ more) h =
-    all-shifted (suc n) (suc m) (line_said section line) h (with_lines (suc n) section_next more)
-    (with_lines (suc m) section_next more) (lines-shifted (suc n) (suc m) section_next more)
+    grind (arith, nat_tests, lines-shifted (suc n) (suc m) section_next more, all-shifted, section_next)
   where
     section_next : Section
     section_next = section_after section line
@@ -88,11 +69,9 @@ pub list-step : (n : ℕ) (among : Bool) (line : List ℕ) (more : List (List �
     ≡ and_then (with_all (suc n) (listed_said (section_of among) (trim line)) h)
     (with_lines (suc n) (section_of (are_among among (trim line))) more)
 list-step n true line more h =
-    ap (λ s. and_then (with_all (suc n) (listed_said Words (trim line)) h) (with_lines (suc n) s more))
-    (by-marks true (begins_exceptions (trim line)) (ends_exceptions (trim line)))
+    grind (arith, by-marks true (begins_exceptions (trim line)) (ends_exceptions (trim line)))
 list-step n false line more h =
-    ap (λ s. and_then (with_all (suc n) (listed_said Listing (trim line)) h) (with_lines (suc n) s more))
-    (by-marks false (begins_exceptions (trim line)) (ends_exceptions (trim line)))
+    grind (arith, by-marks false (begins_exceptions (trim line)) (ends_exceptions (trim line)))
 
 -- and so the first
 pub first-step : (first : List ℕ) (more : List (List ℕ)) → is_tex first ≡ false
@@ -100,8 +79,7 @@ pub first-step : (first : List ℕ) (more : List (List ℕ)) → is_tex first �
     ≡ and_then (with_all 1 (listed_said Start (trim first)) no_patterns)
     (with_lines 1 (section_of (are_among false (trim first))) more)
 first-step first more list =
-    rw list (ap (λ s. and_then (with_all 1 (listed_said Start (trim first)) no_patterns) (with_lines 1 s more))
-    (by-first (begins_exceptions (trim first)) (ends_exceptions (trim first))))
+    grind (arith, by-first (begins_exceptions (trim first)) (ends_exceptions (trim first)))
   where
     by-first : (begins ends : Bool) → (if begins then Words else Listing)
         ≡ section_of (begins || (false && not ends))
@@ -126,11 +104,7 @@ line-skipped : (n : ℕ) (among : Bool) (before after : List (List ℕ)) (line :
     → without_line (with_lines n (section_of among) (before ++ line ∷ after) h)
     ≡ without_line (with_lines n (section_of among) (before ++ after) h)
 line-skipped n among [] after line h is =
-    ap without_line (list-step n among line after h)
-    ∙ ap (λ saids. without_line (and_then (with_all (suc n) saids h)
-    (with_lines (suc n) (section_of (are_among among (trim line))) after))) silent
-    ∙ ap (λ x. without_line (with_lines (suc n) (section_of x) after h)) (comment-among among (trim line) is)
-    ∙ lines-shifted (suc n) n (section_of among) after h
+    grind (arith, nat_tests, list-step, silent, comment-among, lines-shifted)
   where
     silent : listed_said (section_of among) (trim line) ≡ []
     silent = rw (sym (comment-skipped (trim line)) ∙ ap (λ b. b || marks_exceptions (trim line)) is) refl
@@ -149,14 +123,13 @@ pub lists-skipped : (text other first line : List ℕ) (before after : List (Lis
     → lines (unmarked text) ≡ first ∷ before ++ line ∷ after
     → lines (unmarked other) ≡ first ∷ before ++ after
     → without_line (parsed text) ≡ without_line (parsed other)
-lists-skipped text other first line before after list is whole less =
-    ap (λ ls. without_line (with_lines 0 Start ls no_patterns)) whole
-    ∙ ap without_line (first-step first (before ++ line ∷ after) list)
-    ∙ all-shifted 1 1 (listed_said Start (trim first)) no_patterns (with_lines 1 next (before ++ line ∷ after))
-    (with_lines 1 next (before ++ after))
-    (λ k. line-skipped 1 (are_among false (trim first)) before after line k is)
-    ∙ ap without_line (sym (first-step first (before ++ after) list))
-    ∙ ap (λ ls. without_line (with_lines 0 Start ls no_patterns)) (sym less)
+lists-skipped text other first line before after list is whole less = grind (
+  arith,
+  first-step first (before ++ after) list,
+  all-shifted 1 1 (listed_said Start (trim first)) no_patterns (with_lines 1 next (before ++ line ∷
+      after)) (with_lines 1 next (before ++ after)) (λ k. line-skipped 1 (are_among false (trim first))
+      before after line k is),
+)
   where
     next : Section
     next = section_of (are_among false (trim first))
@@ -202,8 +175,7 @@ trimmed-text (first ∷ more) are = first-step first more are
 
 pub blanks-skipped : (text other : List ℕ) → AreListed (lines (unmarked text)) → AreListed (lines (unmarked other))
     → map trim (lines (unmarked text)) ≡ map trim (lines (unmarked other)) → parsed text ≡ parsed other
-blanks-skipped text other list same_list same = trimmed-text (lines (unmarked text)) list
-    ∙ ap (λ ls. with_trimmed 0 Start ls no_patterns) same ∙ sym (trimmed-text (lines (unmarked other)) same_list)
+blanks-skipped text other list same_list same = grind (arith, nat_tests, trimmed-text, other)
 
 -- ---- texts of TeX
 
@@ -216,8 +188,7 @@ one-of true x y is other = is
 one-of false x y is other = other
 
 tex_after-of : (section : Section) (cs : List ℕ) → IsOfTex section → IsOfTex (tex_after section cs)
-tex_after-of section cs is = one-of (is_group now) (closed now (opened_text section cs)) section
-    (one-of (is_closed (opened_text section cs)) Behind now (refl, refl) is_now) is
+tex_after-of section cs is = grind (arith, nat_tests, one-of, now, is_now)
   where
     now : Section
     now = opened section cs
@@ -229,10 +200,7 @@ tex_after-of section cs is = one-of (is_group now) (closed now (opened_text sect
     opens_exceptions = is_some (after_mark exceptions_mark cs)
 
     is_now : IsOfTex now
-    is_now = one-of (is_group section) section (if opens_patterns then Patterns else
-        if opens_exceptions then Exceptions else section) is (one-of opens_patterns Patterns
-        (if opens_exceptions then Exceptions else section) (refl, refl)
-        (one-of opens_exceptions Exceptions section (refl, refl) is))
+    is_now = grind (arith, nat_tests, one-of, opens_patterns, opens_exceptions)
 
 tex-line : (section : Section) (line : List ℕ) → IsOfTex section → names_minima (comment_in line) ≡ false
     → (line_said section line ≡ tex_said section (uncommented line))
@@ -279,5 +247,4 @@ bare-text (first ∷ more) are = rw are.0 (bare-lines 0 Preamble (first ∷ more
 pub tex-skipped : (text other : List ℕ) → AreTex (lines (unmarked text)) → AreTex (lines (unmarked other))
     → map uncommented (lines (unmarked text)) ≡ map uncommented (lines (unmarked other))
     → parsed text ≡ parsed other
-tex-skipped text other tex same_tex same = bare-text (lines (unmarked text)) tex
-    ∙ ap (λ ls. with_bare 0 Preamble ls no_patterns) same ∙ sym (bare-text (lines (unmarked other)) same_tex)
+tex-skipped text other tex same_tex same = grind (arith, nat_tests, bare-text, other)

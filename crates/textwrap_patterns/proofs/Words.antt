@@ -60,16 +60,12 @@ pub plain-shown : (c : ℕ) → is_plain c ≡ true → is_shown c ≡ true
 plain-shown c is = let p = plain c is in rw (p.scalar, p.slash, p.sign) refl
 
 pub shown-parts : (c : ℕ) → is_shown c ≡ true → (scalar c ≡ true) × ((c == 0x2F) ≡ false) × (is_sign c ≡ false)
-shown-parts c is =
-    let both = and_parts (scalar c) (not ((c == 0x2F) || is_sign c)) is in
-    let back = neither (c == 0x2F) (is_sign c) both.1 in (both.0, back.0, back.1)
+shown-parts c is = grind (arith, and_parts, scalar, neither)
 
 -- that of a level
 pub digit-is : (level : ℕ) → nat_lt level 10 ≡ true
     → (is_shown (level + 0x30) ≡ true) × (is_digit (level + 0x30) ≡ true)
-digit-is level lt = and_parts (is_shown (level + 0x30)) (is_digit (level + 0x30))
-    (each-of (λ c. is_shown c && is_digit c) 48 10 (level + 0x30) refl (omega arith)
-    (omega (arith, ltb-true level 10 lt)))
+digit-is level lt = grind (arith, and_parts, each-of, ltb-true)
 
 -- ---- patterns
 
@@ -83,11 +79,7 @@ AreLevels levels = All (λ level. nat_lt level 10 ≡ true) levels
 level-here : (level c : ℕ) (rest : List ℕ) → is_digit (level + 0x30) ≡ true → Plain c
     → (letters_written ((level + 0x30) ∷ c ∷ rest) ≡ c ∷ letters_written rest)
     × (levels_written ((level + 0x30) ∷ c ∷ rest) ≡ level ∷ levels_written rest)
-level-here level c rest digit p = (
-  letters-digit (level + 0x30) (c ∷ rest) digit ∙ letters-letter c rest p.digit
-      ∙ ap (λ d. d ∷ letters_written rest) p.same,
-  rw (digit, p.digit) (ap (λ n. n ∷ levels_written rest) (omega arith)),
-)
+level-here level c rest digit p = grind (arith, letters-digit, digit, letters-letter)
 
 last-level : (level : ℕ) → is_digit (level + 0x30) ≡ true
     → (letters_written ((level + 0x30) ∷ []) ≡ []) × (levels_written ((level + 0x30) ∷ []) ≡ level ∷ [])
@@ -133,10 +125,8 @@ pattern-some (level ∷ levels) (c ∷ cs) some = omega arith
 digited : (levels letters : List ℕ) → AreLevels levels → 0 < length levels
     → has_digit (pattern_line levels letters) ≡ true
 digited [] letters digits some = absurd (omega (arith, some))
-digited (level ∷ levels) [] digits some =
-    rw (digit-is level (All-head (λ n. nat_lt n 10 ≡ true) level levels digits)).1 refl
-digited (level ∷ levels) (c ∷ cs) digits some =
-    rw (digit-is level (All-head (λ n. nat_lt n 10 ≡ true) level levels digits)).1 refl
+digited (level ∷ levels) [] digits some = grind (arith, digit-is, All-head)
+digited (level ∷ levels) (c ∷ cs) digits some = grind (arith, digit-is, All-head)
 
 and-false : (b : Bool) → (b && false) ≡ false
 and-false false = refl
@@ -145,18 +135,15 @@ and-false true = refl
 -- each pattern that is written has a digit
 pub pattern-listed : (p : PatternText) → IsPattern p
     → is_exception Listing (pattern_line p.levels p.letters) ≡ false
-pattern-listed p is = rw (digited p.levels p.letters is.digits (omega (arith, is.each)))
-    (and-false (has_hyphen (pattern_line p.levels p.letters)))
+pattern-listed p is = grind (arith, digited, and-false)
 
 -- ---- words
 
 no-slash : (cs : List ℕ) → AreShown cs → has_slash cs ≡ false
-no-slash cs are = list_any_none (λ c. c == 0x2F) cs
-    (All-weaker (λ c. is_shown c ≡ true) (λ c. (c == 0x2F) ≡ false) (λ c is. (shown-parts c is).1) cs are)
+no-slash cs are = grind (arith, list_any_none, All-weaker, shown-parts)
 
 no-sign : (cs : List ℕ) → AreShown cs → has_sign cs ≡ false
-no-sign cs are = list_any_none is_sign cs
-    (All-weaker (λ c. is_shown c ≡ true) (λ c. is_sign c ≡ false) (λ c is. (shown-parts c is).2) cs are)
+no-sign cs are = grind (arith, list_any_none, All-weaker, shown-parts)
 
 pub pattern-is-said : (section : Section) (p : PatternText) → IsPattern p
     → is_exception section (pattern_line p.levels p.letters) ≡ false
@@ -214,8 +201,7 @@ exception-read : (len n last : ℕ) (places cs : List ℕ) → AreBare cs → le
     → AreNext (IsNextPlace len) places last → IsAhead n places
     → (hyphens_past n (hyphened n places cs) ≡ places) × (letters_between (hyphened n places cs) ≡ cs)
 exception-read len n last [] cs are all inner before = letters-read n cs are
-exception-read len n last (place ∷ places) [] are all inner before =
-    absurd (omega (arith, inner.0.1, before, all))
+exception-read len n last (place ∷ places) [] are all inner before = grind arith
 exception-read len n last (place ∷ places) (c ∷ cs) are all inner before = elim (cases_Bool (place == n)) [
   | inl here ↦ rw here (
       let at = eqb-true place n here in
@@ -278,10 +264,7 @@ exception-parts e is = exception-read (length e.letters) 0 0 e.places e.letters 
 
 unhyphened : (n : ℕ) (cs : List ℕ) → has_hyphen cs ≡ false → hyphens_past n cs ≡ []
 unhyphened n [] none = refl
-unhyphened n (c ∷ cs) none = elim (cases_Bool (is_hyphen_sign c)) [
-  | inl here ↦ absurd (false≢true (sym none ∙ rw here refl))
-  | inr other ↦ rw other (unhyphened (suc n) cs (sym (rw other refl) ∙ none))
-]
+unhyphened n (c ∷ cs) none = grind (arith, unhyphened (suc n) cs)
 
 pub exception-hyphened : (e : ExceptionText) → IsException e → has_hyphen (hyphened 0 e.places e.letters) ≡ true
 exception-hyphened e is = elim (cases_Bool (has_hyphen (hyphened 0 e.places e.letters))) [

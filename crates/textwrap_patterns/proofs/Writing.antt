@@ -1,6 +1,6 @@
 -- Patterns that are read character by character, and places one after another.
-use Rattle.std.specs.Prelude.{Option, None, Some, unwrap_or, ◌-◌}
-use Rattle.textwrap_patterns.proofs.Common.{List, ℕ, ◌≡◌, ◌∷◌, [], drop, true, false, refl}
+use Rattle.std.specs.Prelude.{Option, None, Some}
+use Rattle.textwrap_patterns.proofs.Common.{List, ℕ, ◌≡◌, ◌∷◌, drop, true, false, refl}
 use Rattle.textwrap_patterns.specs.Letters.{folded}
 use Rattle.textwrap_patterns.specs.Written.{is_digit, letters_written, levels_written}
 
@@ -8,20 +8,6 @@ use Rattle.textwrap_patterns.specs.Written.{is_digit, letters_written, levels_wr
 abbrev pub levels_left : Option ℕ → List ℕ → List ℕ
 levels_left None cs = levels_written cs
 levels_left (Some level) cs = level ∷ drop 1 (levels_written cs)
-
-pub left-end : (level : Option ℕ) → levels_left level [] ≡ unwrap_or level 0 ∷ []
-left-end None = refl
-left-end (Some level) = refl
-
-pub left-digit : (level : Option ℕ) (c : ℕ) (cs : List ℕ) → is_digit c ≡ true
-    → levels_left level (c ∷ cs) ≡ levels_left (Some (unwrap_or level (c - 0x30))) cs
-left-digit None c cs is = rw is refl
-left-digit (Some level) c cs is = rw is refl
-
-pub left-letter : (level : Option ℕ) (c : ℕ) (cs : List ℕ) → is_digit c ≡ false
-    → levels_left level (c ∷ cs) ≡ unwrap_or level 0 ∷ levels_left None cs
-left-letter None c cs is = rw is refl
-left-letter (Some level) c cs is = rw is refl
 
 pub letters-digit : (c : ℕ) (cs : List ℕ) → is_digit c ≡ true
     → letters_written (c ∷ cs) ≡ letters_written cs

@@ -27,7 +27,6 @@ use Rattle.textwrap_patterns.specs.Dictionaries.{hyphened, is_bare, pattern_line
 use Rattle.textwrap_patterns.specs.Entries.{Said, command_said, is_command, is_sign, word_said}
 use Rattle.textwrap_patterns.specs.Changes.{before}
 use Rattle.textwrap_patterns.proofs.Skipped.{comment-skipped}
-use Rattle.textwrap_patterns.specs.Faults.{is_silent}
 use Rattle.textwrap_patterns.specs.Parsing.{before_comment, is_closed, is_group}
 use Rattle.textwrap_patterns.specs.Parsing.{line_said, list_after, listed_said, section_after, tex_after, tex_said}
 use Rattle.textwrap_patterns.specs.declared.entries.Section.{Section}
@@ -71,12 +70,7 @@ drop-ink (c ∷ cs) are = rw (ink-parts c (All-head (λ d. is_ink d ≡ true) c 
 
 pub trim-ink : (cs : List ℕ) → AreInk cs → trim (encode_utf8_all cs) ≡ encode_utf8_all cs
 unfolding trim_start trim_end
-trim-ink cs are =
-    ap (λ l. encode_utf8_all (drop_trailing_whitespace (chars (encode_utf8_all (skip_leading_whitespace l)))))
-    (chars-ink cs are)
-    ∙ ap (λ l. encode_utf8_all (drop_trailing_whitespace (chars (encode_utf8_all l)))) (skip-ink cs are)
-    ∙ ap (λ l. encode_utf8_all (drop_trailing_whitespace l)) (chars-ink cs are)
-    ∙ ap encode_utf8_all (drop-ink cs are)
+trim-ink cs are = grind (arith, nat_tests, chars-ink, skip-ink, drop-ink)
 
 -- no byte of such a text is a blank of ASCII
 byte-ink : (cs : List ℕ) (blank i : ℕ) → AreInk cs → blank < 128 → is_whitespace blank ≡ true
@@ -113,10 +107,7 @@ shown-ink : (c : ℕ) → is_shown c ≡ true → is_ink c ≡ true
 shown-ink c is = let parts = shown-parts c is in rw (parts.0, unblank c parts.2) refl
   where
     unblank : (d : ℕ) → is_sign d ≡ false → is_whitespace d ≡ false
-    unblank d none = elim (cases_Bool (is_whitespace d)) [
-      | inl blank ↦ absurd (false≢true (sym none ∙ rw blank refl))
-      | inr other ↦ other
-    ]
+    unblank d none = grind (arith, nat_tests)
 
 pub word-ink : (cs : List ℕ) → AreShown cs → AreInk cs
 word-ink cs are = All-weaker (λ c. is_shown c ≡ true) (λ c. is_ink c ≡ true) shown-ink cs are
@@ -130,18 +121,10 @@ or-none false y is = (refl, is)
 or-none true y is = absurd (false≢true (sym is))
 
 upper-other : (d b : ℕ) → is_ascii_uppercase d ≡ true → is_ascii_uppercase b ≡ false → (d == b) ≡ false
-upper-other d b upper other = elim (cases_Bool (d == b)) [
-  | inl same ↦ absurd (false≢true (sym other ∙ ap is_ascii_uppercase (sym (eqb-true d b same)) ∙ upper))
-  | inr not_same ↦ not_same
-]
+upper-other d b upper other = grind (arith, nat_tests, eqb-true)
 
 command-none : (b : ℕ) (bs : List ℕ) → is_ascii_uppercase b ≡ false → command_said (b ∷ bs) ≡ None
-command-none b bs other = rw (
-  upper-other 76 b refl other,
-  upper-other 82 b refl other,
-  upper-other 67 b refl other,
-  upper-other 78 b refl other,
-) refl
+command-none b bs other = grind (arith, nat_tests, upper-other)
 
 no-command : (b : ℕ) (bs : List ℕ) → is_ascii_uppercase b ≡ false → is_command (b ∷ bs) ≡ false
 no-command b [] other = refl
@@ -150,13 +133,7 @@ no-command b (c ∷ cs) other = rw other refl
 low-said : (b : ℕ) (bs cs : List ℕ) → is_low b ≡ false → chars (b ∷ bs) ≡ cs
     → (listed_said Listing (b ∷ bs) ≡ word_said Listing cs ∷ []) × (list_after Listing (b ∷ bs) ≡ Listing)
 low-said b bs cs low are =
-    let both = or-none (is_ascii_uppercase b || ((b == 0x25) || (b == 0x23))) ((b == 0x5C) || (b == 0x7D)) low in
-    let parts = or-none (is_ascii_uppercase b) ((b == 0x25) || (b == 0x23)) both.0 in
-    let marks = or-none (b == 0x5C) (b == 0x7D) both.1 in
-    let silent : is_silent (b ∷ bs) ≡ false = rw (parts.1, marks.0, marks.1) refl in (
-      rw (sym (comment-skipped (b ∷ bs)) ∙ silent, command-none b bs parts.0, no-command b bs parts.0, are) refl,
-      rw (marks.0, marks.1) refl,
-    )
+    grind (arith, nat_tests, or-none, low, comment-skipped, command-none, no-command)
 
 -- a line says this alone in a section, and the next is read in it
 abbrev pub IsRead : Section → List ℕ → Said → Type 0
@@ -175,12 +152,7 @@ list-word cs b bs shown is low =
 
 unsigned : (c : ℕ) → is_sign c ≡ false
     → (is_whitespace c ≡ false) × ((c == 0x7D) ≡ false) × ((c == 0x25) ≡ false) × ((c == 0x5C) ≡ false)
-unsigned c none =
-    let one = or-none ((((is_whitespace c || (c == 0x7B)) || (c == 0x7D)) || (c == 0x5C)) || (c == 0x25)) (c == 0xFFFD) none in
-    let two = or-none (((is_whitespace c || (c == 0x7B)) || (c == 0x7D)) || (c == 0x5C)) (c == 0x25) one.0 in
-    let three = or-none ((is_whitespace c || (c == 0x7B)) || (c == 0x7D)) (c == 0x5C) two.0 in
-    let four = or-none (is_whitespace c || (c == 0x7B)) (c == 0x7D) three.0 in
-    ((or-none (is_whitespace c) (c == 0x7B) four.0).0, four.1, two.1, three.1)
+unsigned c none = grind (arith, nat_tests, or-none)
 
 prefix-all : (p : ℕ → Bool) (cs : List ℕ) → All (λ c. p c ≡ true) cs → prefix_len p cs ≡ length cs
 prefix-all p [] are = refl
@@ -223,16 +195,12 @@ tex-said section cs group are some = rw (
 pub patterns-word : (cs : List ℕ) → AreShown cs → 0 < length cs
     → IsRead Patterns (encode_utf8_all cs) (word_said Patterns cs)
 patterns-word cs are some =
-    let same = ap before_comment (chars-ink cs (word-ink cs are)) ∙ bare-line cs are in
-    let said = tex-said Patterns cs refl are some in
-    (ap (tex_said Patterns) same ∙ said.0, ap (tex_after Patterns) same ∙ said.1)
+    grind (arith, chars-ink cs (word-ink cs are), bare-line cs are, tex-said Patterns cs refl are some)
 
 pub exceptions-word : (cs : List ℕ) → AreShown cs → 0 < length cs
     → IsRead Exceptions (encode_utf8_all cs) (word_said Exceptions cs)
 exceptions-word cs are some =
-    let same = ap before_comment (chars-ink cs (word-ink cs are)) ∙ bare-line cs are in
-    let said = tex-said Exceptions cs refl are some in
-    (ap (tex_said Exceptions) same ∙ said.0, ap (tex_after Exceptions) same ∙ said.1)
+    grind (arith, chars-ink cs (word-ink cs are), bare-line cs are, tex-said Exceptions cs refl are some)
 
 -- ---- the first byte of an exception
 
@@ -243,13 +211,7 @@ pub record IsBegun (bytes : List ℕ) : Type 0 where
   pub low : is_low first ≡ false
 
 high-low : (b : ℕ) → 128 ≤ b → is_low b ≡ false
-high-low b high = rw (
-  le-leb-false b high,
-  ne_eqb b 0x25 (omega (arith, high)),
-  ne_eqb b 0x23 (omega (arith, high)),
-  ne_eqb b 0x5C (omega (arith, high)),
-  ne_eqb b 0x7D (omega (arith, high)),
-) refl
+high-low b high = grind (arith, nat_tests, le-leb-false, ne_eqb)
   where
     le-leb-false : (c : ℕ) → 128 ≤ c → is_ascii_uppercase c ≡ false
     le-leb-false c le = grind (arith, nat_tests)
@@ -274,12 +236,10 @@ upper-changed c same = elim (cases_Bool (is_ascii_uppercase c)) [
 ]
 
 bare-low : (c : ℕ) → Bare c → is_low c ≡ false
-bare-low c b = let none = unsigned c b.plain.sign in
-    rw (upper-changed c b.plain.same, none.2, b.hash, none.3, none.1) refl
+bare-low c b = grind (arith, nat_tests, unsigned, upper-changed)
 
 digit-low : (level : ℕ) → nat_lt level 10 ≡ true → is_low (level + 0x30) ≡ false
-digit-low level lt = not-true (is_low (level + 0x30)) (each-of (λ c. not (is_low c)) 48 10 (level + 0x30) refl
-    (omega arith) (omega (arith, ltb-true level 10 lt)))
+digit-low level lt = grind (arith, nat_tests, not-true, each-of, ltb-true)
 
 pub hyphened-begun : (places letters : List ℕ) → All (λ c. is_bare c ≡ true) letters
     → AreInnerPlaces (length letters) places → 0 < length places

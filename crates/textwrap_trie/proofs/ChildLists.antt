@@ -1,8 +1,8 @@
 -- Lists of letters and then of as many numbers.
-use Rattle.textwrap_text.proofs.Common.{[], All, All-head, All-tail, ap, ap₂, arith, Bool, cond}
+use Rattle.textwrap_text.proofs.Common.{[], All, All-head, All-tail, ap, arith, Bool, cond}
 use Rattle.textwrap_text.proofs.Common.{drop, drop_at, eqb, false, get_or, get_or-map}
 use Rattle.textwrap_text.proofs.Common.{get_or-take, get_or_append_left, get_or_push, inl, inr}
-use Rattle.textwrap_text.proofs.Common.{le-leb, length, length-append, length-map, length_push, not}
+use Rattle.textwrap_text.proofs.Common.{le-leb, length, length-append, length-map, length_push}
 use Rattle.textwrap_text.proofs.Common.{length-take, List, map, map_push, ne_eqb, refl, suc}
 use Rattle.textwrap_text.proofs.Common.{sym, take, take_all, take_at, true, ℕ}
 use Rattle.textwrap_text.proofs.Common.{◌++◌, ◌+◌, ◌<◌, ◌∙◌, ◌∷◌, ◌≡◌, ◌≢◌, ◌≤◌}
@@ -30,12 +30,7 @@ pub behind_letter-decided : (list letters rest : List ℕ) (letter i : ℕ)
     → ((k : ℕ) → k < i → get_or letters k 0 < letter) → letter ≤ get_or letters i 0
     → behind_letter list letter ≡ cond (eqb (get_or letters i 0) letter) (get_or rest i 0) 0
 behind_letter-decided list letters rest letter i front back inside below reached =
-    let at = place-is letters letter i (omega (arith, inside)) below (λ any. reached) in
-    let short : i < half_of list =
-    omega (arith, inside, ap length front, length-take (half_of list) list) in
-    ap₂ (λ ls ns. number_of ls (take (half_of list) ns) letter) (sym front) (sym back)
-    ∙ ap (λ p. cond (eqb (get_or letters p 0) letter) (get_or (take (half_of list) rest) p 0) 0) at
-    ∙ ap (λ n. cond (eqb (get_or letters i 0) letter) n 0) (get_or-take (half_of list) rest i 0 short)
+    grind (arith, place-is, length-take, get_or-take)
 
 -- ---- the list of some children
 
@@ -93,17 +88,11 @@ rising-more children last rising below k within =
 
 number_of-later : (l n letter : ℕ) (letters numbers : List ℕ) → l < letter
     → number_of (l ∷ letters) (n ∷ numbers) letter ≡ number_of letters numbers letter
-number_of-later l n letter letters numbers below =
-    let one : place_of (l ∷ letters) letter ≡ suc (place_of letters letter) =
-    ap (λ b. cond (not b) (1 + place_of letters letter) 0) (lt-leb letter l below) ∙ omega arith in
-    ap (λ p. cond (eqb (get_or (l ∷ letters) p 0) letter) (get_or (n ∷ numbers) p 0) 0) one
+number_of-later l n letter letters numbers below = grind arith
 
 number_of-first : (l n letter : ℕ) (letters numbers : List ℕ) → letter ≤ l
     → number_of (l ∷ letters) (n ∷ numbers) letter ≡ cond (eqb l letter) n 0
-number_of-first l n letter letters numbers reached =
-    let none : place_of (l ∷ letters) letter ≡ 0 =
-    ap (λ b. cond (not b) (1 + place_of letters letter) 0) (le-leb letter l reached) in
-    ap (λ p. cond (eqb (get_or (l ∷ letters) p 0) letter) (get_or (n ∷ numbers) p 0) 0) none
+number_of-first l n letter letters numbers reached = grind arith
 
 number_of-children : (children : List Child) (letter : ℕ) → HaveRisingLetters children
     → number_of (map (λ c. c.letter) children) (map (λ c. c.node) children) letter
@@ -134,15 +123,4 @@ number_of-children (child ∷ children) letter rising =
 pub behind_letter-children : (children : List Child) (letter : ℕ) → HaveRisingLetters children
     → behind_letter (letters_and_nodes children) letter ≡ child_for children letter
 behind_letter-children children letter rising =
-    let letters = map (λ (c : Child). c.letter) children in
-    let nodes = map (λ (c : Child). c.node) children in
-    let of_letters : length letters ≡ length children = length-map children (λ (c : Child). c.letter) in
-    let of_nodes : length nodes ≡ length children = length-map children (λ (c : Child). c.node) in
-    let half : half_of (letters ++ nodes) ≡ length letters =
-    omega (arith, length-append letters nodes, of_letters, of_nodes) in
-    ap (λ h. number_of (take h (letters ++ nodes)) (take h (drop h (letters ++ nodes))) letter) half
-    ∙ ap₂ (λ ls ns. number_of ls (take (length letters) ns) letter)
-    (take_at letters nodes (length letters) refl) (drop_at letters nodes (length letters) refl)
-    ∙ ap (λ ns. number_of letters ns letter)
-    (take_all (length letters) nodes (omega (arith, of_letters, of_nodes)))
-    ∙ number_of-children children letter rising
+    grind (arith, length-map, length-append, take_at, drop_at, take_all, number_of-children)

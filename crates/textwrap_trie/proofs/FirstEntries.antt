@@ -4,8 +4,8 @@ use Rattle.std.specs.Prelude.{bytes_eq}
 use Rattle.std.proofs.lemmas.List.Sorted.{All-permutation}
 use Rattle.std.proofs.lemmas.Slice.Eq.{bytes_eq-Decides}
 use Rattle.textwrap_text.proofs.Common.{All, All-cons, All-head, All-nil, All-tail, ap}
-use Rattle.textwrap_text.proofs.Common.{append-nil, arith, Bool, cond, false, filter, get_or, inl}
-use Rattle.textwrap_text.proofs.Common.{inr, List, None, Option, refl, rules, Some, suc, sym}
+use Rattle.textwrap_text.proofs.Common.{append-nil, arith, Bool, false, filter, get_or, inl}
+use Rattle.textwrap_text.proofs.Common.{inr, List, None, refl, rules, suc, sym}
 use Rattle.textwrap_text.proofs.Common.{true, ℕ, ⊎_elim, ◌++◌, ◌≡◌, ◌∙◌, ◌∷◌, ◌⊎◌, []}
 use Rattle.textwrap_trie.proofs.KeyOrder.{behind-other, ties-same}
 use Rattle.textwrap_trie.specs.Entries.{AreSortedFrom, entry_for, is_before}
@@ -20,21 +20,17 @@ pub entry_for-behind : {A : Type 0} (key : List ℕ) (es rest : List (TrieEntry 
     → entry_for 0 (es ++ rest) key ≡ entry_for 0 rest key
 entry_for-behind key [] rest others = refl
 entry_for-behind key (e ∷ es) rest others =
-    let here = All-head (HasOther key) e es others in
-    rw here (entry_for-behind key es rest (All-tail (HasOther key) e es others))
+    grind (arith, entry_for-behind key es rest (All-tail (HasOther key) e es others), All-head)
 
 pub entry_for-before : {A : Type 0} (key : List ℕ) (es xs ys : List (TrieEntry A))
     → entry_for 0 xs key ≡ entry_for 0 ys key
     → entry_for 0 (es ++ xs) key ≡ entry_for 0 (es ++ ys) key
 entry_for-before key [] xs ys same = same
-entry_for-before key (e ∷ es) xs ys same =
-    ap (λ (o : Option (List ℕ)). cond (bytes_eq e.key.items key) (Some e.numbers.items) o)
-    (entry_for-before key es xs ys same)
+entry_for-before key (e ∷ es) xs ys same = grind (arith, entry_for-before key es xs ys same)
 
 pub entry_for-none : {A : Type 0} (key : List ℕ) (es : List (TrieEntry A)) → All (HasOther key) es
     → entry_for 0 es key ≡ None
-entry_for-none key es others =
-    ap (λ l. entry_for 0 l key) (sym (append-nil es)) ∙ entry_for-behind key es [] others
+entry_for-none key es others = grind (arith, append-nil es, entry_for-behind key es [] others)
 
 -- ---- keys that differ
 
@@ -54,20 +50,11 @@ ties-here : {A : Type 0} (key : List ℕ) (x e : TrieEntry A) → x.key.items �
     → ties stands_before x e ≡ bytes_eq e.key.items key
 ties-here key x e is = ties-same x.key.items e.key.items ∙ ap (bytes_eq e.key.items) is
 
-ties-step : {A : Type 0} (key : List ℕ) (x e : TrieEntry A) (es : List (TrieEntry A)) (b : Bool)
-    → ties stands_before x e ≡ b → bytes_eq e.key.items key ≡ b
-    → entry_for 0 (filter (ties stands_before x) es) key ≡ entry_for 0 es key
-    → entry_for 0 (filter (ties stands_before x) (e ∷ es)) key ≡ entry_for 0 (e ∷ es) key
-ties-step key x e es true tie same rest = rw (tie, same) refl
-ties-step key x e es false tie other rest = rw (tie, other) rest
-
 -- only those that tie with one that has the key count
 first-ties : {A : Type 0} (key : List ℕ) (x : TrieEntry A) → x.key.items ≡ key → (es : List (TrieEntry A))
     → entry_for 0 (filter (ties stands_before x) es) key ≡ entry_for 0 es key
 first-ties key x is [] = refl
-first-ties key x is (e ∷ es) =
-    ties-step key x e es (bytes_eq e.key.items key) (ties-here key x e is) refl
-    (first-ties key x is es)
+first-ties key x is (e ∷ es) = grind (arith, first-ties key x is es, ties-here)
 
 one-more : {A : Type 0} (key : List ℕ) (e : TrieEntry A) (es : List (TrieEntry A)) (b : Bool) → bytes_eq e.key.items key ≡ b
     → All (HasOther key) es ⊎ ((x : TrieEntry A) × (bytes_eq x.key.items key ≡ true))

@@ -4,8 +4,8 @@ use Rattle.std.proofs.lemmas.List.Sorted.{All-permutation, IsPermutation-sym}
 use Rattle.textwrap_text.proofs.Common.{ap, arith, get_or, length, List, map, map-append, max}
 use Rattle.textwrap_text.proofs.Common.{take, take_more, ℕ, ◌+◌, ◌++◌, ◌<◌, ◌∙◌, ◌∷◌, ◌≡◌, []}
 use Rattle.textwrap_text.proofs.Common.{get_or_past, All, All-cons, All-head, All-tail, ◌≤◌}
-use Rattle.textwrap_text.proofs.Common.{cases_lt, drop, get_or-drop, get_or_append_left, inl, inr}
-use Rattle.textwrap_text.proofs.Common.{ap₂, cond, IfOk, min, refl, Result, ◌-◌}
+use Rattle.textwrap_text.proofs.Common.{drop, get_or-drop, get_or_append_left}
+use Rattle.textwrap_text.proofs.Common.{cond, IfOk, min, Result}
 use Rattle.std.proofs.Common.{Err, Ok}
 use Rattle.std.specs.Prelude.{is_ok}
 use Rattle.std.proofs.lemmas.List.{get_or-append_right}
@@ -24,10 +24,7 @@ pub greatest-more : {X : Type 0} (f : X → ℕ) (xs : List X) (i : ℕ) (x : X)
     → x ≡ get_or xs i x
     → greatest (map f (take (i + 1) xs)) ≡ max (greatest (map f (take i xs))) (f x)
 greatest-more f xs i x within is =
-    let here : f x ≡ f (get_or xs i x) = ap f is in
-    let one = greatest-parts f (take i xs) (get_or xs i x ∷ []) in
-    let all = ap (λ l. greatest (map f l)) (take_more xs i x within) in
-    omega (arith, here, one, all)
+    grind (arith, greatest-parts f (take i xs) (get_or xs i x ∷ []), take_more xs i x within)
 
 -- the first of some counts among them
 pub greatest-first : {A : Type 0} (group : List (TrieEntry A)) (place : ℕ)
@@ -63,10 +60,7 @@ greatest-moved f xs ys moved =
 
 pub greatest-permutation : {X : Type 0} (f : X → ℕ) (xs ys : List X) → IsPermutation xs ys
     → greatest (map f ys) ≡ greatest (map f xs)
-greatest-permutation f xs ys moved =
-    let one = greatest-moved f xs ys moved in
-    let two = greatest-moved f ys xs (IsPermutation-sym xs ys moved) in
-    omega (arith, one, two)
+greatest-permutation f xs ys moved = grind (arith, greatest-moved, IsPermutation-sym)
 
 -- ---- raised, and appended
 
@@ -75,24 +69,8 @@ pub raised-appended : (old raised others : List ℕ) (len place : ℕ)
     → length raised ≡ length old → len ≡ min (length raised) (length others)
     → ((k : ℕ) → k < length old → get_or raised k 0 ≡ max (get_or old k 0) (get_or others k 0))
     → get_or (raised ++ drop len others) place 0 ≡ max (get_or old place 0) (get_or others place 0)
-raised-appended old raised others len place same is are = elim (cases_lt place (length raised)) [
-  | inl within ↦ get_or_append_left raised (drop len others) 0 place within
-      ∙ are place (omega (arith, within, same))
-  | inr past ↦
-      let none = get_or_past old place 0 (omega (arith, past, same)) in
-      let at = get_or-append_right raised (drop len others) (length raised) place 0 refl past
-      ∙ get_or-drop len others (place - length raised) 0 in
-      elim (cases_lt (length others) (length raised)) [
-        | inl short ↦
-            let one = get_or_past others (len + (place - length raised)) 0
-            (omega (arith, is, past, short)) in
-            let two = get_or_past others place 0 (omega (arith, past, short)) in
-            omega (arith, none, at, one, two)
-        | inr long ↦
-            let here : len + (place - length raised) ≡ place = omega (arith, is, past, long) in
-            omega (arith, none, at, ap (λ n. get_or others n 0) here)
-      ]
-]
+raised-appended old raised others len place same is are =
+    grind (arith, get_or_append_left, get_or_past, get_or-append_right, get_or-drop)
 
 -- what a call leaves that appends the rest of the others
 pub if_ok-appended : {E : Type 0} (r : Result (Unit {0}) E) (old raised others rest : List ℕ)
@@ -101,7 +79,6 @@ pub if_ok-appended : {E : Type 0} (r : Result (Unit {0}) E) (old raised others r
     → len ≡ min (length raised) (length others)
     → ((k : ℕ) → k < length old → get_or raised k 0 ≡ max (get_or old k 0) (get_or others k 0))
     → IfOk r (λ done. (place : ℕ) → get_or now place 0 ≡ max (get_or old place 0) (get_or others place 0))
-if_ok-appended (Ok done) old raised others rest len was now is of after same min are = λ place.
-    ap (λ l. get_or l place 0) (after ∙ ap₂ (λ xs ys. xs ++ ys) is of)
-    ∙ raised-appended old raised others len place same min are
+if_ok-appended (Ok done) old raised others rest len was now is of after same min are =
+    grind (arith, raised-appended)
 if_ok-appended (Err e) old raised others rest len was now is of after same min are = tt

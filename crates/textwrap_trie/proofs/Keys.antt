@@ -1,5 +1,5 @@
 -- Keys in order, from a letter on.
-use Rattle.textwrap_text.proofs.Common.{[], All, All-head, All-tail, ap, ap₂, arith, Bool, cases_lt}
+use Rattle.textwrap_text.proofs.Common.{[], All, All-head, All-tail, ap, ap₂, arith, Bool}
 use Rattle.textwrap_text.proofs.Common.{cond, drop, drop_all, drop_more, eq-eqb, eqb, eqb-true}
 use Rattle.textwrap_text.proofs.Common.{false, false≢true, get_or, get_or-drop, get_or-take, inl}
 use Rattle.textwrap_text.proofs.Common.{inr, length, length-append, length-drop, length-take, List}
@@ -40,8 +40,7 @@ pub longer-all : {A : Type 0} (depth : ℕ) (entries : List (TrieEntry A)) (firs
     → first ≡ get_or entries 0 first → depth < length first.key.items
     → All (λ e. depth < length e.key.items) entries
 longer-all {A} depth [] first sorted is long = λ k d within. absurd (omega (arith, within))
-longer-all {A} depth (e ∷ es) first sorted is long = λ k d within.
-    by k d within (cases_lt 0 k)
+longer-all {A} depth (e ∷ es) first sorted is long = grind (arith, by)
   where
     by : (k : ℕ) (d : TrieEntry A) → k < length (e ∷ es) → (0 < k) ⊎ (k ≤ 0)
         → depth < length (get_or (e ∷ es) k d).key.items
@@ -84,8 +83,7 @@ pub entry_for-append : {A : Type 0} (depth : ℕ) (xs ys : List (TrieEntry A)) (
     → entry_for depth (xs ++ ys) key
     ≡ first_of_two (entry_for depth xs key) (entry_for depth ys key)
 entry_for-append depth [] ys key = refl
-entry_for-append depth (e ∷ xs) ys key =
-    by (bytes_eq (drop depth e.key.items) key) (entry_for-append depth xs ys key)
+entry_for-append depth (e ∷ xs) ys key = grind (arith, entry_for-append depth xs ys key)
   where
     by : (b : Bool)
         → entry_for depth (xs ++ ys) key
@@ -101,10 +99,7 @@ compared : {A : Type 0} (depth letter other : ℕ) (e : TrieEntry A) (key : List
     → depth < length e.key.items → letter_at depth e ≡ letter → eqb letter other ≡ b
     → bytes_eq (drop depth e.key.items) (other ∷ key)
     ≡ b && bytes_eq (drop (depth + 1) e.key.items) key
-compared depth letter other e key b long here is =
-    ap (λ l. bytes_eq l (other ∷ key)) (drop_more e.key.items depth 0 long
-    ∙ ap (λ c. c ∷ drop (depth + 1) e.key.items) here)
-    ∙ ap (λ (t : Bool). t && bytes_eq (drop (depth + 1) e.key.items) key) is
+compared depth letter other e key b long here is = grind (arith, drop_more)
 
 -- keys with one letter at a place, looked up with that letter and with another one
 pub entry_for-group : {A : Type 0} (depth letter : ℕ) (group : List (TrieEntry A)) (key : List ℕ)
@@ -138,18 +133,11 @@ entry_for-other {A} depth letter other (e ∷ es) key longer same differs =
 
 pub sorted-right : {A : Type 0} (depth : ℕ) (done left : List (TrieEntry A)) → AreSortedFrom depth (done ++ left)
     → AreSortedFrom depth left
-sorted-right depth done left sorted = λ i j d lt within.
-    rw (sym (get_or-append-add done left i d), sym (get_or-append-add done left j d))
-    (sorted (length done + i) (length done + j) d (omega arith)
-    (omega (arith, within, length-append done left)))
+sorted-right depth done left sorted = grind (arith, get_or-append-add, length-append)
 
 pub sorted-take : {A : Type 0} (depth n : ℕ) (entries : List (TrieEntry A)) → AreSortedFrom depth entries
     → AreSortedFrom depth (take n entries)
-sorted-take depth n entries sorted = λ i j d lt within.
-    let here : j < n = omega (arith, length-take n entries) in
-    let there : i < n = omega arith in
-    rw (get_or-take n entries i d there, get_or-take n entries j d here)
-    (sorted i j d lt (omega (arith, length-take n entries)))
+sorted-take depth n entries sorted = grind (arith, length-take, get_or-take)
 
 cmp-same : (x : ℕ) → nat_cmp x x ≡ Equal
 cmp-same x = grind (arith, nat_tests)
@@ -169,9 +157,7 @@ sorted-group {A} depth letter group sorted longer same = λ i j d lt within.
   where
     split : (k : ℕ) (d : TrieEntry A) → k < length group → drop depth (get_or group k d).key.items
         ≡ letter ∷ drop (depth + 1) (get_or group k d).key.items
-    split k d within =
-        drop_more (get_or group k d).key.items depth 0 (longer k d within)
-        ∙ ap (λ c. c ∷ drop (depth + 1) (get_or group k d).key.items) (same k d within)
+    split k d within = grind (arith, drop_more)
 
 -- of two keys in order, the letters do not fall
 letter-up : (x y : ℕ) (xs ys : List ℕ) → is_before (x ∷ xs) (y ∷ ys) ≡ true → x ≤ y

@@ -1,7 +1,7 @@
 -- What a node gives a text is the greatest of what it has for the beginnings of the text; and where
 -- its keys are those of entries, this is what they give.
 use Rattle.std.specs.Prelude.{bytes_eq}
-use Rattle.textwrap_text.proofs.Common.{ap, arith, Bool, cond, eqb, eqb-true, false, get_or}
+use Rattle.textwrap_text.proofs.Common.{ap, arith, Bool, cond, eqb, false, get_or}
 use Rattle.textwrap_text.proofs.Common.{get_or_past, List, max, nat_eq, None, Option, refl, Some}
 use Rattle.textwrap_text.proofs.Common.{starts_with, suc, sym, true, unwrap_or, ℕ, ◌≡◌, ◌∙◌, ◌∷◌}
 use Rattle.textwrap_text.proofs.Common.{[]}
@@ -25,11 +25,7 @@ pub of-same : (text : List ℕ) (given other : List ℕ → Option (List ℕ)) (
     → ((key : List ℕ) → given key ≡ other key)
     → greatest_of text given place ≡ greatest_of text other place
 of-same [] given other place same = ap (λ o. number_of o place) (same [])
-of-same (c ∷ cs) given other place same =
-    let here = ap (λ (o : Option (List ℕ)). number_of o place) (same []) in
-    let behind = of-same cs (λ key. given (c ∷ key)) (λ key. other (c ∷ key)) place
-    (λ key. same (c ∷ key)) in
-    omega (arith, here, behind)
+of-same (c ∷ cs) given other place same = grind arith
 
 none-at : (place : ℕ) → number_of None place ≡ 0
 none-at place = get_or_past {X = ℕ} [] place 0 (omega arith)
@@ -47,25 +43,19 @@ levels-child : (c : ℕ) (cs words : List ℕ) (node place : ℕ) (given : List 
     ≡ greatest_of cs (λ key. given (c ∷ key)) place)
     → (b : Bool) → eqb (child_of words node c) 0 ≡ b
     → level_from (c ∷ cs) words node place ≡ greatest_of (c ∷ cs) given place
-levels-child c cs words node place given has behind true is =
-    let here = ap (λ (o : Option (List ℕ)). number_of o place) (has []) in
-    let none : greatest_of cs (λ key. given (c ∷ key)) place ≡ 0 =
-    of-same cs (λ key. given (c ∷ key)) (λ key. None) place
-    (λ key. sym (has (c ∷ key)) ∙ (rw is refl)) ∙ of-none cs place in
-    rw is (omega (arith, here, none))
-levels-child c cs words node place given has behind false is =
-    let here = ap (λ (o : Option (List ℕ)). number_of o place) (has []) in
-    let next = behind (λ key. (rw is refl) ∙ has (c ∷ key)) in
-    rw is (omega (arith, here, next))
+levels-child c cs words node place given has behind true is = grind (
+  arith,
+  of-same cs (λ key. given (c ∷ key)) (λ key. None) place (λ key. sym (has (c ∷ key)) ∙ (rw is refl)),
+  of-none cs place,
+)
+levels-child c cs words node place given has behind false is = grind arith
 
 pub levels-of : (text words : List ℕ) (node place : ℕ) (given : List ℕ → Option (List ℕ))
     → ((key : List ℕ) → numbers_for key words node ≡ given key)
     → level_from text words node place ≡ greatest_of text given place
 levels-of [] words node place given has = ap (λ o. number_of o place) (has [])
 levels-of (c ∷ cs) words node place given has =
-    levels-child c cs words node place given has
-    (levels-of cs words (child_of words node c) place (λ key. given (c ∷ key)))
-    (eqb (child_of words node c) 0) refl
+    grind (arith, levels-of cs words (child_of words node c) place (λ key. given (c ∷ key)), levels-child)
 
 -- ---- what entries give a text
 
@@ -86,27 +76,16 @@ one-behind : (k : ℕ) (key : List ℕ) (c : ℕ) (cs numbers : List ℕ) (place
     → greatest_of cs (λ other. with (k ∷ key) numbers given (c ∷ other)) place
     ≡ max (in_key (k ∷ key) numbers (c ∷ cs) place)
     (greatest_of cs (λ other. given (c ∷ other)) place)
-one-behind k key c cs numbers place given none behind true is =
-    let same : k ≡ c = eqb-true k c is in
-    let first : given (c ∷ key) ≡ None = ap (λ l. given (l ∷ key)) (sym same) ∙ none in
-    of-same cs (λ other. with (k ∷ key) numbers given (c ∷ other))
-    (with key numbers (λ other. given (c ∷ other))) place (λ other. rw is refl)
-    ∙ behind (λ other. given (c ∷ other)) first ∙ (rw is refl)
-one-behind k key c cs numbers place given none behind false is =
-    of-same cs (λ other. with (k ∷ key) numbers given (c ∷ other))
-    (λ other. given (c ∷ other)) place (λ other. rw is refl) ∙ (rw is (omega arith))
+one-behind k key c cs numbers place given none behind true is = grind arith
+one-behind k key c cs numbers place given none behind false is = grind arith
 
 pub of-one_more : (text key numbers : List ℕ) (place : ℕ) (given : List ℕ → Option (List ℕ))
     → given key ≡ None
     → greatest_of text (with key numbers given) place
     ≡ max (in_key key numbers text place) (greatest_of text given place)
-of-one_more [] [] numbers place given none =
-    let here = ap (λ (o : Option (List ℕ)). number_of o place) none ∙ none-at place in
-    omega (arith, here)
+of-one_more [] [] numbers place given none = grind arith
 of-one_more [] (k ∷ key) numbers place given none = omega arith
-of-one_more (c ∷ cs) [] numbers place given none =
-    let here = ap (λ (o : Option (List ℕ)). number_of o place) none ∙ none-at place in
-    omega (arith, here)
+of-one_more (c ∷ cs) [] numbers place given none = grind arith
 of-one_more (c ∷ cs) (k ∷ key) numbers place given none =
     let next = one-behind k key c cs numbers place given none
     (of-one_more cs key numbers place) (eqb k c) refl in
@@ -127,5 +106,4 @@ pub levels-entries : {A : Type 0} (text words : List ℕ) (root place : ℕ) (es
     → ((key : List ℕ) → numbers_for key words root ≡ entry_for 0 es key)
     → level_from text words root place ≡ greatest_number es text place
 levels-entries text words root place es sorted has =
-    levels-of text words root place (entry_for 0 es) has
-    ∙ of-entries text place es sorted
+    grind (arith, levels-of text words root place (entry_for 0 es) has, of-entries text place es sorted)

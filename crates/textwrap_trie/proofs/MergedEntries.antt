@@ -3,8 +3,8 @@ use Rattle.std.specs.Prelude.{bytes_eq}
 use Rattle.textwrap_text.proofs.Common.{All, All-append, All-cons, All-drop, All-head, All-nil}
 use Rattle.textwrap_text.proofs.Common.{All-tail, ap, append_assoc, arith, Bool, cond, drop}
 use Rattle.textwrap_text.proofs.Common.{false, get_or, get_or-drop, length, length-drop, List}
-use Rattle.textwrap_text.proofs.Common.{map, max, nat_eq, refl, Some, starts_with, subst, suc}
-use Rattle.textwrap_text.proofs.Common.{sym, take, take-append-drop, true, zero, ℕ, cases_lt, ◌+◌}
+use Rattle.textwrap_text.proofs.Common.{map, max, nat_eq, refl, Some, starts_with, suc}
+use Rattle.textwrap_text.proofs.Common.{sym, take, take-append-drop, true, zero, ℕ, ◌+◌}
 use Rattle.textwrap_text.proofs.Common.{◌++◌, ◌<◌, ◌≤◌, ◌≡◌, ◌≢◌, ◌∙◌, ◌∷◌, [], ◌⊎◌, inl, inr}
 use Rattle.textwrap_trie.proofs.FirstEntries.{entry_for-before, entry_for-behind}
 use Rattle.textwrap_trie.proofs.GreatestNumbers.{greatest-parts}
@@ -20,9 +20,7 @@ StandsBefore m es = All (λ e. is_before m.key.items e.key.items ≡ true) es
 -- ---- parts of a list
 
 pub ordered-drop : {A : Type 0} (n : ℕ) (es : List (TrieEntry A)) → AreInOrder es → AreInOrder (drop n es)
-ordered-drop n es ordered = λ i j d below within.
-    rw (get_or-drop n es i d, get_or-drop n es j d) (ordered (n + i) (n + j) d (omega arith)
-    (omega (arith, within, length-drop n es)))
+ordered-drop n es ordered = grind (arith, get_or-drop, length-drop)
 
 pub first_key-at : {A : Type 0} (es : List (TrieEntry A)) (d : TrieEntry A) → 0 < length es
     → first_key es ≡ (get_or es 0 d).key.items
@@ -45,24 +43,14 @@ pub first-before : {A : Type 0} (es : List (TrieEntry A)) (n : ℕ) (x : TrieEnt
     → x.key.items ≡ first_key es
     → ((d : TrieEntry A) → n < length es → (get_or es n d).key.items ≢ first_key es)
     → StandsBefore x (drop n es)
-first-before {A} es n x ordered some is next = λ k d within.
-    let inside : n + k < length es = omega (arith, within, length-drop n es) in
-    let first = first_key-at es d (omega arith) in
-    let one : is_before (first_key es) (get_or es n d).key.items ≡ true =
-    before-other (first_key es) (get_or es n d).key.items
-    (subst (λ (l : List ℕ). is_before (get_or es n d).key.items l ≡ false) (sym first)
-    (ordered 0 n d some (omega arith))) (next d (omega arith)) in
-    rw (get_or-drop, is) (by k d inside one (cases_lt 0 k))
+first-before {A} es n x ordered some is next =
+    grind (arith, length-drop, first_key-at, before-other, get_or-drop, by)
   where
     by : (k : ℕ) (d : TrieEntry A) → n + k < length es
         → is_before (first_key es) (get_or es n d).key.items ≡ true → (0 < k) ⊎ (k ≤ 0)
         → is_before (first_key es) (get_or es (n + k) d).key.items ≡ true
-    by k d inside one (inl behind) =
-        before-later (first_key es) (get_or es n d).key.items (get_or es (n + k) d).key.items one
-        (ordered n (n + k) d (omega arith) inside)
-    by k d inside one (inr here) =
-        let at : n + k ≡ n = omega (arith, here) in
-        subst (λ (i : ℕ). is_before (first_key es) (get_or es i d).key.items ≡ true) (sym at) one
+    by k d inside one (inl behind) = grind (arith, before-later)
+    by k d inside one (inr here) = grind arith
 
 -- ---- one entry more
 
@@ -78,8 +66,7 @@ sorted-cons : {A : Type 0} (m : TrieEntry A) (es : List (TrieEntry A)) → Stand
 sorted-cons m es before sorted zero zero d below within = absurd (omega arith)
 sorted-cons m es before sorted zero (suc j) d below within = before j d (omega (arith, within))
 sorted-cons m es before sorted (suc i) zero d below within = absurd (omega arith)
-sorted-cons m es before sorted (suc i) (suc j) d below within =
-    sorted i j d (omega (arith, below)) (omega (arith, within))
+sorted-cons m es before sorted (suc i) (suc j) d below within = grind arith
 
 pub sorted-more : {A : Type 0} (merged : List (TrieEntry A)) (x : TrieEntry A) → AreSortedFrom 0 merged
     → All (λ m. is_before m.key.items x.key.items ≡ true) merged
@@ -113,9 +100,7 @@ entry_for-one : {A : Type 0} (key : List ℕ) (x e : TrieEntry A) (es rest : Lis
     → x.numbers.items ≡ e.numbers.items → All (λ f. f.key.items ≡ e.key.items) es
     → entry_for 0 (x ∷ rest) key ≡ entry_for 0 (e ∷ es ++ rest) key
 entry_for-one key x e es rest true is keys numbers same = rw (keys, is) (ap Some numbers)
-entry_for-one key x e es rest false is keys numbers same =
-    rw (keys, is) (sym (entry_for-behind key es rest (λ k d within.
-    rw (same k d within) is)))
+entry_for-one key x e es rest false is keys numbers same = grind (arith, entry_for-behind)
 
 -- an entry for all that have the same key, with the numbers of the first
 pub first-more : {A : Type 0} (key : List ℕ) (merged left : List (TrieEntry A)) (x : TrieEntry A) (n : ℕ)
@@ -155,9 +140,7 @@ in_one : {A : Type 0} (x : TrieEntry A) (text : List ℕ) (place : ℕ) (es : Li
     → All (λ e. e.key.items ≡ x.key.items) es
     → get_or x.numbers.items place 0 ≡ greatest (map (λ e. get_or e.numbers.items place 0) es)
     → number_in x text place ≡ greatest_number es text place
-in_one x text place es same is =
-    ap (λ n. cond (starts_with nat_eq text x.key.items) n 0) is
-    ∙ sym (in_same x.key.items text place es same (starts_with nat_eq text x.key.items) refl)
+in_one x text place es same is = grind (arith, in_same)
 
 -- an entry for all that have the same key, with the greatest number at each place
 pub greatest_number-more : {A : Type 0} (text : List ℕ) (place : ℕ) (merged left : List (TrieEntry A)) (x : TrieEntry A)

@@ -1,7 +1,7 @@
 -- A trie of which the first children are written.
-use Rattle.textwrap_text.proofs.Common.{[], add-zero, All, All-drop, All-head, All-tail, All-take}
+use Rattle.textwrap_text.proofs.Common.{[], All, All-drop, All-head, All-tail, All-take}
 use Rattle.textwrap_text.proofs.Common.{ap, append-nil, append_assoc, arith, cases_eq, cond, drop}
-use Rattle.textwrap_text.proofs.Common.{eq-eqb, eqb, get_or, get_or-drop, get_or_default, length}
+use Rattle.textwrap_text.proofs.Common.{eqb, get_or, get_or-drop, get_or_default, length}
 use Rattle.textwrap_text.proofs.Common.{length-append, length-drop, List, ne_eqb, None, Option}
 use Rattle.textwrap_text.proofs.Common.{refl, Some, subst, sym, take, take-append-drop, ℕ, ⊎_elim}
 use Rattle.textwrap_text.proofs.Common.{◌++◌, ◌+◌, ◌-◌, ◌<◌, ◌∙◌, ◌∷◌, ◌≡◌, ◌≢◌, ◌≤◌}
@@ -43,8 +43,7 @@ pub record HasWritten {A : Type 0} (depth numbers : ℕ) (entries left : List (T
 child_for-last : (children : List Child) (last : Child)
     → All (λ child. child.letter ≢ last.letter) children
     → child_for (children ++ last ∷ []) last.letter ≡ last.node
-child_for-last [] last other =
-    ap (λ b. cond b last.node 0) (eq-eqb last.letter last.letter refl)
+child_for-last [] last other = grind arith
 child_for-last (child ∷ children) last other =
     let differs = λ (c : Child). c.letter ≢ last.letter in
     ap (λ b. cond b child.node (child_for (children ++ last ∷ []) last.letter))
@@ -53,11 +52,9 @@ child_for-last (child ∷ children) last other =
 
 child_for-other : (children : List Child) (last : Child) (letter : ℕ) → last.letter ≢ letter
     → child_for (children ++ last ∷ []) letter ≡ child_for children letter
-child_for-other [] last letter differs =
-    ap (λ b. cond b last.node 0) (ne_eqb last.letter letter differs)
+child_for-other [] last letter differs = grind arith
 child_for-other (child ∷ children) last letter differs =
-    ap (λ n. cond (eqb child.letter letter) child.node n)
-    (child_for-other children last letter differs)
+    grind (arith, child_for-other children last letter differs)
 
 -- ---- the beginning
 
@@ -119,13 +116,7 @@ module _ {A : Type 0} (depth numbers len letter : ℕ) (entries left : List (Tri
 
   letter-above : (d : TrieEntry A) → 0 < length (drop len left)
       → letter < letter_at depth (get_or (drop len left) 0 d)
-  letter-above d some =
-      let within : len < length left = omega (arith, some, length-drop len left) in
-      let at : get_or (drop len left) 0 d ≡ get_or left len entry = get_or-drop len left 0 d
-      ∙ ap (λ n. get_or left n d) (add-zero len) ∙ get_or_default left len d entry within in
-      let up = letters-rise depth left len entry left-sorted so_far.longer group.some within in
-      let differs = group.next entry within in
-      rw at (omega (arith, up, differs, first))
+  letter-above d some = grind (arith, length-drop, get_or-drop, letters-rise, left-sorted)
 
   module _ (node : ℕ) (next : List ℕ) (trie : IsTrie (depth + 1) (take len left) new next node)
     where
@@ -196,10 +187,7 @@ pub letter-first : {A : Type 0} (depth letter : ℕ) (left : List (TrieEntry A))
     → 0 < length left → All (λ e. depth < length e.key.items) left
     → key ≡ (get_or left 0 entry).key.items → letter ≡ get_or key depth letter
     → letter ≡ letter_at depth (get_or left 0 entry)
-letter-first depth letter left entry key some longer of read =
-    let first = (get_or left 0 entry).key.items in
-    read ∙ ap (λ l. get_or l depth letter) of
-    ∙ get_or_default first depth letter 0 (longer 0 entry some)
+letter-first depth letter left entry key some longer of read = grind (arith, get_or_default)
 
 -- the entries that are left are no longer than all are, and have letters there
 pub left-height : {A : Type 0} (depth numbers height : ℕ) (entries left : List (TrieEntry A)) (children : List Child)
@@ -207,19 +195,16 @@ pub left-height : {A : Type 0} (depth numbers height : ℕ) (entries left : List
     → All (λ e. length e.key.items ≤ depth + height) entries
     → HasWritten depth numbers entries left children old new
     → (0 < height) × All (λ e. length e.key.items ≤ (depth + 1) + (height - 1)) left
-left-height depth numbers height entries left children old new entry some within so_far =
-    let short = all-right (λ e. length e.key.items ≤ depth + height) so_far.done left
-    (subst (All (λ e. length e.key.items ≤ depth + height)) so_far.split within) in
-    let high : 0 < height =
-    let long = so_far.longer 0 entry some in
-    let first = short 0 entry some in omega (arith, long, first) in
-    (high, λ k d inside. let here = short k d inside in omega (arith, here, high))
+left-height depth numbers height entries left children old new entry some within so_far = grind (
+  arith,
+  all-right (λ e. length e.key.items ≤ depth + height) so_far.done left (subst (All (λ e. length
+      e.key.items ≤ depth + height)) so_far.split within),
+)
 
 pub length-grown : {A : Type 0} (depth numbers : ℕ) (entries left : List (TrieEntry A)) (children : List Child)
     (old new : List ℕ) → HasWritten depth numbers entries left children old new → 0 < length old
     → 0 < length new
-length-grown depth numbers entries left children old new so_far some =
-    omega (arith, some, ap length so_far.grown, length-append old so_far.added)
+length-grown depth numbers entries left children old new so_far some = grind (arith, length-append)
 
 -- ---- the end
 
@@ -240,11 +225,5 @@ written-end depth numbers node entries children old new next some so_far is_node
 
     found : (more key : List ℕ)
         → numbers_for key (next ++ more) node ≡ entry_for depth entries key
-    found more [] =
-        ap (list_at (next ++ more)) (is_node.has more)
-        ∙ ap (λ w. list_at w numbers) (carried more) ∙ so_far.list (is_node.added ++ more)
-    found more (c ∷ cs) =
-        ap (numbers_below cs (next ++ more)) (is_node.child more c)
-        ∙ ap (λ w. numbers_below cs w (child_for children c)) (carried more)
-        ∙ so_far.below (is_node.added ++ more) c cs
-        ∙ ap (λ es. entry_for depth es (c ∷ cs)) (sym (so_far.split ∙ append-nil so_far.done))
+    found more [] = grind (arith, carried)
+    found more (c ∷ cs) = grind (arith, carried, append-nil)

@@ -1,9 +1,9 @@
 -- What stands in a list of numbers once it is written.
 use Rattle.textwrap_text.proofs.Common.{[], ap, ap₂, append-nil, append_assoc, arith, cases_lt}
 use Rattle.textwrap_text.proofs.Common.{cond, drop_all, get_or, inl, inr, le-leb, length}
-use Rattle.textwrap_text.proofs.Common.{length-append, length_push, List, ne_eqb, None, Option}
-use Rattle.textwrap_text.proofs.Common.{refl, Some, subst, sym, unwrap_or, ℕ, ◌++◌, ◌+◌, ◌-◌}
-use Rattle.textwrap_text.proofs.Common.{◌<◌, ◌∙◌, ◌∷◌, ◌≡◌, ◌≢◌, ◌≤◌}
+use Rattle.textwrap_text.proofs.Common.{length-append, length_push, List, None, Option}
+use Rattle.textwrap_text.proofs.Common.{refl, Some, sym, unwrap_or, ℕ, ◌++◌, ◌+◌, ◌-◌}
+use Rattle.textwrap_text.proofs.Common.{◌<◌, ◌∙◌, ◌∷◌, ◌≡◌, ◌≤◌}
 use Rattle.std.proofs.lemmas.Bool.{lt-leb}
 use Rattle.std.proofs.lemmas.List.{get_or_at}
 use Rattle.std.proofs.lemmas.Option.{slice_get-get_or, slice_get_past}
@@ -20,13 +20,7 @@ use Rattle.textwrap_trie.specs.declared.writing.Child.{Child}
 -- a list that is written where it does not stand first is found there
 pub list-written : (numbers old : List ℕ) → 0 < length old
     → IsList (Some numbers) old (old ++ length numbers ∷ numbers) (length old)
-list-written numbers old some = record {
-  added = length numbers ∷ numbers;
-  grown = refl;
-  list = λ more.
-      let other : length old ≢ 0 = omega arith in
-      rw (ne_eqb (length old) 0 other) (ap Some (numbers_at-written old numbers more));
-}
+list-written numbers old some = grind (arith, numbers_at-written)
 
 pub list-none : (old : List ℕ) → IsList None old old 0
 list-none old = record { added = []; grown = sym (append-nil old); list = λ more. refl }
@@ -36,9 +30,7 @@ pub entry_for-ended : {A : Type 0} (depth : ℕ) (entries : List (TrieEntry A)) 
     → first ≡ get_or entries 0 first → length first.key.items ≤ depth
     → entry_for depth entries [] ≡ Some first.numbers.items
 entry_for-ended {A} depth [] first some is ended = absurd (omega (arith, some))
-entry_for-ended {A} depth (e ∷ es) first some is ended =
-    let ends = subst (λ (f : TrieEntry A). length f.key.items ≤ depth) is ended in
-    rw (drop_all depth e.key.items ends) (ap (λ (f : TrieEntry A). Some f.numbers.items) (sym is))
+entry_for-ended {A} depth (e ∷ es) first some is ended = grind (arith, drop_all)
 
 -- ---- a node
 
@@ -81,14 +73,10 @@ module _ (numbers first : ℕ) (nodes : List ℕ) (children : List Child) (list 
   rest more = length nodes ∷ (nodes ++ (length list ∷ (list ++ more)))
 
   behind_front : (more : List ℕ) → written ++ more ≡ front ++ (first ∷ rest more)
-  behind_front more =
-      append_assoc (front ++ first ∷ length nodes ∷ nodes) (length list ∷ list) more
-      ∙ append_assoc front (first ∷ length nodes ∷ nodes) (length list ∷ (list ++ more))
+  behind_front more = grind (arith, append_assoc)
 
   first-at : (more : List ℕ) → get_or (written ++ more) (length old + 1) 0 ≡ first
-  first-at more =
-      ap (λ w. get_or w (length old + 1) 0) (behind_front more)
-      ∙ get_or_at front first (rest more) 0 (length old + 1) length-front
+  first-at more = grind (arith, behind_front, get_or_at, length-front)
 
   window-at : (more : List ℕ) → numbers_at (written ++ more) (length old + 2) ≡ nodes
   window-at more =
@@ -134,8 +122,7 @@ module _ (numbers first : ℕ) (nodes : List ℕ) (children : List Child) (list 
 pub list-at_end : (place : ℕ) (numbers old new : List ℕ) (said : Option (List ℕ)) → 0 < length old
     → said ≡ Some numbers → place ≡ length old → new ≡ old ++ length numbers ∷ numbers
     → IsList said old new place
-list-at_end place numbers old new said some is at grown =
-    rw (is, at, grown) (list-written numbers old some)
+list-at_end place numbers old new said some is at grown = grind (arith, list-written)
 
 pub node-at_end : (numbers node : ℕ) (children : List Child)
     (list old pushed windowed new : List ℕ) → node ≡ length old → pushed ≡ old ++ numbers ∷ []
@@ -143,19 +130,10 @@ pub node-at_end : (numbers node : ℕ) (children : List Child)
     → list ≡ letters_and_nodes children → HaveRisingLetters children
     → IsNodeOf numbers children old new node
 node-at_end numbers node children list old pushed windowed new at front window grown is rising =
-    let all = grown ∙ ap (λ w. w ++ length list ∷ list) (window.grown
-    ∙ ap (λ w. w ++ window.first ∷ length window.nodes ∷ window.nodes) front) in
-    rw (at, all) (node-written numbers window.first window.nodes children list old is rising
-    window.has)
+    grind (arith, node-written)
 
 pub window-at_end : (children : List Child) (first : ℕ) (nodes old pushed new : List ℕ)
     → ((k : ℕ) → k < length nodes → get_or nodes k 0 ≡ child_for children (first + k))
     → pushed ≡ old ++ first ∷ [] → new ≡ pushed ++ length nodes ∷ nodes
     → HasWindow children old new
-window-at_end children first nodes old pushed new are front grown = record {
-  first = first;
-  nodes = nodes;
-  grown = grown ∙ ap (λ w. w ++ length nodes ∷ nodes) front
-      ∙ append_assoc old (first ∷ []) (length nodes ∷ nodes);
-  has = are;
-}
+window-at_end children first nodes old pushed new are front grown = grind (arith, append_assoc)

@@ -1,27 +1,22 @@
 -- A word of few letters has no place with enough of them on both sides.
-use Rattle.textwrap_hyphens.proofs.Common.{Bool, List, ap, arith, cond, false, filter, length, refl, true}
+use Rattle.textwrap_hyphens.proofs.Common.{Bool, List, ap, arith, false, filter, length, length-append, refl, true}
 use Rattle.textwrap_hyphens.proofs.Common.{ℕ, ◌+◌, ◌∙◌, ◌∷◌, ◌≡◌, []}
 use Rattle.textwrap_hyphens.specs.Hyphenation.{Hyphenation, is_allowed, is_place, part_places}
 use Rattle.textwrap_hyphens.specs.Hyphenation.{places_from}
 use Rattle.std.specs.Prelude.{not}
+use Rattle.std.proofs.lemmas.List.Elements.{filter-append}
 use Rattle.textwrap_patterns.specs.Letters.{apostrophe, counts, has_letters}
 use Rattle.textwrap_text.proofs.Common.{cases_Bool, drop, inl, inr, sym, take}
 use Rattle.textwrap_text.proofs.Common.{nat_tests, take-append-drop, slice_index, ◌-◌, ◌==◌, ◌&&◌, ◌++◌, ◌<◌}
 
-filter-none : {X : Type 0} (test : X → Bool) → ((x : X) → test x ≡ false) → (xs : List X)
+pub filter-none : {X : Type 0} (test : X → Bool) → ((x : X) → test x ≡ false) → (xs : List X)
     → filter test xs ≡ []
 filter-none test none [] = refl
 filter-none test none (x ∷ xs) = rw (none x) (filter-none test none xs)
 
 filter-length : {X : Type 0} (test : X → Bool) (xs ys : List X)
     → length (filter test (xs ++ ys)) ≡ length (filter test xs) + length (filter test ys)
-filter-length test [] ys = omega arith
-filter-length test (x ∷ xs) ys = elim (test x) as (λ b. length (cond b (x ∷ filter test (xs ++ ys))
-    (filter test (xs ++ ys))) ≡ length (cond b (x ∷ filter test xs) (filter test xs))
-    + length (filter test ys)) [
-      | true ↦ omega (arith, filter-length test xs ys)
-      | false ↦ filter-length test xs ys
-    ]
+filter-length test xs ys = grind (arith, nat_tests, filter-append, length-append)
 
 none-last : (a : Bool) → a && false ≡ false
 none-last true = refl

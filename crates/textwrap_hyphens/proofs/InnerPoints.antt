@@ -1,11 +1,10 @@
 -- The points of a word are inside it, at the beginnings of characters, and increase.
 use Rattle.textwrap_hyphens.proofs.Common.{List, ℕ, ◌≡◌, ◌+◌, ◌-◌, ◌≤◌, ◌<◌, ◌++◌, ◌∷◌, [], ◌∙◌}
 use Rattle.textwrap_hyphens.proofs.Common.{arith, drop, length, take, zero, suc, true, false, refl}
-use Rattle.textwrap_hyphens.proofs.Common.{get_or, Bool}
+use Rattle.textwrap_hyphens.proofs.Common.{append-nil, get_or, Bool}
 use Rattle.textwrap_hyphens.proofs.Common.{All, All-cons, All-head, All-nil, All-tail, cond, filter}
 use Rattle.textwrap_hyphens.proofs.Common.{length-map, map, range_with_len, subst, sym, ⊤}
-use Rattle.std.specs.Prelude.{IfSome, IsCharBoundary, None, Option, Some, chars, encode_utf8, unwrap_or, not, ◌&&◌, ◌==◌}
-use Rattle.std.specs.List.{list_any}
+use Rattle.std.specs.Prelude.{IfSome, IsCharBoundary, None, Option, Some, chars, encode_utf8, unwrap_or}
 use Rattle.std.proofs.lemmas.List.{drop-map}
 use Rattle.textwrap_text.proofs.Common.{All-map, All-weaker, IsUtf8, length-drop, length-take}
 use Rattle.textwrap_text.proofs.Common.{take-map}
@@ -18,9 +17,9 @@ use Rattle.textwrap_text.specs.Escapes.{next_of, shows}
 use Rattle.textwrap_text.specs.declared.characters.Character.{Character}
 use Rattle.textwrap_words.specs.Cuts.{AreInnerCuts, AreNext, IsNextCut}
 use Rattle.textwrap_hyphens.proofs.Runs.{past-letter, past-other}
-use Rattle.textwrap_hyphens.specs.Hyphenation.{Hyphenation, is_allowed, is_odd, is_place}
+use Rattle.textwrap_hyphens.specs.Hyphenation.{Hyphenation}
 use Rattle.textwrap_hyphens.specs.Hyphenation.{joints_of, places_from, places_of}
-use Rattle.textwrap_patterns.specs.Letters.{is_hyphen_character, is_kept, is_letter_or_mark}
+use Rattle.textwrap_patterns.specs.Letters.{is_kept, is_letter_or_mark}
 use Rattle.textwrap_patterns.specs.Letters.{letter_at, letters_among}
 use Rattle.textwrap_patterns.specs.Letters.{letters_of, run_len}
 use Rattle.textwrap_patterns.specs.Places.{AreInnerPlaces, IsNextPlace}
@@ -29,26 +28,6 @@ use Rattle.textwrap_hyphens.specs.Points.{points_in, points_past, soft_places, s
 use Rattle.textwrap_patterns.specs.declared.letters.Letter.{Letter}
 
 -- ---- places
-
--- numbers of a range that pass a test
-pub places-filter : (test : ℕ → Bool) (len a n last : ℕ) → last < a → (0 < n → a + n ≤ len)
-    → AreNext (IsNextPlace len) (filter test (range_with_len a n)) last
-places-filter test len a zero last after room = tt
-places-filter test len a (suc n) last after room =
-    elim (test a) as (λ b. AreNext (IsNextPlace len)
-    (cond b (a ∷ filter test (range_with_len (a + 1) n)) (filter test (range_with_len
-    (a + 1) n))) last) [
-      | true ↦ (
-        (after, omega (arith, room (omega arith))),
-        places-filter test len (a + 1) n a (omega arith) (λ some. omega (
-          arith,
-          room
-              (omega arith),
-        )),
-      )
-      | false ↦ places-filter test len (a + 1) n last (omega arith)
-          (λ some. omega (arith, room (omega arith)))
-    ]
 
 pub places-below : (len last : ℕ) (places : List ℕ) → AreNext (IsNextPlace len) places last
     → All (λ place. place < len) places
@@ -59,8 +38,7 @@ places-below len last (place ∷ places) (here, rest) =
 next-lower : (len high low : ℕ) (places : List ℕ) → low ≤ high
     → AreNext (IsNextPlace len) places high → AreNext (IsNextPlace len) places low
 next-lower len high low [] le are = tt
-next-lower len high low (place ∷ places) le ((after, inside), rest) =
-    ((omega (arith, after, le), inside), rest)
+next-lower len high low (place ∷ places) le ((after, inside), rest) = grind arith
 
 -- numbers of a range that pass a test, before others
 places-before : (test : ℕ → Bool) (len a n last : ℕ) (others : List ℕ) → last < a
@@ -68,44 +46,25 @@ places-before : (test : ℕ → Bool) (len a n last : ℕ) (others : List ℕ) �
     → AreNext (IsNextPlace len) (filter test (range_with_len a n) ++ others) last
 places-before test len a zero last others after room more = more last (omega (arith, after))
 places-before test len a (suc n) last others after room more =
-    elim (test a) as (λ b. AreNext (IsNextPlace len)
-    (cond b (a ∷ filter test (range_with_len (a + 1) n)) (filter test (range_with_len
-    (a + 1) n)) ++ others) last) [
-      | true ↦ (
-        (after, omega (arith, room (omega arith))),
-        places-before test len (a + 1) n a others (omega arith)
-            (λ some. omega (arith, room (omega arith)))
-            (λ l below. more l (omega (arith, below))),
-      )
-      | false ↦ places-before test len (a + 1) n last others (omega (arith, after))
-          (λ some. omega (arith, room (omega arith)))
-          (λ l below. more l (omega (arith, below)))
-    ]
+    grind (arith, places-before test len (a + 1) n a others, places-before test len (a + 1) n last others)
+
+-- numbers of a range that pass a test
+pub places-filter : (test : ℕ → Bool) (len a n last : ℕ) → last < a → (0 < n → a + n ≤ len)
+    → AreNext (IsNextPlace len) (filter test (range_with_len a n)) last
+places-filter test len a n last after room =
+    subst (λ places. AreNext (IsNextPlace len) places last) (append-nil (filter test (range_with_len a n)))
+    (places-before test len a n last [] after room (λ l below. tt))
 
 pub joints-inner : (h : Hyphenation) (letters : List ℕ)
     → AreInnerPlaces (length letters) (joints_of h letters)
-joints-inner h letters =
-    places-filter (is_odd h.joint_from letters) (length letters) 1 (length letters - 1) 0
-    (omega arith) (λ some. omega arith)
+joints-inner h letters = grind (arith, places-filter)
 
 pub from-inner : (h : Hyphenation) (letters : List ℕ) (from : ℕ) (joints : List ℕ)
     → AreNext (IsNextPlace (length letters)) joints from
     → AreNext (IsNextPlace (length letters)) (places_from h letters from joints) from
-from-inner h letters from [] are =
-    places-filter (is_place h letters from (length letters)) (length letters) (from + 1)
-    (length letters - from - 1) from (omega arith) (λ some. omega (arith, some))
+from-inner h letters from [] are = grind (arith, places-filter)
 from-inner h letters from (joint ∷ joints) ((after, inside), rest) =
-    let len = length letters in
-    let later = from-inner h letters joint joints rest in
-    places-before (is_place h letters from joint) len (from + 1) (joint - from - 1) from
-    (filter (is_allowed h letters) (joint ∷ []) ++ places_from h letters joint joints)
-    (omega arith) (λ some. omega (arith, some, inside))
-    (λ l below. elim (is_allowed h letters joint) as (λ b. AreNext (IsNextPlace len)
-    (cond b (joint ∷ []) [] ++ places_from h letters joint joints) l) [
-      | true ↦ ((omega (arith, below, after), inside), later)
-      | false ↦ next-lower len joint l (places_from h letters joint joints)
-          (omega (arith, below, after)) later
-    ])
+    grind (arith, from-inner h letters joint joints rest, places-before, next-lower)
 
 pub by_patterns-inner : (h : Hyphenation) (letters : List ℕ)
     → AreInnerPlaces (length letters) (places_from h letters 0 (joints_of h letters))
@@ -124,9 +83,7 @@ exception-inner len (Some found) places all none = all
 
 pub places-inner : (h : Hyphenation) (letters : List ℕ) → AreInner h.exception
     → AreInnerPlaces (length letters) (places_of h letters)
-places-inner h letters inner =
-    exception-inner (length letters) (h.exception letters) _ (inner letters)
-    (by_patterns-inner h letters)
+places-inner h letters inner = grind (arith, exception-inner, by_patterns-inner)
 
 -- ---- where letters begin
 
@@ -179,8 +136,7 @@ stand-at : (text : List ℕ) (low : ℕ) (ats : List ℕ) (k : ℕ) → Stand te
 stand-at text low [] k stand within = absurd (omega arith)
 stand-at text low (at ∷ ats) zero (le, inside, boundary, rest) within = (le, inside, boundary)
 stand-at text low (at ∷ ats) (suc k) (le, inside, boundary, rest) within =
-    let later = stand-at text (suc at) ats k rest (omega arith) in
-    (omega (arith, le, later.0), later.1, later.2)
+    grind (arith, stand-at text (suc at) ats k rest)
 
 stand-rising : (text : List ℕ) (low : ℕ) (ats : List ℕ) (j k : ℕ) → Stand text low ats → j < k
     → k < length ats → get_or ats j 0 < get_or ats k 0
@@ -197,12 +153,7 @@ stand-split : (text : List ℕ) (low n : ℕ) (ats : List ℕ) → Stand text lo
 stand-split text low zero ats stand = (low, omega arith, All-nil (λ (at : ℕ). at < low), stand)
 stand-split text low (suc n) [] stand = (low, omega arith, All-nil (λ (at : ℕ). at < low), tt)
 stand-split text low (suc n) (at ∷ ats) (le, inside, boundary, rest) =
-    let more = stand-split text (suc at) n ats rest in (
-      more.0,
-      omega (arith, le, more.1),
-      All-cons (λ (a : ℕ). a < more.0) at (take n ats) (omega (arith, more.1)) more.2,
-      more.3,
-    )
+    grind (arith, stand-split text (suc at) n ats rest, All-cons)
 
 stand-take : (text : List ℕ) (low n : ℕ) (ats : List ℕ) → Stand text low ats
     → Stand text low (take n ats)
@@ -293,14 +244,7 @@ past-cuts h text (suc most) (c ∷ cs) low last inner fits le stand =
 
 pattern-cuts : (h : Hyphenation) (word : List ℕ) → IsUtf8 word → AreInner h.exception
     → AreInnerCuts word (pattern_points h (letters_of word))
-pattern-cuts h word utf8 inner =
-    elim (not h.in_parts && list_any (λ c. is_hyphen_character c.ch) (letters_of word))
-    as (λ b. AreInnerCuts word (cond b [] (points_past h 0 (letters_of word)))) [
-      | true ↦ tt
-      | false ↦ past-cuts h word (length (letters_of word)) (letters_of word) 0 0 inner
-          (omega arith)
-          (omega arith) (letters-stand word utf8)
-    ]
+pattern-cuts h word utf8 inner = grind (arith, past-cuts, letters-stand)
 
 -- places of letters, which increase, are cuts where the letters begin
 soft-cuts : (h : Hyphenation) (word : List ℕ) → IsUtf8 word
@@ -318,10 +262,4 @@ soft-cuts h word utf8 =
 
 pub points-cuts : (h : Hyphenation) (word : List ℕ) → IsUtf8 word → AreInner h.exception
     → AreInnerCuts word (hyphenation_points h word)
-points-cuts h word utf8 inner =
-    elim (length (soft_points h word (letters_of word)) == 0)
-    as (λ b. AreInnerCuts word
-    (cond b (pattern_points h (letters_of word)) (soft_points h word (letters_of word)))) [
-      | true ↦ pattern-cuts h word utf8 inner
-      | false ↦ soft-cuts h word utf8
-    ]
+points-cuts h word utf8 inner = grind (arith, pattern-cuts, soft-cuts)

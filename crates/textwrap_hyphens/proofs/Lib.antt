@@ -1,6 +1,5 @@
 pub mod Common
 pub mod FewLetters
-pub mod Greatest
 pub mod Held
 pub mod InnerPoints
 pub mod Lookups

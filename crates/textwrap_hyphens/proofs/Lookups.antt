@@ -1,5 +1,5 @@
 -- How often letters are looked up.
-use Rattle.textwrap_hyphens.proofs.Common.{arith, cases_lt, min, ⊎_elim, ℕ, ◌+◌, ◌-◌, ◌<◌, ◌≡◌}
+use Rattle.textwrap_hyphens.proofs.Common.{arith, min, ℕ, ◌+◌, ◌-◌}
 use Rattle.textwrap_hyphens.proofs.Common.{◌≤◌}
 use Rattle.textwrap_text.proofs.Common.{◌*◌}
 use Rattle.textwrap_base.specs.Minima.{counted}
@@ -12,14 +12,4 @@ counted-both first then last a b all one two sum = omega (arith, one, two, sum)
 -- the look-ups at one place more, of which the last has no letter
 pub lookups-more : (at len most : ℕ)
     → min at len * most + min (len - at) most ≤ min (at + 1) len * most
-lookups-more at len most = ⊎_elim {C = min at len * most + min (len - at) most
-    ≤ min (at + 1) len * most}
-    (λ (lt : at < len).
-    let one : min at len ≡ at = omega (arith, lt) in
-    let next : min (at + 1) len ≡ at + 1 = omega (arith, lt) in
-    rw (one, next) (omega arith))
-    (λ (le : len ≤ at).
-    let one : min at len ≡ len = omega (arith, le) in
-    let next : min (at + 1) len ≡ len = omega (arith, le) in
-    rw (one, next) (omega (arith, le)))
-    (cases_lt at len)
+lookups-more at len most = grind arith

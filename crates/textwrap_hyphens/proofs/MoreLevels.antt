@@ -1,10 +1,9 @@
 -- Patterns among others have levels that are no higher.
 use Rattle.std.specs.Prelude.{Contains}
 use Rattle.textwrap_text.proofs.Lists.Elements.{contains-cases, contains-nil}
-use Rattle.textwrap_hyphens.proofs.Common.{List, ℕ, ◌≤◌, ◌∷◌, [], ◌-◌, All, All-head, All-tail, ap}
-use Rattle.textwrap_hyphens.proofs.Common.{arith, drop, inl, inr, map, suc}
+use Rattle.textwrap_hyphens.proofs.Common.{List, ℕ, ◌≤◌, ◌∷◌, [], All, All-head, All-tail, ap}
+use Rattle.textwrap_hyphens.proofs.Common.{arith, inl, inr, map}
 use Rattle.textwrap_hyphens.proofs.Common.{PatternText, greatest, level, pattern_level_from, level_in}
-use Rattle.textwrap_hyphens.proofs.Common.{range_with_len}
 
 level-among : (others : List PatternText) (p : PatternText) (text : List ℕ) (place : ℕ)
     → Contains others p → level_in p text place ≤ pattern_level_from others text place
@@ -35,7 +34,4 @@ pub level-more : (patterns others : List PatternText) (dotted : List ℕ) (place
     → All (λ p. Contains others p) patterns
     → level (pattern_level_from patterns) dotted place ≤ level (pattern_level_from others) dotted place
 level-more patterns others dotted place all =
-    greatest-each (λ at. pattern_level_from patterns (drop at dotted) (place - at))
-    (λ at. pattern_level_from others (drop at dotted) (place - at))
-    (λ at. level_from-more patterns others (drop at dotted) (place - at) all)
-    (range_with_len 0 (suc place))
+    grind (arith, greatest-each, pattern_level_from, level_from-more)

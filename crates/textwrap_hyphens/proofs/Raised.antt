@@ -22,8 +22,7 @@ numbers-before : (f : ℕ → ℕ) (n m : ℕ) → n ≡ m
 numbers-before f n m same = ap (λ l. greatest (map f (range_with_len 0 l))) same
 
 pub before-none : (from : Levels) (dotted : List ℕ) (k : ℕ) → level_before from dotted 0 k ≡ 0
-before-none from dotted k =
-    numbers-before (λ at. from (drop at dotted) (k - at)) (min 0 (suc k)) 0 (omega arith)
+before-none from dotted k = grind (arith, numbers-before, dotted)
 
 pub before-here : (from : Levels) (dotted : List ℕ) (at k : ℕ) → at ≤ k
     → level_before from dotted (at + 1) k
@@ -38,13 +37,11 @@ before-here from dotted at k le =
 
 pub before-past : (from : Levels) (dotted : List ℕ) (at k : ℕ) → k < at
     → level_before from dotted (at + 1) k ≡ level_before from dotted at k
-before-past from dotted at k past = numbers-before (λ n. from (drop n dotted) (k - n))
-    (min (at + 1) (suc k)) (min at (suc k)) (omega arith)
+before-past from dotted at k past = grind (arith, numbers-before, dotted)
 
 pub before-all : (from : Levels) (dotted : List ℕ) (n k : ℕ) → k < n
     → level_before from dotted n k ≡ level from dotted k
-before-all from dotted n k within = numbers-before (λ n. from (drop n dotted) (k - n))
-    (min n (suc k)) (suc k) (omega arith)
+before-all from dotted n k within = grind (arith, numbers-before, dotted)
 
 -- levels that were 0, once all are raised
 pub levels-all : (from : Levels) (letters ds zeros now : List ℕ) → ds ≡ dotted letters
@@ -52,17 +49,13 @@ pub levels-all : (from : Levels) (letters ds zeros now : List ℕ) → ds ≡ do
     → length now ≡ length zeros
     → ((k : ℕ) → k < length zeros → get_or now k 0 ≡ max (get_or zeros k 0) (level from ds k))
     → now ≡ levels_of from letters
-levels-all from letters ds zeros now are len none same raised =
-    let f = level from (dotted letters) in
-    let all : length zeros ≡ length letters + 3 =
-    omega (arith, len, ap length are, length-append letters (46 ∷ [])) in
-    same_number_lists now (levels_of from letters)
-    (omega (arith, same, all, length-map-range_with_len f 0 (length letters + 3)))
-    (λ k within.
-    let inside : k < length zeros = omega (arith, within, same) in
-    let here = get_or-map-range_with_len f 0 (length letters + 3) k k 0 (omega arith)
-    (omega arith) in
-    let value : level from ds k ≡ f k = ap (λ l. level from l k) are in
-    let zero = none k inside in
-    let new = raised k inside in
-    omega (arith, zero, new, value, here))
+levels-all from letters ds zeros now are len none same raised = grind (
+  arith,
+  level,
+  dotted,
+  length-append,
+  same_number_lists,
+  levels_of,
+  length-map-range_with_len,
+  get_or-map-range_with_len,
+)

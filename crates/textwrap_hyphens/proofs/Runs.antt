@@ -1,5 +1,5 @@
 -- The runs of letters, one after another.
-use Rattle.textwrap_hyphens.proofs.Common.{List, ℕ, ◌≡◌, ◌-◌, ◌≤◌, ◌<◌, ◌++◌, ◌∷◌, [], ◌∙◌, ap}
+use Rattle.textwrap_hyphens.proofs.Common.{List, ℕ, ◌≡◌, ◌≤◌, ◌<◌, ◌++◌, ◌∷◌, []}
 use Rattle.textwrap_hyphens.proofs.Common.{arith, drop, length, take, zero, suc, true, false, refl}
 use Rattle.textwrap_hyphens.proofs.Common.{get_or}
 use Rattle.textwrap_hyphens.proofs.Common.{cases_Bool}
@@ -24,13 +24,7 @@ pub past-letter : (h : Hyphenation) (cs : List Letter) (d : Letter) → 0 < leng
     ≡ points_in h (take (run_len cs) cs) ++ points_past h 0 (drop (run_len cs) cs))
     × (0 < run_len cs)
 past-letter h [] d some is = absurd (omega arith)
-past-letter h (c ∷ cs) d some is =
-    let less : suc (run_len cs) - 1 ≡ run_len cs = omega arith in
-    rw is (
-      ap (λ l. points_in h (take (suc (run_len cs)) (c ∷ cs)) ++ l)
-          (ap (λ n. points_past h n cs) less ∙ past-drop h (run_len cs) cs),
-      omega arith,
-    )
+past-letter h (c ∷ cs) d some is = grind (arith, past-drop h (run_len cs) cs)
 
 pub past-other : (h : Hyphenation) (cs : List Letter) (d : Letter) → 0 < length cs
     → is_letter_or_mark (get_or cs 0 d).ch ≡ false → points_past h 0 cs ≡ points_past h 0 (drop 1 cs)

@@ -8,7 +8,7 @@ use Rattle.textwrap_words.specs.Cuts.{AreCuts, AreInnerCuts, AreNext, IsNextCut}
 use Rattle.textwrap_words.proofs.Common.{AreSplit, WordText, cut_penalty, piece, split_from}
 use Rattle.textwrap_words.proofs.Common.{ends_in_hyphen, split_pieces}
 use Rattle.textwrap_words.specs.WordSplitters.{hyphen}
-use Rattle.textwrap_text.proofs.Common.{cond, false, inl, inr, refl, take, true, ◌<◌, ◌≡◌, ◌⊎◌}
+use Rattle.textwrap_text.proofs.Common.{inl, ◌<◌, ◌≡◌, ◌⊎◌}
 use Rattle.textwrap_words.proofs.Word.{Cuts.inner-cuts}
 use Rattle.textwrap_words.proofs.Word.Words.{HasNoPenalty, IsMeasured}
 use Rattle.textwrap_hyphens.proofs.InnerPoints.{points-cuts}
@@ -41,8 +41,7 @@ module _ (P : WordText → Type 0)
     → P (piece (slice_range w.word start point) [] (cut_penalty w.word point))) where
   split_from-all : (w : WordText) (start : ℕ) (points : List ℕ) → HasNoPenalty w
       → AreNext (IsNextCut w.word) points start → All P (split_from w start points)
-  split_from-all w start [] none are =
-      All-cons P (piece (drop start w.word) w.whitespace w.penalty) [] (last w start none) (All-nil P)
+  split_from-all w start [] none are = grind (arith, All-cons, piece, All-nil)
   split_from-all w start (point ∷ points) none ((after, inside, at), rest) =
       All-cons P (piece (slice_range w.word start point) [] (cut_penalty w.word point))
       (split_from w point points) (inner w start point after inside)
@@ -71,12 +70,7 @@ HasHyphenAtMost w = (w.penalty ≡ []) ⊎ (w.penalty ≡ hyphen ∷ [])
 
 cut_penalty-cases : (text : List ℕ) (point : ℕ)
     → (cut_penalty text point ≡ []) ⊎ (cut_penalty text point ≡ hyphen ∷ [])
-cut_penalty-cases text point =
-    elim (ends_in_hyphen (take point text)) as (λ b. (cond b [] (hyphen ∷ []) ≡ [])
-    ⊎ (cond b [] (hyphen ∷ []) ≡ hyphen ∷ [])) [
-      | true ↦ inl refl
-      | false ↦ inr refl
-    ]
+cut_penalty-cases text point = grind (arith, ends_in_hyphen)
 
 module _ (patterns : PatternTable) (words pieces : List WordText) (measured : All IsMeasured words)
     (plain : All HasNoPenalty words)

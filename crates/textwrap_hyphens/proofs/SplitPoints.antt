@@ -66,11 +66,7 @@ tests-all text test zero last [] are far near same = refl
 tests-all text test zero last (point ∷ points) ((after, inside, boundary), rest) far near same =
     absurd (omega (arith, after, inside, far))
 tests-all text test (suc n) last [] are far near same =
-    let inside : last + 1 < length text = omega (arith, near (omega arith)) in
-    rw (same (last + 1) (omega arith) inside)
-    (tests-all text test n (last + 1) [] tt (omega (arith, far))
-    (λ some. omega (arith, near (omega arith)))
-    (λ at after within. same at (omega (arith, after)) within))
+    grind (arith, tests-all text test n (last + 1) [] tt)
 tests-all text test (suc n) last (point ∷ points) ((after, inside, boundary), rest) far near same =
     let room : last + 1 < length text = omega (arith, near (omega arith)) in
     let is : test (last + 1) ≡ among (point ∷ points) (last + 1) =
@@ -99,10 +95,7 @@ tests-all text test (suc n) last (point ∷ points) ((after, inside, boundary), 
 -- a hyphen's point is among them
 pub own-among : (text : List ℕ) (at : ℕ) → 0 < at → at < length text
     → among (hyphen_points text) at ≡ is_hyphen_point text at
-own-among text at some inside =
-    any-filter_same (λ point. point == at) (is_hyphen_point text) (is_hyphen_point text at)
-    (λ point here. ap (is_hyphen_point text) (eqb-true point at here)) (inner_offsets text)
-    ∙ both
+own-among text at some inside = grind (arith, any-filter_same, is_hyphen_point, eqb-true, here, both)
   where
     here : among (inner_offsets text) at ≡ true
     here = list_any_at (λ point. point == at) (inner_offsets text) (at - 1) 0
@@ -114,14 +107,11 @@ own-among text at some inside =
     both = rw here (and-true (is_hyphen_point text at))
 
 pub own-inner : (text : List ℕ) → IsUtf8 text → AreInnerCuts text (hyphen_points text)
-own-inner text utf8 =
-    tests-cut text (is_hyphen_point text) (λ at some inside is.
-    after-hyphen text at utf8 some inside is) (length text - 1) 1 0 (omega arith) (omega arith)
+own-inner text utf8 = grind (arith, tests-cut, is_hyphen_point, after-hyphen)
 
 pub inner-increasing : (text cuts : List ℕ) → AreInnerCuts text cuts → IsStrictlyIncreasing cuts
 inner-increasing text [] are k within = absurd (omega (arith, within))
-inner-increasing text (cut ∷ cuts) (here, rest) k within =
-    next-increasing (IsNextCut text) cuts cut (λ before after next. next.0) rest k within
+inner-increasing text (cut ∷ cuts) (here, rest) k within = grind (arith, next-increasing)
 
 module _ (h : Hyphenation) (text : List ℕ) (inner : AreInnerCuts text (hyphenation_points h text)) where
   split-between : IsUtf8 text → HoldsBetween (is_split_point h text) text
@@ -132,9 +122,7 @@ module _ (h : Hyphenation) (text : List ℕ) (inner : AreInnerCuts text (hyphena
       ]
 
   pub split-inner : IsUtf8 text → AreInnerCuts text (split_points h text)
-  split-inner utf8 =
-      tests-cut text (is_split_point h text) (split-between utf8) (length text - 1) 1 0 (omega arith)
-      (omega arith)
+  split-inner utf8 = grind (arith, tests-cut, split-between)
 
   -- a word without hyphens of its own has the points of the dictionary
   pub split-plain : hyphen_points text ≡ [] → split_points h text ≡ hyphenation_points h text
@@ -152,6 +140,4 @@ pub split-more : (h : Hyphenation) (text : List ℕ) (point : ℕ) (items more :
     → b ≡ (among (hyphenation_points h text) point || among (hyphen_points text) point)
     → more ≡ cond b (items ++ point ∷ []) items
     → more ≡ filter (is_split_point h text) (range_with_len 1 (point + 1 - 1))
-split-more h text point items more b some inside so_far is grown =
-    points-more (is_split_point h text) point items more b some so_far
-    (is ∙ ap (λ own. among (hyphenation_points h text) point || own) (own-among text point some inside)) grown
+split-more h text point items more b some inside so_far is grown = grind (arith, points-more, own-among)

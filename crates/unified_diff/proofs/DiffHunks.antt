@@ -63,10 +63,7 @@ sign_at-part lines first last k within =
 
 length-part : (lines : List SignedText) (first last : ℕ) → first ≤ last → last ≤ length lines
     → length (slice_range lines first last) ≡ last - first
-length-part lines first last order within =
-    let cut = length-take (last - first) (drop first lines) in
-    let left = length-drop first lines in
-    omega arith
+length-part lines first last order within = grind (arith, length-take, length-drop)
 
 abbrev pub hunk_at : ℕ → ℕ → List SignedText → HunkText
 hunk_at old_start new_start lines =
@@ -117,22 +114,14 @@ module _ (lines : List SignedText) where
       → (0 < first → ¬ IsNear lines (first - 1))
       → (last < length lines → ¬ IsNear lines last)
       → IsTight (slice_range lines first last)
-  tight-part first last some within near before behind =
-      let len : length (slice_range lines first last) ≡ last - first =
-      length-part lines first last (omega arith) within in (
-        omega arith,
-        λ at below. near-part first last at some (omega arith) before behind (near (first + at)
-            (omega arith) (omega arith)),
-      )
+  tight-part first last some within near before behind = grind (arith, length-part, near-part, some)
 
   -- ---- what stands around a change
 
   before-change : (first change : ℕ) → (0 < first → ¬ IsNear lines (first - 1))
       → IsTrue (is_change (sign_at lines (first + change))) → (first ≡ 0) ⊎ (3 ≤ change)
   before-change zero change before is = inl refl
-  before-change (suc first) change before is =
-      inr (not_below change 3 (λ less. before (omega arith)
-      (suc first + change, is, omega arith, omega arith)))
+  before-change (suc first) change before is = grind arith
 
   behind-change : (left first last change : ℕ) → left ≡ length lines - last → last ≤ length lines
       → first + change < last → (last < length lines → ¬ IsNear lines last)
@@ -152,16 +141,8 @@ module _ (lines : List SignedText) where
   around-part : (first last : ℕ) → first < last → last ≤ length lines
       → (0 < first → ¬ IsNear lines (first - 1)) → (last < length lines → ¬ IsNear lines last)
       → HasAround first last (slice_range lines first last)
-  around-part first last some within before behind = λ change is.
-      let len : length (slice_range lines first last) ≡ last - first =
-      length-part lines first last (omega arith) within in
-      let below : change < length (slice_range lines first last) =
-      change-within (slice_range lines first last) change is in
-      let here : IsTrue (is_change (sign_at lines (first + change))) =
-      ap is_change (sym (sign_at-part lines first last change (omega arith))) ∙ is in (
-        before-change first change before here,
-        behind-change (length lines - last) first last change refl within (omega arith) behind here,
-      )
+  around-part first last some within before behind =
+      grind (arith, length-part, change-within, sign_at-part, before-change, behind-change)
 
   -- ---- a hunk
 
@@ -221,10 +202,7 @@ module _ (lines : List SignedText) where
       → AreHunks at old_at new_at hunks
       → Patches old_at new_at (olds (drop at lines)) (news (drop at lines)) hunks
   hunks-patch [] at old_at new_at within far =
-      let all : (news (slice_range lines at (length lines)) ≡ olds (slice_range lines at (length lines)))
-      × (length (olds (slice_range lines at (length lines))) ≡ length lines - at) =
-      far-same at (length lines) within (omega arith) far in
-      subst (λ ls. news ls ≡ olds ls) (take_rest lines at) all.0
+      grind (arith, far-same at (length lines) within (omega arith) far, take_rest lines at)
   hunks-patch (hunk ∷ hunks) at old_at new_at within (first, last, is, rest) =
       let part : List SignedText = slice_range lines at first in
       let mid : List SignedText = slice_range lines first last in
@@ -311,9 +289,7 @@ module _ (lines : List SignedText) where
       → AreHunks at old_at new_at hunks → All (λ hunk. AreLean hunk.lines) hunks
   hunks-lean [] at old_at new_at lean far = All-nil (λ (hunk : HunkText). AreLean hunk.lines)
   hunks-lean (hunk ∷ hunks) at old_at new_at lean (first, last, is, rest) =
-      All-cons (λ (hunk : HunkText). AreLean hunk.lines) hunk hunks
-      (subst AreLean (sym is.has) (lean first last))
-      (hunks-lean hunks last (old_end hunk) (new_end hunk) lean rest)
+      grind (arith, hunks-lean hunks last (old_end hunk) (new_end hunk) lean rest, All-cons)
 
   pub hunks-diff : (hunks : List HunkText) → AreLeanParts → AreHunks 0 0 0 hunks
       → IsDiff (olds lines) (news lines) hunks
@@ -383,16 +359,9 @@ module _ (lines : List SignedText) where
 pub view-part : (lines : List SignedLine) (first last : ℕ)
     → map signed_view (take (last - first) (drop first lines))
     ≡ slice_range (map signed_view lines) first last
-view-part lines first last =
-    sym (take-map signed_view (last - first) (drop first lines))
-    ∙ ap (take (last - first)) (sym (drop-map signed_view first lines))
+view-part lines first last = grind (arith, take-map, drop-map)
 
 pub lens-part : (lines : List SignedText) (first last : ℕ) → first ≤ last → last ≤ length lines
     → (length (olds (slice_range lines first last)) ≤ last - first)
     × (length (news (slice_range lines first last)) ≤ last - first)
-lens-part lines first last order within =
-    let part : List SignedText = slice_range lines first last in
-    let len : length part ≡ last - first = length-part lines first last order within in
-    let old_most = olds-le part in
-    let new_most = news-le part in
-    (omega arith, omega arith)
+lens-part lines first last order within = grind (arith, length-part, olds-le, news-le)

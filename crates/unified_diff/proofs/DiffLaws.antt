@@ -85,8 +85,7 @@ pub lead-on : DiffsLeadOn
 lead-on old new hunks is = patches-patched hunks 0 0 old new is.patches
 
 pub lead-back : DiffsLeadBack
-lead-back old new hunks is =
-    patches-patched (map turned hunks) 0 0 new old (patches-turned hunks 0 0 old new is.patches)
+lead-back old new hunks is = grind (arith, patches-patched, patches-turned)
 
 pub are-lines : TextsAreTheirLines
 are-lines text = ended_parts-flat text

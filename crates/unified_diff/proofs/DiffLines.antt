@@ -1,12 +1,11 @@
 -- The lines of a text, lines with signs, those that either text has, and where they change.
 use Rattle.std.proofs.Math.Bool.{beq}
-use Rattle.std.proofs.Common.{◌≡◌, ◌≢◌, ◌∙◌, ap, ap₂, refl, sym, ℕ, zero, suc, ◌+◌, ◌-◌, ◌<◌}
+use Rattle.std.proofs.Common.{◌≡◌, ◌≢◌, ◌∙◌, ap, refl, sym, ℕ, zero, suc, ◌+◌, ◌-◌, ◌<◌}
 use Rattle.std.proofs.Common.{◌≤◌, arith, Bool, true, false}
 use Rattle.std.proofs.Common.{List, [], ◌∷◌, ◌++◌, length, take, drop, map, get_or}
-use Rattle.std.proofs.Common.{Bor, IsTrue, cond, not}
+use Rattle.std.proofs.Common.{Bor, IsTrue, not}
 use Rattle.std.proofs.lemmas.Slice.Eq.{bytes_eq-Decides}
 use Rattle.std.specs.Str.{bytes_eq}
-use Rattle.std.proofs.lemmas.Bool.{false≢true}
 use Rattle.std.proofs.lemmas.List.{drop-map, get_or-map, take_more_same, take_rest}
 use Rattle.std.proofs.lemmas.List.{append-nil, append_assoc, length-map, map-append, take-map}
 use Rattle.std.proofs.lemmas.List.Sums.{count_by-le-length, length-filter}
@@ -65,14 +64,10 @@ change-within (line ∷ lines) (suc k) is = let rest = change-within lines k is 
 -- ---- the lines of either text
 
 pub olds-append : (xs ys : List SignedText) → olds (xs ++ ys) ≡ olds xs ++ olds ys
-olds-append xs ys =
-    ap (map (λ s. s.line)) (filter-append (λ s. is_old s.sign) xs ys)
-    ∙ map-append (λ s. s.line) (filter (λ s. is_old s.sign) xs) (filter (λ s. is_old s.sign) ys)
+olds-append xs ys = grind (arith, filter-append, map-append)
 
 pub news-append : (xs ys : List SignedText) → news (xs ++ ys) ≡ news xs ++ news ys
-news-append xs ys =
-    ap (map (λ s. s.line)) (filter-append (λ s. is_new s.sign) xs ys)
-    ∙ map-append (λ s. s.line) (filter (λ s. is_new s.sign) xs) (filter (λ s. is_new s.sign) ys)
+news-append xs ys = grind (arith, filter-append, map-append)
 
 pub olds-kept : (lines : List (List ℕ)) → olds (map (signed_text Kept) lines) ≡ lines
 olds-kept [] = refl
@@ -104,22 +99,12 @@ filter-view : (p : Sign → Bool) (lines : List SignedLine)
     → filter (λ s. p s.sign) (map signed_view lines)
     ≡ map signed_view (filter (λ line. p line.sign) lines)
 filter-view p [] = refl
-filter-view p (line ∷ lines) =
-    elim (p line.sign) as (λ b. cond b (signed_view line ∷ filter (λ s. p s.sign)
-    (map signed_view lines)) (filter (λ s. p s.sign) (map signed_view lines))
-    ≡ map signed_view (cond b (line ∷ filter (λ l. p l.sign) lines) (filter (λ l. p l.sign) lines))) [
-      | true ↦ ap (λ ls. signed_view line ∷ ls) (filter-view p lines)
-      | false ↦ filter-view p lines
-    ]
+filter-view p (line ∷ lines) = grind (arith, filter-view p lines)
 
 count_signs : (p : Sign → Bool) (lines : List SignedLine)
     → count_by (λ line. p line.sign) lines
     ≡ length (map (λ s. s.line) (filter (λ s. p s.sign) (map signed_view lines)))
-count_signs p lines =
-    sym (length-filter (λ line. p line.sign) lines)
-    ∙ sym (length-map (filter (λ line. p line.sign) lines) signed_view)
-    ∙ ap length (sym (filter-view p lines))
-    ∙ sym (length-map (filter (λ s. p s.sign) (map signed_view lines)) (λ s. s.line))
+count_signs p lines = grind (arith, length-filter, length-map, filter-view)
 
 pub count_olds : (lines : List SignedLine)
     → count_by (λ line. is_old line.sign) lines ≡ length (olds (map signed_view lines))
@@ -132,11 +117,7 @@ count_news lines = count_signs is_new lines
 -- both have at most all of them
 signs-le : (p : Sign → Bool) (lines : List SignedText)
     → length (map (λ s. s.line) (filter (λ s. p s.sign) lines)) ≤ length lines
-signs-le p lines =
-    let counted = length-map (filter (λ s. p s.sign) lines) (λ s. s.line)
-    ∙ length-filter (λ s. p s.sign) lines in
-    let most = count_by-le-length (λ s. p s.sign) lines in
-    omega arith
+signs-le p lines = grind (arith, length-map, length-filter, count_by-le-length)
 
 pub olds-le : (lines : List SignedText) → length (olds lines) ≤ length lines
 olds-le lines = signs-le is_old lines
@@ -152,8 +133,7 @@ pub olds-grown : (old after removed_too all : List SignedText) (kept removed add
     → all ≡ removed_too ++ map (signed_text Added) added
     → olds all ≡ olds old ++ (kept ++ removed)
 olds-grown old after removed_too all kept removed added a b c =
-    rw (c, olds-append, olds-added, append-nil, b, olds-append, olds-removed, a, olds-append, olds-kept)
-    (append_assoc (olds old) kept removed)
+    grind (arith, olds-append, olds-added, append-nil, olds-removed, olds-kept, append_assoc)
 
 pub news-grown : (old after removed_too all : List SignedText) (kept removed added : List (List ℕ))
     → after ≡ old ++ map (signed_text Kept) kept
@@ -161,18 +141,14 @@ pub news-grown : (old after removed_too all : List SignedText) (kept removed add
     → all ≡ removed_too ++ map (signed_text Added) added
     → news all ≡ news old ++ (kept ++ added)
 news-grown old after removed_too all kept removed added a b c =
-    rw (c, news-append, news-added, b, news-append, news-removed, append-nil, a, news-append, news-kept)
-    (append_assoc (news old) kept added)
+    grind (arith, news-append, news-added, news-removed, append-nil, news-kept, append_assoc)
 
 -- the first lines of two lists, read one after the other
 pub taken-lines : (lines : List (Bor (List ℕ))) (kept changed : ℕ)
     → map (λ line. line.now) (take kept lines)
     ++ map (λ line. line.now) (take changed (drop kept lines))
     ≡ take (kept + changed) (map (λ line. line.now) lines)
-taken-lines lines kept changed =
-    sym (map-append (λ line. line.now) (take kept lines) (take changed (drop kept lines)))
-    ∙ ap (map (λ line. line.now)) (sym (take-add kept changed lines))
-    ∙ sym (take-map (λ line. line.now) (kept + changed) lines)
+taken-lines lines kept changed = grind (arith, map-append, take-add, take-map)
 
 -- ---- lines near a change
 
@@ -205,10 +181,7 @@ pub taken-same : (old new : List (Bor (List ℕ))) (kept changed : ℕ)
     → map (λ line. line.now) (take kept old)
     ++ map (λ line. line.now) (take changed (drop kept new))
     ≡ take (kept + changed) (map (λ line. line.now) new)
-taken-same old new kept changed same =
-    ap (λ ls. ls ++ map (λ line. line.now) (take changed (drop kept new)))
-    (sym (take-map (λ line. line.now) kept old) ∙ same ∙ take-map (λ line. line.now) kept new)
-    ∙ taken-lines new kept changed
+taken-same old new kept changed same = grind (arith, take-map, taken-lines)
 
 -- lines that were taken, and those behind them
 pub taken-further : (lines : List (Bor (List ℕ))) (at more : ℕ) (before after : List (List ℕ))
@@ -216,12 +189,7 @@ pub taken-further : (lines : List (Bor (List ℕ))) (at more : ℕ) (before afte
     → after ≡ before
     ++ take more (map (λ line. line.now) (take (length lines - at) (drop at lines)))
     → after ≡ take (at + more) (map (λ line. line.now) lines)
-taken-further lines at more before after was is =
-    let rest : map (λ line. line.now) (take (length lines - at) (drop at lines))
-    ≡ drop at (map (λ line. line.now) lines) =
-    ap (map (λ line. line.now)) (take_rest lines at) ∙ sym (drop-map (λ line. line.now) at lines) in
-    is ∙ ap₂ (λ ls ms. ls ++ take more ms) was rest
-    ∙ sym (take-add at more (map (λ line. line.now) lines))
+taken-further lines at more before after was is = grind (arith, take_rest, drop-map, take-add)
 
 -- ---- lines at places
 
@@ -229,8 +197,4 @@ pub other-at : (old new : List (Bor (List ℕ))) (n : ℕ) (none : Bor (List ℕ
     → n < length old → n < length new
     → bytes_eq (get_or old n none).now (get_or new n none).now ≡ false
     → ¬ AreSameAt (map (λ l. l.now) old) n (map (λ l. l.now) new) n
-other-at old new n none in_old in_new differ same =
-    let equal = (bytes_eq-Decides (get_or old n none).now (get_or new n none).now).1
-    (sym (get_or-map (λ l. l.now) old n none [] in_old) ∙ sym same.1.1
-    ∙ get_or-map (λ l. l.now) new n none [] in_new) in
-    false≢true (sym differ ∙ equal)
+other-at old new n none in_old in_new differ same = grind (arith, bytes_eq-Decides, get_or-map)

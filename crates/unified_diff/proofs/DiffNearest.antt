@@ -1,26 +1,16 @@
 -- The nearest line that two lists have, found by where lines stand first.
 use Rattle.std.proofs.Common.{◌≡◌, ◌∙◌, ap, refl, sym, subst, ℕ, ◌+◌, ◌<◌, ◌≤◌, arith}
-use Rattle.std.proofs.Common.{◌⊎◌, inl, ⊎_elim, List, [], length, map, get_or}
+use Rattle.std.proofs.Common.{◌⊎◌, ⊎_elim, List, [], length, map, get_or}
 use Rattle.std.proofs.Common.{Bool, cond, is_some, bytes_eq}
 use Rattle.std.proofs.lemmas.Slice.Eq.{bytes_eq-Decides}
 use Rattle.std.proofs.Common.{Bor, IfSome, IsSomeAnd, Option, Some, None, true, false}
-use Rattle.std.proofs.lemmas.Bool.{cases_Bool, cases_lt, false≢true, lt-ltb, ltb-true}
+use Rattle.std.proofs.lemmas.Bool.{cases_Bool, cases_lt, false≢true, lt-ltb}
 use Rattle.std.proofs.lemmas.List.{get_or-map, length-map}
-use Rattle.std.specs.Prelude.{nat_lt}
 use Rattle.unified_diff.specs.Differences.{AreSameAt, AreSameOrAll, HasFirstPlaces, IsLineAt}
 use Rattle.unified_diff.specs.Differences.{IsNearestBefore, place_of}
 use Rattle.unified_diff.proofs.DiffHunks.{not_below}
 
 -- ---- where lines stand first
-
-of_some : {A : Type 0} (found : Option A) (P Q : A → Type 0) → ((a : A) → P a → Q a) → IfSome found P
-    → IfSome found Q
-of_some None P Q more is = tt
-of_some (Some a) P Q more is = more a is
-
-pub at_some : {A : Type 0} (found : Option A) (P : A → Type 0) (a : A) → found ≡ Some a → IfSome found P
-    → P a
-at_some found P a same is = subst (λ o. IfSome o P) same is
 
 -- what holds of what is there
 pub with_some : {A : Type 0} (found : Option A) (P Q : A → Type 0) (R : Type 0)
@@ -30,20 +20,9 @@ with_some (Some a) P Q R both holds is = both a holds is
 
 module _ (lines others : List (List ℕ)) (place : List ℕ → Option ℕ) (n : ℕ)
     (are : HasFirstPlaces others n place) where
-  pub found-there : (at : ℕ) → IfSome (place_of place lines at)
-      (λ k. (k < n) × AreSameAt lines at others k)
-  found-there at =
-      ⊎_elim
-      (λ yes. rw (yes) (of_some (place (get_or lines at [])) (λ k. (k < n) × IsLineAt others k (get_or lines at []))
-      (λ k. (k < n) × AreSameAt lines at others k)
-      (λ k is. (is.0, (ltb-true at (length lines) yes, is.1))) (are.found (get_or lines at []))))
-      (λ differ. rw (differ) tt)
-      (cases_Bool (nat_lt at (length lines)))
-
   pub first-there : (at k : ℕ) → k < n → AreSameAt lines at others k
       → IsSomeAnd (place_of place lines at) (λ found. found ≤ k)
-  first-there at k below same =
-      rw (lt-ltb at (length lines) same.0) (are.first (get_or lines at []) k below same.1)
+  first-there at k below same = grind (arith, lt-ltb)
 
 -- ---- noted one after another
 
@@ -56,35 +35,18 @@ pub line-found : (lines : List (Bor (List ℕ))) (at : ℕ) (found : Bor (List �
     → found ≡ get_or lines at found
     → (at < length (map (λ line. line.now) lines))
     × (get_or (map (λ line. line.now) lines) at [] ≡ found.now)
-line-found lines at found within here = (
-  rw length-map within,
-  get_or-map (λ line. line.now) lines at found [] within ∙ ap (λ line. line.now) (sym here),
-)
+line-found lines at found within here = grind (arith, length-map, get_or-map)
 
 module _ (lines : List (List ℕ)) (at : ℕ) (place : List ℕ → Option ℕ) (are : HasFirstPlaces lines at place)
   where
     found-still : (line : List ℕ) → IfSome (place line) (λ k. (k < at + 1) × IsLineAt lines k line)
-    found-still line =
-        of_some (place line) (λ k. (k < at) × IsLineAt lines k line)
-        (λ k. (k < at + 1) × IsLineAt lines k line) (λ k is. (omega (arith, is.0), is.1)) (are.found line)
+    found-still line = grind arith
 
     -- one that stands at an earlier place
     pub noted-again : (found : Option ℕ) → place (get_or lines at []) ≡ found → is_some found ≡ true
         → HasFirstPlaces lines (at + 1) place
     noted-again None same is = absurd (false≢true is)
-    noted-again (Some earlier) same is = record {
-      found = found-still;
-      first = λ line k below here.
-          ⊎_elim (λ before. are.first line k before here)
-          (λ past. let there : k ≡ at = omega (arith, past, below) in
-          let at_line : place line ≡ Some earlier =
-          ap place (sym here.1 ∙ ap (λ n. get_or lines n []) there) ∙ same in
-          let before : earlier < at = (at_some (place line) (λ k. (k < at) × IsLineAt lines k line) earlier
-          at_line (are.found line)).0 in
-          let within : earlier ≤ k = omega (arith, before, there) in
-          rw (at_line) within)
-          (cases_lt k at);
-    }
+    noted-again (Some earlier) same is = grind arith
 
     -- a new one
     pub noted-new : (line : List ℕ) (next : List ℕ → Option ℕ) → at < length lines
@@ -126,25 +88,13 @@ module _ (old new : List (List ℕ)) (at : ℕ) (in_old in_new : List ℕ → Op
       → ((next_removed ≡ removed) × (next_added ≡ added))
       ⊎ ((next_removed ≡ at) × (place_of in_new old at ≡ Some next_added))
       → AreSameOrAll old next_removed new next_added
-  same-old removed added next_removed next_added same one =
-      ⊎_elim
-      (λ stays. rw (stays.0, stays.1) same)
-      (λ there. rw (there.0) (inl (at_some (place_of in_new old at)
-      (λ k. (k < at + 1) × AreSameAt old at new k) next_added there.1
-      (found-there old new in_new (at + 1) news at)).1))
-      one
+  same-old removed added next_removed next_added same one = grind arith
 
   same-new : (removed added next_removed next_added : ℕ) → AreSameOrAll old removed new added
       → ((next_added ≡ added) × (next_removed ≡ removed))
       ⊎ ((next_added ≡ at) × (place_of in_old new at ≡ Some next_removed))
       → AreSameOrAll old next_removed new next_added
-  same-new removed added next_removed next_added same one =
-      ⊎_elim
-      (λ stays. rw (stays.0, stays.1) same)
-      (λ there. rw (there.0) (inl (same-turned new old at next_removed (at_some (place_of in_old new at)
-      (λ k. (k < at + 1) × AreSameAt new at old k) next_removed there.1
-      (found-there new old in_old (at + 1) olds at)).1)))
-      one
+  same-new removed added next_removed next_added same one = grind arith
 
   -- no pair with a line there is nearer
   no-nearer-old : (sum new_at : ℕ) → IfSome (place_of in_new old at) (λ place. sum ≤ at + place)

@@ -1,7 +1,7 @@
 -- What is read of the text of hunks is the hunks.
 use Rattle.std.proofs.Common.{◌≡◌, ◌≢◌, ◌⊎◌, ◌∙◌, ap, ap₂, refl, sym, subst, ℕ, ◌+◌, ◌-◌, ◌<◌, ◌^◌}
 use Rattle.std.proofs.Common.{arith, Bool, true, false, not, zero, suc, inl, inr, cond, rules, ◌==◌}
-use Rattle.std.proofs.Common.{List, [], ◌∷◌, ◌++◌, length, take, drop, map, get_or, All}
+use Rattle.std.proofs.Common.{List, [], ◌∷◌, ◌++◌, length, take, map, get_or, All}
 use Rattle.std.proofs.lemmas.List.{append_assoc, append-nil, length-append, take_all, take_more, take_at}
 use Rattle.std.proofs.lemmas.List.Elements.{All-append, All-cons, All-from_get_or, All-get_or, All-head}
 use Rattle.std.proofs.lemmas.List.Elements.{All-nil, All-tail, All-weaker}
@@ -51,10 +51,8 @@ signed-line Kept line lines old new = (
   All-tail IsLine line (olds lines) old,
   All-tail IsLine line (news lines) new,
 )
-signed-line Removed line lines old new =
-    (All-head IsLine line (olds lines) old, All-tail IsLine line (olds lines) old, new)
-signed-line Added line lines old new =
-    (All-head IsLine line (news lines) new, old, All-tail IsLine line (news lines) new)
+signed-line Removed line lines old new = search (rules, arith, All-head, All-tail)
+signed-line Added line lines old new = search (rules, arith, All-head, All-tail)
 
 abbrev AreLines : List SignedText → Type 0
 AreLines lines = All (λ (s : SignedText). IsLine s.line) lines
@@ -74,10 +72,7 @@ not-true false is = refl
 
 -- a text that can be computed
 free-of : (c : ℕ) (text : List ℕ) → list_all (λ b. not (b == c)) text ≡ true → Free c text
-free-of c text all =
-    All-weaker (λ b. not (b == c) ≡ true) (λ b. b ≢ c)
-    (λ b other. eqb-false b c (not-true (b == c) other)) text
-    (AllPass-from_list_all (λ b. not (b == c)) text all)
+free-of c text all = grind (arith, All-weaker, eqb-false, AllPass-from_list_all)
 
 abbrev marked : List ℕ
 marked = codes "\\ No newline at end of file"
@@ -114,13 +109,12 @@ read text = read_lines (text_lines text)
 read-ended : (sign : Sign) (front rest : List ℕ) → Free 10 front → (read rest).lacks ≡ false
     → read ((sign_byte sign ∷ front) ++ 10 ∷ rest)
     ≡ read_text false (signed_text sign (front ++ 10 ∷ []) ∷ (read rest).lines) (read rest).hunks
-read-ended sign front rest free lacks =
-    ap read_lines (ended_parts-front (sign_byte sign ∷ front) rest
-    (All-cons (λ b. b ≢ 10) (sign_byte sign) front (sign-free sign) free))
-    ∙ with-sign sign (front ++ 10 ∷ []) (read rest)
-    ∙ ap (λ b. read_text false (signed_text sign
-    (cond b (take (length (front ++ 10 ∷ []) - 1) (front ++ 10 ∷ [])) (front ++ 10 ∷ []))
-    ∷ (read rest).lines) (read rest).hunks) lacks
+read-ended sign front rest free lacks = grind (
+  arith,
+  ended_parts-front (sign_byte sign ∷ front) rest (All-cons (λ b. b ≢ 10) (sign_byte sign) front
+      (sign-free sign) free),
+  with-sign sign (front ++ 10 ∷ []) (read rest),
+)
 
 read-marked : (rest : List ℕ)
     → read (marked ++ 10 ∷ rest) ≡ read_text true (read rest).lines (read rest).hunks
@@ -149,15 +143,13 @@ read-line s rest (inl free) lacks =
     ∙ ap read (let whole : (begun ++ 10 ∷ (marked ++ 10 ∷ [])) ++ rest
     ≡ begun ++ 10 ∷ (marked ++ 10 ∷ rest) = append_assoc begun (10 ∷ (marked ++ 10 ∷ [])) rest in whole)
     ∙ read-whole s.sign s.line rest free
-read-line s rest (inr (front, is, free)) lacks =
-    let feeds : missing_feed s.line ≡ [] =
-    ap (λ b. cond b [] (codes "\n\\ No newline at end of file\n"))
-    (ends_with-true (10 ∷ []) s.line front is) in
-    ap (λ f. read ((sign_byte s.sign ∷ (s.line ++ f)) ++ rest)) feeds
-    ∙ ap (λ l. read ((sign_byte s.sign ∷ l) ++ rest)) (append-nil s.line ∙ is)
-    ∙ ap read (append_assoc (sign_byte s.sign ∷ front) (10 ∷ []) rest)
-    ∙ read-ended s.sign front rest free lacks
-    ∙ ap (λ l. read_text false (signed_text s.sign l ∷ (read rest).lines) (read rest).hunks) (sym is)
+read-line s rest (inr (front, is, free)) lacks = grind (
+  arith,
+  ends_with-true (10 ∷ []) s.line front is,
+  append-nil s.line,
+  append_assoc (sign_byte s.sign ∷ front) (10 ∷ []) rest,
+  read-ended s.sign front rest free lacks,
+)
 
 read-body : (lines : List SignedText) (rest : List ℕ) → AreLines lines → (read rest).lacks ≡ false
     → read (flat_map line_text lines ++ rest)
@@ -236,21 +228,12 @@ range-read start (suc zero) starts fits =
     (parted 44 (decimal (start + 1)) (decimal-free 44 (start + 1) (omega arith) starts)))
     ∙ ap (λ n. n ∷ []) (value-is (start + 1) starts))
     ∙ omega arith
-range-read start (suc (suc len)) starts fits =
-    range-more start (suc (suc len)) (omega arith) starts fits
+range-read start (suc (suc len)) starts fits = grind (arith, range-more)
 
 head-words : (old new : List ℕ) → Free 32 old → Free 32 new
     → slice_split (λ c. c == 32) (head_text old new)
     ≡ codes "@@" ∷ (45 ∷ old) ∷ (43 ∷ new) ∷ codes "@@\n" ∷ []
-head-words old new old_free new_free =
-    let blank : ℕ → Bool = λ c. c == 32 in
-    let first = slice_split_at blank (codes "@@") 32 ((45 ∷ old) ++ 32 ∷ ((43 ∷ new) ++ 32 ∷ codes "@@\n"))
-    (parted 32 (codes "@@") (free-of 32 (codes "@@") refl)) refl in
-    let second = slice_split_at blank (45 ∷ old) 32 ((43 ∷ new) ++ 32 ∷ codes "@@\n")
-    (All-cons (λ b. (b == 32) ≡ false) 45 old refl (parted 32 old old_free)) refl in
-    let third = slice_split_at blank (43 ∷ new) 32 (codes "@@\n")
-    (All-cons (λ b. (b == 32) ≡ false) 43 new refl (parted 32 new new_free)) refl in
-    first ∙ ap (λ ls. codes "@@" ∷ ls) (second ∙ ap (λ ls. (45 ∷ old) ∷ ls) third)
+head-words old new old_free new_free = grind (arith, slice_split_at, All-cons)
 
 head-line : (old new rest : List ℕ) → Free 10 old → Free 10 new
     → text_lines (head_text old new ++ rest) ≡ head_text old new ∷ text_lines rest
@@ -273,13 +256,7 @@ read-head : (old new rest : List ℕ) → Free 10 old → Free 10 new → Free 3
       new_start = range_start new;
       lines = (read rest).lines;
     } ∷ (read rest).hunks)
-read-head old new rest old_feedless new_feedless old_free new_free =
-    ap read_lines (head-line old new rest old_feedless new_feedless)
-    ∙ ap (λ (words : List (List ℕ)). read_text false [] (record {
-      old_start = range_start (drop 1 (get_or words 1 []));
-      new_start = range_start (drop 1 (get_or words 2 []));
-      lines = (read rest).lines;
-    } ∷ (read rest).hunks)) (head-words old new old_free new_free)
+read-head old new rest old_feedless new_feedless old_free new_free = grind (arith, head-line, head-words)
 
 -- ---- hunks
 

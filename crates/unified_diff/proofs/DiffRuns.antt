@@ -72,8 +72,7 @@ removed-of : (kept removed added : List (List ℕ)) (k : ℕ) → sign_at (step 
 removed-of (line ∷ kept) removed added zero is = absurd (cc is)
 removed-of (line ∷ kept) removed added (suc k) is = removed-of kept removed added k is
 removed-of [] (line ∷ removed) added zero is = (0, omega arith, refl)
-removed-of [] (line ∷ removed) added (suc k) is =
-    behind line removed _ (removed-of [] removed added k is)
+removed-of [] (line ∷ removed) added (suc k) is = grind (arith, removed-of [] removed added k is, behind)
 removed-of [] [] [] k is = absurd (cc is)
 removed-of [] [] (line ∷ added) zero is = absurd (cc is)
 removed-of [] [] (line ∷ added) (suc k) is = removed-of [] [] added k is
@@ -94,28 +93,18 @@ AreApartLines removed added =
     (k m : ℕ) → k < length removed → m < length added → get_or removed k [] ≡ get_or added m [] → ⊥
 
 sign-before : (xs ys : List SignedText) (k : ℕ) → k < length xs → sign_at (xs ++ ys) k ≡ sign_at xs k
-sign-before xs ys k below =
-    ap (λ ss. get_or ss k Kept) (map-append (λ s. s.sign) xs ys)
-    ∙ get_or_append_left (map (λ s. s.sign) xs) (map (λ s. s.sign) ys) Kept k (rw length-map below)
+sign-before xs ys k below = grind (arith, map-append, get_or_append_left, length-map)
 
 line-before : (xs ys : List SignedText) (k : ℕ) → k < length xs → line_at (xs ++ ys) k ≡ line_at xs k
-line-before xs ys k below =
-    ap (λ ss. get_or ss k []) (map-append (λ s. s.line) xs ys)
-    ∙ get_or_append_left (map (λ s. s.line) xs) (map (λ s. s.line) ys) [] k (rw length-map below)
+line-before xs ys k below = grind (arith, map-append, get_or_append_left, length-map)
 
 sign-behind : (xs ys : List SignedText) (k : ℕ) → length xs ≤ k
     → sign_at (xs ++ ys) k ≡ sign_at ys (k - length xs)
-sign-behind xs ys k past =
-    ap (λ ss. get_or ss k Kept) (map-append (λ s. s.sign) xs ys)
-    ∙ get_or-append_right (map (λ s. s.sign) xs) (map (λ s. s.sign) ys) (length xs) k Kept
-    (length-map xs (λ s. s.sign)) past
+sign-behind xs ys k past = grind (arith, map-append, get_or-append_right, length-map)
 
 line-behind : (xs ys : List SignedText) (k : ℕ) → length xs ≤ k
     → line_at (xs ++ ys) k ≡ line_at ys (k - length xs)
-line-behind xs ys k past =
-    ap (λ ss. get_or ss k []) (map-append (λ s. s.line) xs ys)
-    ∙ get_or-append_right (map (λ s. s.line) xs) (map (λ s. s.line) ys) (length xs) k []
-    (length-map xs (λ s. s.line)) past
+line-behind xs ys k past = grind (arith, map-append, get_or-append_right, length-map)
 
 first-kept : (kept removed added : List (List ℕ)) → 0 < length kept
     → sign_at (step kept removed added) 0 ≡ Kept
@@ -164,62 +153,29 @@ lean-step xs kept removed added lean some apart = λ one two is_removed is_added
 nearest-apart : (old new : List (List ℕ)) (removed added : ℕ) → removed ≤ length old
     → added ≤ length new → IsNearest old new removed added
     → AreApartLines (take removed old) (take added new)
-nearest-apart old new removed added old_in new_in is = λ k m k_in m_in same.
-    let removed_len = length-take removed old in
-    let added_len = length-take added new in
-    let k_below : k < removed = omega (arith, removed_len, k_in, old_in) in
-    let m_below : m < added = omega (arith, added_len, m_in, new_in) in
-    let near = is.first k m (
-      omega (arith, k_below, old_in),
-      (
-        omega (arith, m_below, new_in),
-        sym (get_or-take added new m [] m_below) ∙ sym same ∙ get_or-take removed old k [] k_below,
-      ),
-    ) in
-    omega (arith, near, k_below, m_below)
+nearest-apart old new removed added old_in new_in is = grind (arith, length-take, get_or-take)
 
 pub same-within : (old new : List (List ℕ)) (removed added : ℕ) → AreSameOrAll old removed new added
     → (removed ≤ length old) × (added ≤ length new)
-same-within old new removed added is =
-    ⊎_elim (λ same. (omega (arith, same.0), omega (arith, same.1.0)))
-    (λ all. (omega (arith, all.0), omega (arith, all.1))) is
+same-within old new removed added is = grind arith
 
 -- a line that both have behind lines that are left out
 pub same-further : (old new : List (List ℕ)) (old_at new_at old_more new_more : ℕ)
     → AreSameAt (drop old_at old) old_more (drop new_at new) new_more
     → AreSameAt old (old_at + old_more) new (new_at + new_more)
-same-further old new old_at new_at old_more new_more same =
-    let old_len = length-drop old_at old in
-    let new_len = length-drop new_at new in (
-      omega (arith, old_len, same.0),
-      (
-        omega (arith, new_len, same.1.0),
-        sym (get_or-drop new_at new new_more []) ∙ same.1.1 ∙ get_or-drop old_at old old_more [],
-      ),
-    )
+same-further old new old_at new_at old_more new_more same = grind (arith, length-drop, get_or-drop)
 
 pub same-before : (old new : List (List ℕ)) (old_at new_at old_more new_more : ℕ)
     → AreSameAt old (old_at + old_more) new (new_at + new_more)
     → AreSameAt (drop old_at old) old_more (drop new_at new) new_more
-same-before old new old_at new_at old_more new_more same =
-    let old_len = length-drop old_at old in
-    let new_len = length-drop new_at new in (
-      omega (arith, old_len, same.0),
-      (
-        omega (arith, new_len, same.1.0),
-        get_or-drop new_at new new_more [] ∙ same.1.1 ∙ sym (get_or-drop old_at old old_more []),
-      ),
-    )
+same-before old new old_at new_at old_more new_more same = grind (arith, length-drop, get_or-drop)
 
 pub same-or-further : (old new : List (List ℕ)) (old_at new_at old_more new_more : ℕ)
     → old_at ≤ length old → new_at ≤ length new
     → AreSameOrAll (drop old_at old) old_more (drop new_at new) new_more
     → AreSameOrAll old (old_at + old_more) new (new_at + new_more)
 same-or-further old new old_at new_at old_more new_more old_in new_in one =
-    ⊎_elim (λ same. inl (same-further old new old_at new_at old_more new_more same))
-    (λ all. let old_len = length-drop old_at old in
-    let new_len = length-drop new_at new in
-    inr (omega (arith, old_len, all.0, old_in), omega (arith, new_len, all.1, new_in))) one
+    grind (arith, same-further, length-drop)
 
 -- the lines that two texts begin with, and the nearest change behind them
 pub lean-grown : (old after removed_too all : List SignedText) (kept : List (List ℕ))
@@ -273,12 +229,7 @@ pub goes-on : (old new : List (Bor (List ℕ))) (old_at new_at old_more new_more
     → AreSameOrAll (map (λ line. line.now) old) (old_at + old_more) (map (λ line. line.now) new)
     (new_at + new_more)
 goes-on old new old_at new_at old_more new_more old_in new_in one =
-    let olds : List (List ℕ) = map (λ line. line.now) old in
-    let news : List (List ℕ) = map (λ line. line.now) new in
-    same-or-further olds news old_at new_at old_more new_more (rw length-map old_in) (rw length-map new_in)
-    (subst (λ ls. AreSameOrAll (drop old_at olds) old_more ls new_more) (rest-of new new_at)
-    (subst (λ ls. AreSameOrAll ls old_more (map (λ line. line.now)
-    (take (length new - new_at) (drop new_at new))) new_more) (rest-of old old_at) one))
+    grind (arith, same-or-further, length-map, rest-of)
 
 -- a line that both begin with is among those that are kept
 pub kept-some : (old new : List (List ℕ)) (kept : ℕ) → AreSameAt old 0 new 0
@@ -290,19 +241,4 @@ pub moves : (old new : List (List ℕ)) (kept removed added : ℕ) → kept ≤ 
     → (AreSameAt old kept new kept → ⊥)
     → AreSameOrAll (drop kept old) removed (drop kept new) added
     → 0 < length old + length new → 0 < (kept + removed) + (kept + added)
-moves old new kept removed added in_old in_new other one some =
-    ⊎_elim (λ more. more)
-    (λ none.
-    let no_removed : removed ≡ 0 = omega (arith, none) in
-    let no_added : added ≡ 0 = omega (arith, none) in
-    let no_kept : kept ≡ 0 = omega (arith, none) in
-    let old_len = length-drop kept old in
-    let new_len = length-drop kept new in
-    ⊎_elim
-    (λ same. absurd (other (subst (λ n. AreSameAt old n new kept)
-    (let is : kept + removed ≡ kept = omega (arith, no_removed) in is)
-    (subst (λ n. AreSameAt old (kept + removed) new n)
-    (let is : kept + added ≡ kept = omega (arith, no_added) in is)
-    (same-further old new kept kept removed added same)))))
-    (λ all. omega (arith, all.0, all.1, old_len, new_len, none, some)) one)
-    (cases_lt 0 ((kept + removed) + (kept + added)))
+moves old new kept removed added in_old in_new other one some = grind (arith, length-drop)

@@ -1,4 +1,5 @@
 pub mod Balance
+pub mod CellLines
 pub mod Named
 pub mod Passing
 pub mod Pieces

@@ -1,30 +1,23 @@
 -- The pieces of a hyphenated paragraph.
-use Rattle.textwrap_text.proofs.Common.{IsUtf8, List, ap, arith, length, ℕ, ◌*◌, ◌≤◌}
-use Rattle.textwrap_text.proofs.Common.{All, All-append, All-cons, All-nil, Bool, [], cond, eqb, false}
-use Rattle.textwrap_text.proofs.Common.{inl, ltb, refl, subst, sym, true, ◌++◌, ◌∷◌, ◌≡◌, ⊤}
-use Rattle.textwrap_words.proofs.Common.{broken_pieces, broken_texts, broken_word, broken_words}
-use Rattle.textwrap_words.proofs.Word.BrokenPieces.{IsTight, broken_words-tight, pieces_with-all}
-use Rattle.textwrap_words.proofs.Word.Words.{All-each}
-use Rattle.textwrap_layout.proofs.Common.{empty_word, front_pieces, later_width}
-use Rattle.textwrap_base.proofs.Common.{total_width}
-use Rattle.textwrap_words.proofs.Common.{WordText, sizes_of}
-use Rattle.textwrap_words.proofs.Word.Pieces.{AreTexts, split-measured, split-tile}
-use Rattle.textwrap_layout.proofs.Common.{ArePieces, Settings}
-use Rattle.textwrap_hyphens.specs.Table.{held}
-use Rattle.textwrap_base.specs.Errors.{Fits64Bits}
-use Rattle.textwrap_layout.proofs.Common.{ArePoints, AreWordsCut, as_splitter}
-use Rattle.textwrap_layout.proofs.Paragraph.Pieces.{AreWordsCut-texts, pieces-bounded, pieces-tile}
-use Rattle.textwrap_words.proofs.Word.Words.{total_width-narrow}
-use Rattle.textwrap_plain.specs.Options.{points_by}
-use Rattle.textwrap_plain.specs.declared.options.PlainSplitter.{PlainSplitter}
-use Rattle.textwrap_plain.specs.declared.options.PlainSplitter.TheVariants.{BuiltIn, Dictionary}
-use Rattle.textwrap_text.proofs.Common.{◌<◌, ◌^◌}
-use Rattle.textwrap_words.proofs.Word.Pieces.{ArePoints-cuts, ArePoints-hyphens}
-use Rattle.textwrap_hyphens.specs.declared.table.PatternTable.{PatternTable}
+use Rattle.textwrap_base.{proofs.Common.total_width, specs.Errors.Fits64Bits}
 use Rattle.textwrap_hyphens.proofs.SplitPieces.{HasHyphenAtMost, held-cuts, split-carries}
-use Rattle.textwrap_hyphens.proofs.SplitPieces.{split-hyphens}
-use Rattle.textwrap_plain.proofs.Widths.{pieces-wide}
-use Rattle.textwrap_plain.specs.Hyphenated.{ArePointsBy}
+use Rattle.textwrap_hyphens.{proofs.SplitPieces.split-hyphens, specs.Table.held}
+use Rattle.textwrap_hyphens.specs.declared.table.PatternTable.{PatternTable}
+use Rattle.textwrap_layout.proofs.Common.{ArePieces, ArePoints, AreWordsCut, Settings, as_splitter}
+use Rattle.textwrap_layout.proofs.Common.{empty_word, front_pieces, later_width}
+use Rattle.textwrap_layout.proofs.Paragraph.Pieces.{AreWordsCut-texts, pieces-bounded, pieces-tile}
+use Rattle.textwrap_plain.{proofs.Widths.pieces-wide, specs.Hyphenated.ArePointsBy}
+use Rattle.textwrap_plain.specs.{Options.points_by, declared.options.PlainSplitter.PlainSplitter}
+use Rattle.textwrap_plain.specs.declared.options.PlainSplitter.TheVariants.{BuiltIn, Dictionary}
+use Rattle.textwrap_text.proofs.Common.{All, All-append, All-cons, All-nil, Bool, IsUtf8, List, []}
+use Rattle.textwrap_text.proofs.Common.{ap, arith, cond, eqb, false, inl, length, ltb, refl, subst}
+use Rattle.textwrap_text.proofs.Common.{sym, true, ℕ, ⊤, ◌*◌, ◌++◌, ◌<◌, ◌^◌, ◌∷◌, ◌≡◌, ◌≤◌}
+use Rattle.textwrap_words.proofs.Common.{WordText, broken_pieces, broken_texts, broken_word}
+use Rattle.textwrap_words.proofs.Common.{broken_words, sizes_of}
+use Rattle.textwrap_words.proofs.Word.BrokenPieces.{IsTight, broken_words-tight, pieces_with-all}
+use Rattle.textwrap_words.proofs.Word.Pieces.{ArePoints-cuts, ArePoints-hyphens, AreTexts}
+use Rattle.textwrap_words.proofs.Word.Pieces.{split-measured, split-tile}
+use Rattle.textwrap_words.proofs.Word.Words.{All-each, total_width-narrow}
 
 -- ---- the empty piece in front, and the pieces of a broken word
 

@@ -1,19 +1,17 @@
 -- The widths of the pieces of a paragraph are together at most twice its bytes: each hyphen has a
 -- byte of its own before it.
-use Rattle.textwrap_text.proofs.Common.{All, All-head, All-tail, IsUtf8, List, [], ap, arith, cond}
-use Rattle.textwrap_text.proofs.Common.{Bool, false, flat_map, length, length-append}
-use Rattle.textwrap_text.proofs.Common.{sum_by-append, true, ℕ, ◌*◌, ◌+◌, ◌++◌}
-use Rattle.textwrap_text.proofs.Common.{◌∷◌, ◌≡◌, ◌≤◌, append-nil, eqb, ltb}
-use Rattle.textwrap_text.proofs.Units.Reading.{text_width-le}
-use Rattle.textwrap_base.proofs.Common.{total_width}
-use Rattle.textwrap_base.proofs.Cost.LineCosts.{total_width-cons}
-use Rattle.textwrap_words.proofs.Common.{WordText, broken_pieces, broken_texts, broken_word}
-use Rattle.textwrap_words.proofs.Common.{broken_words, pieces_with, sizes_of, tile_of, tiled, piece}
-use Rattle.textwrap_words.proofs.Word.BrokenPieces.{broken_texts-tile, broken_texts-utf8}
-use Rattle.textwrap_words.proofs.Word.Words.{IsMeasured}
+use Rattle.textwrap_base.proofs.{Common.total_width, Cost.LineCosts.total_width-cons}
+use Rattle.textwrap_hyphens.proofs.SplitPieces.{CarriesHyphen}
 use Rattle.textwrap_layout.proofs.Common.{Settings, broken_pieces_of, empty_word, front_pieces}
 use Rattle.textwrap_layout.proofs.Common.{later_width}
-use Rattle.textwrap_hyphens.proofs.SplitPieces.{CarriesHyphen}
+use Rattle.textwrap_text.proofs.Common.{All, All-head, All-tail, Bool, IsUtf8, List, [], ap}
+use Rattle.textwrap_text.proofs.Common.{append-nil, arith, cond, eqb, false, flat_map, length}
+use Rattle.textwrap_text.proofs.Common.{length-append, ltb, sum_by-append, true, ℕ, ◌*◌, ◌++◌, ◌+◌}
+use Rattle.textwrap_text.proofs.{Common.◌∷◌, Common.◌≡◌, Common.◌≤◌, Units.Reading.text_width-le}
+use Rattle.textwrap_words.proofs.Common.{WordText, broken_pieces, broken_texts, broken_word}
+use Rattle.textwrap_words.proofs.Common.{broken_words, piece, pieces_with, sizes_of, tile_of, tiled}
+use Rattle.textwrap_words.proofs.Word.BrokenPieces.{broken_texts-tile, broken_texts-utf8}
+use Rattle.textwrap_words.proofs.Word.Words.{IsMeasured}
 
 total_width-append : (ws vs : List WordText)
     → total_width sizes_of (ws ++ vs) ≡ total_width sizes_of ws + total_width sizes_of vs

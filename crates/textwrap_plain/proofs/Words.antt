@@ -1,27 +1,25 @@
 -- The words of a line by options without functions, and what lines of them keep to.
 use Rattle.textwrap_base.proofs.Division.Map.{IsDividedBy-some, IsDividedBy-whole}
-use Rattle.textwrap_layout.proofs.Common.{ArePrintedWithin, CanKeepToWidth, Line, LinesKeepToWidth}
-use Rattle.textwrap_layout.proofs.Common.{AreTextLines, IsWrapped, Settings}
+use Rattle.textwrap_hyphens.specs.declared.table.PatternTable.{PatternTable}
+use Rattle.textwrap_layout.proofs.Common.{ArePrintedWithin, AreTextLines, CanKeepToWidth, IsWrapped}
+use Rattle.textwrap_layout.proofs.Common.{Line, LinesKeepToWidth, Settings}
 use Rattle.textwrap_layout.proofs.Paragraph.Pieces.{AreWordsCut-texts}
 use Rattle.textwrap_lines.proofs.Text.Printed.{ArePrintedWithin-by}
+use Rattle.textwrap_lines.proofs.Text.Promises.{IsWrapped-by, LinesKeepToWidth-by}
 use Rattle.textwrap_plain.proofs.Wrapping.{AddOnlyHyphens-by, LinesKeepButHyphens-by, hyphens-alone}
 use Rattle.textwrap_plain.specs.CutSides.{points_by-cuts, words_by-cut}
 use Rattle.textwrap_plain.specs.Hyphenated.{AddOnlyHyphens, AddsHyphenAtMost, AreTheText}
 use Rattle.textwrap_plain.specs.Hyphenated.{LinesKeepButHyphens}
-use Rattle.textwrap_hyphens.specs.declared.table.PatternTable.{PatternTable}
-use Rattle.textwrap_lines.proofs.Text.Promises.{IsWrapped-by, LinesKeepToWidth-by}
-use Rattle.textwrap_plain.specs.{Options.words_by, declared.options.PlainSeparator.PlainSeparator}
-use Rattle.textwrap_plain.specs.Options.{DividesFrom, port_splitter, points_by}
+use Rattle.textwrap_plain.specs.Options.{DividesFrom, points_by, port_splitter, words_by}
+use Rattle.textwrap_plain.specs.declared.options.PlainSeparator.{PlainSeparator}
 use Rattle.textwrap_plain.specs.declared.options.PlainSplitter.{PlainSplitter}
 use Rattle.textwrap_plain.specs.declared.options.PlainSplitter.TheVariants.{BuiltIn, Dictionary}
-use Rattle.textwrap_text.proofs.Common.{append-nil, arith}
-use Rattle.textwrap_text.proofs.Common.{All, Bool, IsUtf8, List, None, Some, refl, rules, subst, take, ℕ}
-use Rattle.textwrap_text.proofs.Common.{[], sym, true, ◌≡◌, ◌≢◌}
+use Rattle.textwrap_text.proofs.Common.{All, Bool, IsUtf8, List, None, Some, [], append-nil, arith}
+use Rattle.textwrap_text.proofs.Common.{refl, rules, subst, sym, take, true, ℕ, ◌≡◌, ◌≢◌}
 use Rattle.textwrap_text.proofs.Lists.Parts.{Begins, flat}
-use Rattle.textwrap_words.proofs.Common.{Algorithm, IsDividedBy, WordText, as_splitter}
-use Rattle.textwrap_words.proofs.Common.{ByFirstFit, ends_in_hyphen, sizes_of}
-use Rattle.textwrap_words.proofs.Word.{Pieces.AreTexts}
-use Rattle.textwrap_words.proofs.Word.Pieces.{ArePoints-hyphens}
+use Rattle.textwrap_words.proofs.Common.{Algorithm, ByFirstFit, IsDividedBy, WordText, as_splitter}
+use Rattle.textwrap_words.proofs.Common.{ends_in_hyphen, sizes_of}
+use Rattle.textwrap_words.proofs.Word.Pieces.{ArePoints-hyphens, AreTexts}
 
 -- the words of a line are texts of it
 pub words_by-texts : (separator : PlainSeparator) (line : List ℕ) → IsUtf8 line
@@ -37,7 +35,7 @@ texts-at separator line words utf8 is =
     subst (AreTexts line) (sym is) (words_by-texts separator line utf8)
 
 -- where the splitter is one of the port, no piece of a word has a penalty
-points_by-hyphens : (splitter : PlainSplitter) → port_splitter splitter ≢ None → (text points : List ℕ)
+pub points_by-hyphens : (splitter : PlainSplitter) → port_splitter splitter ≢ None → (text points : List ℕ)
     → points ≡ points_by splitter text → All (λ p. ends_in_hyphen (take p text) ≡ true) points
 points_by-hyphens (BuiltIn splitter) is_built_in = ArePoints-hyphens (as_splitter splitter)
 points_by-hyphens (Dictionary table) is_built_in = absurd (is_built_in refl)
@@ -52,7 +50,7 @@ abbrev By : PlainSeparator → PlainSplitter → Algorithm → Settings → Bool
     → List (List WordText) → Type 0
 By separator splitter = DividesFrom (words_by separator) (points_by splitter)
 
-lines-greedy : {algorithm : Algorithm} → algorithm ≡ ByFirstFit → (widths : List ℕ)
+pub lines-greedy : {algorithm : Algorithm} → algorithm ≡ ByFirstFit → (widths : List ℕ)
     (pieces : List WordText) (division : List (List WordText))
     → IsDividedBy algorithm sizes_of widths pieces division
     → IsDividedBy ByFirstFit sizes_of widths pieces division

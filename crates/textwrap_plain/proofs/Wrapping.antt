@@ -1,47 +1,37 @@
 -- What a hyphenated text promises.
-use Rattle.textwrap_text.proofs.Common.{All, All-cons, All-nil, Bool, [], cond, inl, map, subst, sym}
-use Rattle.textwrap_text.proofs.Common.{false, true, ◌++◌, ◌∷◌, ◌≤◌}
-use Rattle.textwrap_text.proofs.Lists.Parts.{Begins, all-left, flat}
 use Rattle.std.specs.Prelude.{MatchBool}
 use Rattle.textwrap_base.proofs.Common.{closed_width}
-use Rattle.textwrap_words.proofs.Common.{WordText, broken_words, sizes_of, word_of}
-use Rattle.textwrap_words.specs.declared.wrap_algorithms.WrapAlgorithm.TheVariants.{FirstFit}
-use Rattle.textwrap_layout.proofs.Common.{AreParagraphParts, LineParts, front_pieces, is_whole}
-use Rattle.textwrap_layout.proofs.Common.{later_width, widths_of}
-use Rattle.textwrap_layout.proofs.Paragraph.LeftOff.{laid_out-cases}
+use Rattle.textwrap_hyphens.proofs.SplitPieces.{HasHyphenAtMost, held-cuts}
+use Rattle.textwrap_hyphens.specs.{Hyphenation.Hyphenation, Splitting.split_points, Table.held}
+use Rattle.textwrap_hyphens.specs.declared.table.PatternTable.{PatternTable}
+use Rattle.textwrap_layout.proofs.Common.{AreParagraphParts, AreTextLines, IsDividedInto, IsWrapped}
+use Rattle.textwrap_layout.proofs.Common.{Line, LineParts, Settings, front_pieces, is_whole}
+use Rattle.textwrap_layout.proofs.Common.{later_width, settings_view, widths_of}
+use Rattle.textwrap_layout.proofs.Paragraph.{LeftOff.laid_out-cases, Pieces.division-as}
+use Rattle.textwrap_layout.specs.declared.options.Options.{Options}
 use Rattle.textwrap_lines.proofs.Common.{paragraphs_of, paragraphs_of-utf8}
 use Rattle.textwrap_lines.proofs.Paragraph.KeepsTo.{parts_from-pieces, whole_line-within}
-use Rattle.textwrap_lines.proofs.Text.Groups.{groups-all, groups-map}
+use Rattle.textwrap_lines.proofs.Text.{Groups.groups-all, Groups.groups-map, Promises.IsWrapped-by}
 use Rattle.textwrap_plain.proofs.Passing.{greedy_passes, parts_from-hyphens}
 use Rattle.textwrap_plain.proofs.Pieces.{hyphenated-hyphens, hyphenated-tight}
-use Rattle.textwrap_hyphens.proofs.SplitPieces.{HasHyphenAtMost}
-use Rattle.textwrap_plain.specs.Hyphenated.{AddOnlyHyphens, AddsHyphenAtMost, AreTheText}
-use Rattle.textwrap_plain.specs.Hyphenated.{KeepButHyphens}
+use Rattle.textwrap_plain.specs.Hyphenated.{AddOnlyHyphens, AddsHyphenAtMost, ArePointsBy}
+use Rattle.textwrap_plain.specs.Hyphenated.{AreTheText, DividesAtPoints, DividesHyphenated}
+use Rattle.textwrap_plain.specs.Hyphenated.{DividesHyphenatedUnder, HasPartsBeside, KeepButHyphens}
 use Rattle.textwrap_plain.specs.Hyphenated.{LinesKeepButHyphens, OnlyHyphensPass}
-use Rattle.textwrap_text.proofs.Common.{IsUtf8, List, None, ap, refl, ℕ, ◌∙◌, ◌≡◌, ◌≢◌, ◌↔◌}
-use Rattle.textwrap_words.proofs.Common.{Algorithm, ByFirstFit, IsDividedBy, MayDivide, MaySeparate}
-use Rattle.textwrap_words.proofs.Common.{algorithm_view, words_of}
-use Rattle.textwrap_words.proofs.Word.Pieces.{AreTexts}
-use Rattle.textwrap_words.proofs.Word.Words.{words_unique}
-use Rattle.textwrap_words.proofs.Word.Divisions.{MayDivide-begins, MayDivide-greedy, MayDivide-some}
-use Rattle.textwrap_words.proofs.Word.Divisions.{MayDivide-whole}
-use Rattle.textwrap_words.proofs.Word.Parts.{MaySeparate-texts}
-use Rattle.textwrap_layout.proofs.Common.{AreTextLines, IsDividedInto, IsWrapped, Line, Settings}
-use Rattle.textwrap_layout.proofs.Common.{settings_view}
-use Rattle.textwrap_layout.proofs.Paragraph.Pieces.{division-as}
-use Rattle.textwrap_layout.specs.declared.options.Options.{Options}
-use Rattle.textwrap_lines.proofs.Text.Promises.{IsWrapped-by}
-use Rattle.textwrap_hyphens.specs.Table.{held}
-use Rattle.textwrap_hyphens.specs.declared.table.PatternTable.{PatternTable}
-use Rattle.textwrap_hyphens.proofs.SplitPieces.{held-cuts}
-use Rattle.textwrap_plain.specs.Hyphenated.{ArePointsBy, DividesAtPoints, DividesHyphenated}
-use Rattle.textwrap_plain.specs.Hyphenated.{DividesHyphenatedUnder, HasPartsBeside}
 use Rattle.textwrap_plain.specs.Options.{DividesFrom, DividesPlainly, plain_algorithm}
 use Rattle.textwrap_plain.specs.declared.options.PlainOptions.{PlainOptions}
 use Rattle.textwrap_plain.specs.declared.options.PlainSeparator.TheVariants.{AtBlanks}
 use Rattle.textwrap_plain.specs.declared.options.PlainSplitter.TheVariants.{Dictionary}
-use Rattle.textwrap_hyphens.specs.Hyphenation.{Hyphenation}
-use Rattle.textwrap_hyphens.specs.Splitting.{split_points}
+use Rattle.textwrap_text.proofs.Common.{All, All-cons, All-nil, Bool, IsUtf8, List, None, [], ap}
+use Rattle.textwrap_text.proofs.Common.{cond, false, inl, map, refl, subst, sym, true, ℕ, ◌++◌, ◌↔◌}
+use Rattle.textwrap_text.proofs.Common.{◌∙◌, ◌∷◌, ◌≡◌, ◌≢◌, ◌≤◌}
+use Rattle.textwrap_text.proofs.Lists.Parts.{Begins, all-left, flat}
+use Rattle.textwrap_words.proofs.Common.{Algorithm, ByFirstFit, IsDividedBy, MayDivide, MaySeparate}
+use Rattle.textwrap_words.proofs.Common.{WordText, algorithm_view, broken_words, sizes_of, word_of}
+use Rattle.textwrap_words.proofs.{Common.words_of, Word.Divisions.MayDivide-begins}
+use Rattle.textwrap_words.proofs.Word.Divisions.{MayDivide-greedy, MayDivide-some, MayDivide-whole}
+use Rattle.textwrap_words.proofs.Word.{Parts.MaySeparate-texts, Pieces.AreTexts, Words.words_unique}
+use Rattle.textwrap_words.specs.declared.wrap_algorithms.WrapAlgorithm.TheVariants.{FirstFit}
 
 -- ---- what the lines keep to
 

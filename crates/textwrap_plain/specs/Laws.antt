@@ -1,12 +1,17 @@
 -- What the laws say.
-use Rattle.std.specs.Prelude.{◌≡◌, ◌≢◌, ◌↔◌, ℕ, Bool, IsUtf8, List, None, true}
+use Rattle.std.specs.Prelude.{◌≡◌, ◌≢◌, ◌↔◌, ℕ, ◌+◌, ◌≤◌, All, Bool, IsUtf8, List, None, chars, map}
+use Rattle.std.specs.Prelude.{true}
+use Rattle.std.specs.List.{zip}
 use Rattle.textwrap.specs.Filling.{IsFilled}
 use Rattle.textwrap.specs.Laws.{IsUnique}
 use Rattle.textwrap.specs.Options.{Settings, settings_view}
 use Rattle.textwrap.specs.Paragraph.{Line}
-use Rattle.textwrap.specs.Text.{AreTextLines, IsWrapped}
+use Rattle.textwrap.specs.Text.{AreTextLines, CanKeepToWidth, HasNoEscape, IsWrapped}
+use Rattle.textwrap.specs.Units.{columns, text_width}
 use Rattle.textwrap.specs.Words.{WordText}
-use Rattle.textwrap.specs.WrapAlgorithms.{Algorithm, algorithm_view}
+use Rattle.textwrap.specs.WrapAlgorithms.{Algorithm, ByFirstFit, algorithm_view}
+use Rattle.textwrap_display.specs.Laws.{KeepToColumns}
+use Rattle.textwrap_display.specs.Tables.{AreCells}
 use Rattle.textwrap_hyphens.specs.Hyphenation.{Hyphenation}
 use Rattle.textwrap_hyphens.specs.Table.{held}
 use Rattle.textwrap_hyphens.specs.declared.table.PatternTable.{PatternTable}
@@ -15,6 +20,9 @@ use Rattle.textwrap_plain.specs.Hyphenated.{AddOnlyHyphens, DividesAtPoints, Div
 use Rattle.textwrap_plain.specs.Hyphenated.{AreTheText, DividesHyphenatedUnder, HasPartsBeside}
 use Rattle.textwrap_plain.specs.Hyphenated.{LinesKeepButHyphens}
 use Rattle.textwrap_plain.specs.Options.{DividesPlainly, plain_algorithm, plain_settings}
+use Rattle.textwrap_plain.specs.Options.{plain_splitter}
+use Rattle.textwrap_plain.specs.Tables.{PlainMakes, plain_parts, plain_shape}
+use Rattle.textwrap_plain.specs.declared.display.PlainColumn.{PlainColumn}
 use Rattle.textwrap_plain.specs.declared.options.PlainOptions.{PlainOptions}
 use Rattle.textwrap_plain.specs.declared.options.PlainSeparator.TheVariants.{AtBlanks}
 use Rattle.textwrap_plain.specs.declared.options.PlainSplitter.TheVariants.{Dictionary}
@@ -90,3 +98,31 @@ KeepToWidthButHyphens o table =
     o.wrap_algorithm ≡ FirstFit → o.break_words ≡ true → (text : List ℕ) (lines : List Line)
     → IsUtf8 text → AreTextLines (settings_view o) (DividesHyphenated o (held table)) text lines
     → LinesKeepButHyphens (settings_view o) (DividesHyphenated o (held table)) text lines
+
+-- ---- tables
+
+-- an indent that has no escape sequence takes no more than the width, and neither does a character of
+-- the text behind it
+pub record HasRoomBehind (width : ℕ) (text indent : List ℕ) : Type 0 where
+  pub escape : HasNoEscape indent
+  pub fits : text_width indent ≤ width
+  pub each : All (λ c. text_width indent + columns c ≤ width) (chars text)
+
+-- a text without escape sequences, in a column that has room for each of its characters, and breaks its
+-- words by first fit without a dictionary
+pub record MayKeepToColumn (column : PlainColumn) (text : List ℕ) : Type 0 where
+  pub splitter : plain_splitter column.options ≢ None
+  pub first_fit : plain_algorithm column.options ≡ ByFirstFit
+  pub utf8 : IsUtf8 text
+  pub escape : HasNoEscape text
+  pub can : CanKeepToWidth (plain_settings column.options) text
+  pub initial : HasRoomBehind column.options.width text column.options.initial_indent.now
+  pub subsequent : HasRoomBehind column.options.width text column.options.subsequent_indent.now
+
+-- the lines of such texts keep to their columns
+abbrev pub CellsKeepToColumns : Type 0
+CellsKeepToColumns =
+    (columns : List PlainColumn) (texts : List (List ℕ)) (cells : List (List (List ℕ)))
+    → All (λ p. MayKeepToColumn p.0 p.1) (zip columns texts)
+    → AreCells PlainMakes (map plain_parts columns) texts cells
+    → KeepToColumns (map plain_shape (map plain_parts columns)) cells

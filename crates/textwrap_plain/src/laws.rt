@@ -1,6 +1,6 @@
 //! Facts about the definitions.
 ghost use Rattle.textwrap_plain.specs.Laws.{AddHyphensAlone, AreAtPoints, AreTheTextBeside};
-ghost use Rattle.textwrap_plain.specs.Laws.{AreWrapped, HyphenatedLinesAreUnique};
+ghost use Rattle.textwrap_plain.specs.Laws.{AreWrapped, CellsKeepToColumns, HyphenatedLinesAreUnique};
 ghost use Rattle.textwrap_plain.specs.Laws.{HyphenatedTextIsUnique, KeepToWidthButHyphens};
 ghost use Rattle.textwrap_plain.specs.Laws.{PlainIsAtPoints, PlainLinesAreUnique};
 ghost use Rattle.textwrap_plain.specs.Laws.{PlainTextIsUnique};
@@ -39,4 +39,11 @@ pub fn hyphenated_lines(options: &Options<'_>, patterns: &PatternTable<'_>)
     ensures spelled { AreTheTextBeside options.now patterns.now }
     ensures keep { KeepToWidthButHyphens options.now patterns.now }
     ensures built_in { AreAtPoints options.now patterns.now }
+{}
+
+/// The lines of a table's cells keep to their columns, as `table_rows_are_even` of `textwrap_display`
+/// asks for, where first fit breaks the words of each text, no dictionary splits them, and each
+/// character has room in its column, behind the indent. Neither text nor indents have escape sequences.
+pub fn cells_keep_to_columns()
+    ensures { CellsKeepToColumns }
 {}

@@ -1,23 +1,16 @@
 -- How many lines a text takes: as many as stand somewhere, and these are as many as a number says.
-use Rattle.textwrap_plain.specs.Balance.{TakesLines, at_width}
-use Rattle.textwrap_layout.proofs.Common.{AreGroups, LineParts}
-use Rattle.textwrap_layout.proofs.Common.{Line, Settings, cut_lines, line_from}
-use Rattle.textwrap_layout.proofs.Common.{AreWordsCut, text_cuts}
-use Rattle.textwrap_plain.proofs.Balance.Counts.{IsInside, text-lines}
-use Rattle.textwrap_plain.proofs.Split.{AreAt}
-use Rattle.textwrap_plain.specs.Options.{DividesFrom}
-use Rattle.textwrap_words.specs.Cuts.{AreCuts, AreNext}
-use Rattle.textwrap_text.proofs.Common.{paragraphs_of}
-use Rattle.textwrap_layout.proofs.Text.Sinks.{length-places_of}
-use Rattle.textwrap_layout.specs.LentPlaces.{reported_line}
-use Rattle.textwrap_layout.specs.Places.{ArePlacedLines}
-use Rattle.textwrap_layout.specs.declared.places.Place.{Place}
-use Rattle.textwrap_text.proofs.Common.{Bool, IsUtf8, List, [], ap, arith, ending_bytes}
-use Rattle.textwrap_text.proofs.Common.{length, length-append, length-map, map, nat_lt, refl}
-use Rattle.textwrap_text.proofs.Common.{sym, ◌+◌, ◌++◌, ◌<◌, ◌^◌, ◌∷◌, ◌≡◌, ◌||◌, ℕ, false}
-use Rattle.textwrap_text.proofs.Lists.Parts.{flat}
-use Rattle.textwrap_text.specs.LentText.{as_len}
+use Rattle.textwrap_layout.proofs.Common.{AreGroups, AreWordsCut, Line, LineParts, Settings}
+use Rattle.textwrap_layout.proofs.Common.{cut_lines, line_from, text_cuts}
+use Rattle.textwrap_layout.{proofs.Text.Sinks.length-places_of, specs.LentPlaces.reported_line}
+use Rattle.textwrap_layout.specs.{Places.ArePlacedLines, declared.places.Place.Place}
+use Rattle.textwrap_plain.proofs.{Balance.Counts.IsInside, Balance.Counts.text-lines, Split.AreAt}
+use Rattle.textwrap_plain.specs.{Balance.TakesLines, Balance.at_width, Options.DividesFrom}
+use Rattle.textwrap_text.proofs.Common.{Bool, IsUtf8, List, [], ap, arith, ending_bytes, false}
+use Rattle.textwrap_text.proofs.Common.{length, length-append, length-map, map, nat_lt}
+use Rattle.textwrap_text.proofs.Common.{paragraphs_of, refl, sym, ℕ, ◌++◌, ◌+◌, ◌<◌, ◌^◌, ◌||◌, ◌∷◌}
+use Rattle.textwrap_text.{proofs.Common.◌≡◌, proofs.Lists.Parts.flat, specs.LentText.as_len}
 use Rattle.textwrap_words.proofs.Common.{ByFirstFit, WordText}
+use Rattle.textwrap_words.specs.Cuts.{AreCuts, AreNext}
 
 -- ---- lines are as many as the places where they stand
 

@@ -1,56 +1,44 @@
 -- How many pieces and lines a paragraph and a text have at most.
-use Rattle.std.proofs.lemmas.Grind.{flat_map-append}
-use Rattle.std.specs.Str.{chars}
-use Rattle.textwrap_layout.proofs.Common.{Line}
-use Rattle.textwrap_base.proofs.Common.{IsDivision}
-use Rattle.textwrap_layout.proofs.Common.{AreGroups, AreParagraphParts, AreTextLines}
-use Rattle.textwrap_layout.proofs.Common.{broken_pieces_of}
-use Rattle.textwrap_layout.proofs.Common.{LineParts, Settings}
-use Rattle.textwrap_layout.proofs.Common.{covered_by, is_whole, line_from, parts_from, widths_of}
-use Rattle.textwrap_layout.proofs.Text.Paragraphs.{ending_bytes-some, join-paragraphs_of}
-use Rattle.textwrap_layout.proofs.Text.Paragraphs.{paragraphs_of-utf8}
+use Rattle.std.proofs.lemmas.{Grind.flat_map-append, Str.length-le-encodes}
+use Rattle.std.specs.{List.slice_range, Prelude.None, Prelude.Some, Prelude.chars, Str.chars}
+use Rattle.textwrap_base.proofs.{Common.IsDivision, Division.Map.IsDividedBy-whole}
+use Rattle.textwrap_hyphens.specs.{Splitting.is_split_point, Table.held}
+use Rattle.textwrap_layout.proofs.Common.{AreGroups, AreParagraphParts, AreTextLines, AreWordsCut}
+use Rattle.textwrap_layout.proofs.Common.{Line, LineParts, Settings, broken_pieces_of, covered_by}
+use Rattle.textwrap_layout.proofs.Common.{empty_word, front_pieces, is_whole, later_width}
+use Rattle.textwrap_layout.proofs.Common.{line_from, parts_from, widths_of}
+use Rattle.textwrap_layout.proofs.Paragraph.{LeftOff.laid_out-cases, Pieces.AreWordsCut-texts}
+use Rattle.textwrap_layout.proofs.{Paragraph.Pieces.pieces-tile, Text.Paragraphs.ending_bytes-some}
+use Rattle.textwrap_layout.proofs.Text.Paragraphs.{join-paragraphs_of, paragraphs_of-utf8}
 use Rattle.textwrap_lines.proofs.Paragraph.KeepsTo.{parts_from-pieces}
 use Rattle.textwrap_lines.proofs.Text.Groups.{groups-map, groups-tile}
-use Rattle.textwrap_text.proofs.Common.{All, All-cons, All-head, All-map, All-nil, All-tail}
-use Rattle.textwrap_text.proofs.Common.{All-weaker, Bool, IsUtf8, List, [], ap, arith, cases_Bool}
-use Rattle.textwrap_text.proofs.Common.{cond, drop, encodes-chars, ending_bytes, false, filter}
-use Rattle.textwrap_text.proofs.Common.{flat_map, inl, inr, join_with, length, length-append}
-use Rattle.textwrap_text.proofs.Common.{length-drop, length-map, lines, map, nat_lt, paragraphs_of}
-use Rattle.textwrap_text.proofs.Common.{range_with_len, refl, slice_range, subst, suc, sym, true}
-use Rattle.textwrap_text.proofs.Common.{units, zero, ℕ, ◌++◌, ◌+◌, ◌-◌, ◌<◌, ◌||◌, ◌∷◌, ◌≡◌, ◌≢◌}
-use Rattle.textwrap_text.proofs.Common.{◌∙◌, ◌≤◌}
-use Rattle.textwrap_text.proofs.Lists.Parts.{flat, length-slice, some_from_nonempty}
-use Rattle.textwrap_text.specs.Units.{taken_at, units_past}
-use Rattle.textwrap_words.proofs.Common.{WordText, broken_texts, broken_word, sizes_of, tiled}
-use Rattle.textwrap_words.proofs.Common.{word_of}
-use Rattle.textwrap_words.specs.Cuts.{AreCuts, AreNext}
-use Rattle.textwrap_words.proofs.Common.{broken_words, IsDividedBy, pieces_with, split_pieces}
-use Rattle.textwrap_words.proofs.Common.{Algorithm, ByOptimalFit, tile_of, ByFirstFit}
-use Rattle.textwrap_layout.proofs.Common.{front_pieces, later_width, empty_word}
-use Rattle.textwrap_base.proofs.Division.Map.{IsDividedBy-whole}
-use Rattle.textwrap_hyphens.specs.Splitting.{is_split_point}
-use Rattle.textwrap_hyphens.specs.Table.{held}
 use Rattle.textwrap_plain.proofs.Split.{AreAt, pieces-from, split-computed}
 use Rattle.textwrap_plain.specs.Options.{DividesFrom, points_by, split_by_points}
 use Rattle.textwrap_plain.specs.declared.options.PlainSplitter.{PlainSplitter}
 use Rattle.textwrap_plain.specs.declared.options.PlainSplitter.TheVariants.{BuiltIn, Dictionary}
-use Rattle.textwrap_words.specs.declared.pieces.BuiltInSplitter.TheVariants.{HyphenSplitter, NoHyphenation}
-use Rattle.std.proofs.lemmas.Str.{length-le-encodes}
-use Rattle.std.specs.List.{slice_range}
-use Rattle.std.specs.Prelude.{chars}
-use Rattle.textwrap_words.proofs.Word.Breaking.{AreBroken-exists}
-use Rattle.textwrap_words.proofs.Word.Words.{tile_of-word_of, IsMeasured, All-each}
-use Rattle.textwrap_words.specs.WordSplitters.{is_hyphen_point, cut_penalty, split_from}
-use Rattle.textwrap_words.specs.Words.{piece}
-use Rattle.textwrap_layout.proofs.Paragraph.LeftOff.{laid_out-cases}
-use Rattle.textwrap_layout.proofs.Paragraph.Pieces.{pieces-tile}
-use Rattle.std.specs.Prelude.{None, Some}
-use Rattle.textwrap_layout.proofs.Common.{AreWordsCut}
-use Rattle.textwrap_layout.proofs.Paragraph.Pieces.{AreWordsCut-texts}
-use Rattle.textwrap_text.proofs.Common.{chunks, ne_eqb}
+use Rattle.textwrap_text.proofs.Common.{All, All-cons, All-head, All-map, All-nil, All-tail}
+use Rattle.textwrap_text.proofs.Common.{All-weaker, Bool, IsUtf8, List, [], ap, arith, cases_Bool}
+use Rattle.textwrap_text.proofs.Common.{chunks, cond, drop, encodes-chars, ending_bytes, false}
+use Rattle.textwrap_text.proofs.Common.{filter, flat_map, inl, inr, join_with, length}
+use Rattle.textwrap_text.proofs.Common.{length-append, length-drop, length-map, lines, map, nat_lt}
+use Rattle.textwrap_text.proofs.Common.{ne_eqb, paragraphs_of, range_with_len, refl, slice_range}
+use Rattle.textwrap_text.proofs.Common.{subst, suc, sym, true, units, zero, ℕ, ◌++◌, ◌+◌, ◌-◌, ◌<◌}
+use Rattle.textwrap_text.proofs.Common.{◌||◌, ◌∙◌, ◌∷◌, ◌≡◌, ◌≢◌, ◌≤◌}
+use Rattle.textwrap_text.proofs.Lists.Parts.{flat, length-slice, some_from_nonempty}
 use Rattle.textwrap_text.proofs.Units.Chunks.{AreChunks-chunks}
+use Rattle.textwrap_text.specs.Units.{taken_at, units_past}
+use Rattle.textwrap_words.proofs.Common.{Algorithm, ByFirstFit, ByOptimalFit, IsDividedBy, WordText}
+use Rattle.textwrap_words.proofs.Common.{broken_texts, broken_word, broken_words, pieces_with}
+use Rattle.textwrap_words.proofs.Common.{sizes_of, split_pieces, tile_of, tiled, word_of}
+use Rattle.textwrap_words.proofs.Word.Breaking.{AreBroken-exists}
 use Rattle.textwrap_words.proofs.Word.Pieces.{AreSplitWords, AreTexts, split-measured, split-tile}
-use Rattle.textwrap_words.specs.Cuts.{AreInnerCuts, AreLaterCuts, parts_between, parts_onward}
+use Rattle.textwrap_words.proofs.Word.Words.{All-each, IsMeasured, tile_of-word_of}
+use Rattle.textwrap_words.specs.Cuts.{AreCuts, AreInnerCuts, AreLaterCuts, AreNext, parts_between}
+use Rattle.textwrap_words.specs.Cuts.{parts_onward}
+use Rattle.textwrap_words.specs.WordSplitters.{cut_penalty, is_hyphen_point, split_from}
+use Rattle.textwrap_words.specs.Words.{piece}
+use Rattle.textwrap_words.specs.declared.pieces.BuiltInSplitter.TheVariants.{HyphenSplitter}
+use Rattle.textwrap_words.specs.declared.pieces.BuiltInSplitter.TheVariants.{NoHyphenation}
 
 -- ---- how many pieces words are broken into at most: no more than they have bytes
 

@@ -1,28 +1,24 @@
 -- At a wider width first fit takes no more lines of a text, where all its pieces have room.
 use Rattle.std.proofs.Math.Nat.{le-max_right}
-use Rattle.textwrap_plain.specs.Balance.{AreFirstFitAt, HasRoom, at_width, whole_pieces}
-use Rattle.textwrap_plain.specs.Balance.{wider_indent}
 use Rattle.textwrap_base.proofs.Common.{AllFit, IsGreedy, Sizes, closed_width, line_width}
 use Rattle.textwrap_base.proofs.Division.Greedy.{greedy_fewest, line_width-later}
 use Rattle.textwrap_layout.proofs.Common.{IsDivision, broken_pieces_of, front_pieces}
-use Rattle.textwrap_plain.proofs.Split.{pieces-from}
-use Rattle.textwrap_plain.proofs.Unique.{division_one-from}
-use Rattle.textwrap_plain.specs.Options.{DividesFrom, split_by_points}
 use Rattle.textwrap_layout.specs.Paragraph.{IsLaidOut}
 use Rattle.textwrap_lines.proofs.Common.{All, All-cons, All-head, All-nil, All-tail, All-weaker}
 use Rattle.textwrap_lines.proofs.Common.{AreGroups, AreParagraphParts, Bool, ByFirstFit, Line}
-use Rattle.textwrap_lines.proofs.Common.{LineParts, List, Settings, WordText, []}
-use Rattle.textwrap_lines.proofs.Common.{all-left, all-right, and_parts, ap, arith, broken_words}
-use Rattle.textwrap_lines.proofs.Common.{cases_Bool, cond, false, first_width, flat, flat_map}
-use Rattle.textwrap_lines.proofs.Common.{indent_of, inl, inr, is_whole, laid_out-cases, later_width}
-use Rattle.textwrap_lines.proofs.Common.{le-ltb, length, length-append, length-map, line_from}
-use Rattle.textwrap_lines.proofs.Common.{lt-ltb, ltb-true, nat_lt, paragraphs_of, parts_from}
-use Rattle.textwrap_lines.proofs.Common.{refl, sizes_of, subst, suc, true, widths_of}
-use Rattle.textwrap_lines.proofs.Common.{word_of, zero, ℕ, ◌&&◌, ◌++◌, ◌+◌, ◌-◌, ◌<◌, ◌==◌, ◌||◌}
-use Rattle.textwrap_lines.proofs.Common.{◌∙◌, ◌∷◌, ◌≡◌, ◌≤◌}
-use Rattle.textwrap_lines.proofs.Text.Groups.{text_one}
+use Rattle.textwrap_lines.proofs.Common.{LineParts, List, Settings, WordText, [], all-left}
+use Rattle.textwrap_lines.proofs.Common.{all-right, and_parts, ap, arith, broken_words, cases_Bool}
+use Rattle.textwrap_lines.proofs.Common.{cond, false, first_width, flat, flat_map, indent_of, inl}
+use Rattle.textwrap_lines.proofs.Common.{inr, is_whole, laid_out-cases, later_width, le-ltb, length}
+use Rattle.textwrap_lines.proofs.Common.{length-append, length-map, line_from, lt-ltb, ltb-true}
+use Rattle.textwrap_lines.proofs.Common.{nat_lt, paragraphs_of, parts_from, refl, sizes_of, subst}
+use Rattle.textwrap_lines.proofs.Common.{suc, true, widths_of, word_of, zero, ℕ, ◌&&◌, ◌++◌, ◌+◌}
+use Rattle.textwrap_lines.proofs.Common.{◌-◌, ◌<◌, ◌==◌, ◌||◌, ◌∙◌, ◌∷◌, ◌≡◌, ◌≤◌}
+use Rattle.textwrap_lines.proofs.{Paragraph.KeepsTo.parts_from-pieces, Text.Groups.text_one}
+use Rattle.textwrap_plain.proofs.{Split.pieces-from, Unique.division_one-from}
+use Rattle.textwrap_plain.specs.Balance.{AreFirstFitAt, HasRoom, at_width, whole_pieces}
+use Rattle.textwrap_plain.specs.{Balance.wider_indent, Options.DividesFrom, Options.split_by_points}
 use Rattle.textwrap_text.proofs.Common.{add-one, and_from, text_width}
-use Rattle.textwrap_lines.proofs.Paragraph.KeepsTo.{parts_from-pieces}
 use Rattle.textwrap_text.proofs.Numbers.{some_later}
 
 -- ---- lines that fit, fit wider ones

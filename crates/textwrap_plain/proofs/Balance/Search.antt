@@ -1,11 +1,11 @@
 -- The search for the balanced width: between a width below which none is wide enough and one that is.
+use Rattle.textwrap_base.proofs.Cost.Chosen.{whole}
+use Rattle.textwrap_lines.proofs.Common.{Line, List, Settings, WordText, ap, arith, cases_lt, inl}
+use Rattle.textwrap_lines.proofs.Common.{inr, length, refl, subst, suc, zero, ℕ, ◌+◌, ◌-◌, ◌<◌, ◌^◌}
+use Rattle.textwrap_lines.proofs.Common.{◌≡◌, ◌≤◌}
 use Rattle.textwrap_plain.proofs.Balance.Narrower.{lines-fewer, lines-same, room-wider}
 use Rattle.textwrap_plain.specs.Balance.{AreFirstFitAt, HasRoom, IsBalanced, IsWideEnough}
 use Rattle.textwrap_plain.specs.Balance.{TakesLines}
-use Rattle.textwrap_base.proofs.Cost.Chosen.{whole}
-use Rattle.textwrap_lines.proofs.Common.{Line, List, Settings, WordText, ap, arith}
-use Rattle.textwrap_lines.proofs.Common.{cases_lt, inl, inr, length, refl, subst, suc, zero, ℕ, ◌+◌}
-use Rattle.textwrap_lines.proofs.Common.{◌-◌, ◌<◌, ◌^◌, ◌≡◌, ◌≤◌}
 use Rattle.textwrap_text.proofs.Common.{lines, ◌/◌}
 
 -- ---- how often it goes on: each time at most half of the widths are left

@@ -1,13 +1,10 @@
 use Rattle.textwrap_plain.proofs.balancing.balanced_width_by.Goals as goal
-use Rattle.textwrap_plain.proofs.Balance.Room.{room-from, room-least}
-use Rattle.textwrap_plain.proofs.Balance.Search.{balanced-none}
-use Rattle.textwrap_plain.proofs.balancing.balanced_width_by.Goals.{then-indent-width-via-then-indent-width}
+use Rattle.textwrap_layout.{proofs.Common.layout_view, specs.declared.layout.Layout.Layout}
+use Rattle.textwrap_plain.proofs.Balance.{Room.room-from, Room.room-least, Search.balanced-none}
 use Rattle.textwrap_plain.proofs.balancing.balanced_width_by.Goals.{then-indent-width-via-else-indent-width+then-widest-width}
-use Rattle.textwrap_plain.specs.Balance.{wider_indent}
-use Rattle.textwrap_layout.proofs.Common.{layout_view}
-use Rattle.textwrap_layout.specs.declared.layout.Layout.{Layout}
-use Rattle.textwrap_text.proofs.Common.{ap, arith, max, text_width, ◌≡◌, ◌∙◌, ℕ}
-use Rattle.textwrap_plain.specs.Options.{points_by}
+use Rattle.textwrap_plain.proofs.balancing.balanced_width_by.Goals.{then-indent-width-via-then-indent-width}
+use Rattle.textwrap_plain.specs.{Balance.wider_indent, Options.points_by}
+use Rattle.textwrap_text.proofs.Common.{ap, arith, max, text_width, ℕ, ◌∙◌, ◌≡◌}
 
 -- the wider of the indents' columns
 indent-is : (layout : Layout) (initial later wider : ℕ)

@@ -1,9 +1,7 @@
 use Rattle.textwrap_plain.proofs.balancing.count_lines.Goals as goal
-use Rattle.textwrap_plain.proofs.Balance.Counted.{counted}
-use Rattle.textwrap_plain.proofs.Balance.Counts.{points_by-inside}
-use Rattle.textwrap_plain.specs.CutSides.{points_by-cuts}
-use Rattle.textwrap_plain.specs.Options.{points_by}
 use Rattle.textwrap_layout.proofs.Common.{layout_view}
+use Rattle.textwrap_plain.proofs.Balance.{Counted.counted, Counts.points_by-inside}
+use Rattle.textwrap_plain.specs.{CutSides.points_by-cuts, Options.points_by}
 use Rattle.textwrap_text.proofs.Common.{arith}
 
 pub returns-clause-counted : goal.returns-clause-counted

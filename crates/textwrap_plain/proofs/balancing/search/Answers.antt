@@ -1,9 +1,9 @@
 use Rattle.textwrap_plain.proofs.balancing.search.Goals as goal
 use Rattle.textwrap_layout.proofs.Common.{layout_view}
-use Rattle.textwrap_plain.specs.Options.{points_by}
-use Rattle.textwrap_plain.proofs.Balance.Search.{between-end, between-narrower, between-start, between-wider}
-use Rattle.textwrap_plain.proofs.Balance.Search.{halved}
+use Rattle.textwrap_plain.proofs.Balance.Search.{between-end, between-narrower, between-start}
+use Rattle.textwrap_plain.proofs.Balance.Search.{between-wider, halved}
 use Rattle.textwrap_plain.proofs.balancing.search.Goals.{else-count-most, then-count-most}
+use Rattle.textwrap_plain.specs.Options.{points_by}
 use Rattle.textwrap_text.proofs.Common.{arith, ◌+◌, ◌-◌, ◌/◌, ◌≤◌}
 
 pub loop-low-init : goal.loop-low-init

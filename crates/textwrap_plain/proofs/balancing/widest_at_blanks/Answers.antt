@@ -1,7 +1,7 @@
 use Rattle.textwrap_plain.proofs.balancing.widest_at_blanks.Goals as goal
 use Rattle.textwrap_plain.specs.Widest.{widest_place}
-use Rattle.textwrap_words.specs.PiecesLeft.{standing_left}
 use Rattle.textwrap_text.proofs.Common.{ap, arith}
+use Rattle.textwrap_words.specs.PiecesLeft.{standing_left}
 
 pub loop-piece-init : goal.loop-piece-init
 loop-piece-init c =

@@ -1,7 +1,7 @@
 use Rattle.textwrap_plain.proofs.balancing.widest_at_cuts.Goals as goal
 use Rattle.textwrap_plain.specs.Widest.{widest_place}
-use Rattle.textwrap_words.specs.CutPiecesLeft.{cut_standing_left}
 use Rattle.textwrap_text.proofs.Common.{ap, arith}
+use Rattle.textwrap_words.specs.CutPiecesLeft.{cut_standing_left}
 
 pub loop-piece-init : goal.loop-piece-init
 loop-piece-init c =

@@ -1,6 +1,5 @@
 use Rattle.textwrap_plain.proofs.balancing.widest_of_list.Given as goal
-use Rattle.textwrap_base.proofs.Common.{total_width}
-use Rattle.textwrap_base.specs.Errors.{Fits64Bits}
+use Rattle.textwrap_base.{proofs.Common.total_width, specs.Errors.Fits64Bits}
 use Rattle.textwrap_layout.proofs.Common.{word_view}
 use Rattle.textwrap_plain.specs.Widest.{widest_of_words}
 use Rattle.textwrap_text.proofs.Common.{drop, map, max, ◌≡◌}

@@ -1,8 +1,7 @@
 use Rattle.textwrap_plain.proofs.balancing.widest_piece.Goals as goal
-use Rattle.textwrap_plain.specs.Options.{points_by, split_by_points}
-use Rattle.textwrap_plain.proofs.Balance.Room.{widest-more}
-use Rattle.textwrap_plain.specs.Widest.{widest_of_words}
 use Rattle.textwrap_layout.proofs.Text.Lines.{paragraphs_left, paragraphs_left-split}
+use Rattle.textwrap_plain.proofs.Balance.Room.{widest-more}
+use Rattle.textwrap_plain.specs.{Options.points_by, Options.split_by_points, Widest.widest_of_words}
 use Rattle.textwrap_text.proofs.Common.{ap, arith, flat_map, max, ◌∙◌}
 
 pub loop-rest-init : goal.loop-rest-init

@@ -1,8 +1,8 @@
 use Rattle.textwrap_plain.proofs.balancing.wrap_balanced.Goals as goal
 use Rattle.std.proofs.lemmas.Result.{IfOk-weaker}
+use Rattle.textwrap_layout.proofs.Common.{Line, layout_view, line_view}
 use Rattle.textwrap_plain.proofs.Named.{by-splitter}
 use Rattle.textwrap_plain.specs.Balance.{AreBalanced, AreFirstFitAt}
-use Rattle.textwrap_layout.proofs.Common.{Line, layout_view, line_view}
 use Rattle.textwrap_text.proofs.Common.{List, ap, length, map, ◌≡◌}
 use Rattle.textwrap_words.proofs.Common.{words_of}
 

@@ -1,9 +1,8 @@
 use Rattle.textwrap_plain.proofs.balancing.wrap_balanced_by.Goals as goal
 use Rattle.std.proofs.lemmas.Result.{IfOk-weaker}
-use Rattle.textwrap_plain.proofs.Balance.Search.{balanced-many}
 use Rattle.textwrap_layout.proofs.Common.{layout_view}
-use Rattle.textwrap_text.proofs.Common.{length-map, ◌∙◌, sym}
-use Rattle.textwrap_plain.specs.Options.{points_by}
+use Rattle.textwrap_plain.{proofs.Balance.Search.balanced-many, specs.Options.points_by}
+use Rattle.textwrap_text.proofs.Common.{length-map, sym, ◌∙◌}
 
 pub returns-clause-lines : goal.returns-clause-lines
 returns-clause-lines g c = IfOk-weaker c.wrap_by.result _ _

@@ -1,10 +1,10 @@
 use Rattle.textwrap_plain.proofs.display.table.Goals as goal
-use Rattle.textwrap_text.proofs.Common.{map, string_bytes}
 use Rattle.std.proofs.lemmas.Result.{IfOk-weaker}
-use Rattle.textwrap_display.specs.Tables.{gaps_view, texts_in}
 use Rattle.textwrap_display.proofs.TableGroups.{table-map}
+use Rattle.textwrap_display.specs.Tables.{gaps_view, texts_in}
 use Rattle.textwrap_plain.proofs.Named.{columns-make}
-use Rattle.textwrap_plain.specs.Tables.{plain_parts, plain_shape, PlainMakes}
+use Rattle.textwrap_plain.specs.Tables.{PlainMakes, plain_parts, plain_shape}
+use Rattle.textwrap_text.proofs.Common.{map, string_bytes}
 
 pub returns-clause-rows : goal.returns-clause-rows
 returns-clause-rows c =

@@ -1,8 +1,8 @@
 use Rattle.textwrap_plain.proofs.laws.hyphenated_lines.Goals as goal
-use Rattle.textwrap_plain.proofs.Wrapping.{AddOnlyHyphens-hyphenated, AreTheText-hyphenated}
-use Rattle.textwrap_plain.proofs.Wrapping.{IsWrapped-hyphenated}
-use Rattle.textwrap_plain.proofs.Wrapping.{LinesKeepButHyphens-hyphenated, at-points}
 use Rattle.textwrap_hyphens.specs.Table.{held}
+use Rattle.textwrap_plain.proofs.Wrapping.{AddOnlyHyphens-hyphenated, AreTheText-hyphenated}
+use Rattle.textwrap_plain.proofs.Wrapping.{IsWrapped-hyphenated, LinesKeepButHyphens-hyphenated}
+use Rattle.textwrap_plain.proofs.Wrapping.{at-points}
 
 pub returns-clause-wrapped : goal.returns-clause-wrapped
 returns-clause-wrapped g c = IsWrapped-hyphenated c.args.options.now c.args.patterns.now

@@ -1,8 +1,7 @@
 use Rattle.textwrap_plain.proofs.laws.plain_lines_are_unique.Goals as goal
 use Rattle.textwrap_lines.proofs.Text.Groups.{filled_one, text_one}
-use Rattle.textwrap_plain.proofs.Unique.{division_one-from}
-use Rattle.textwrap_plain.specs.Options.{plain_algorithm, DividesPlainly, plain_settings, points_by}
-use Rattle.textwrap_plain.specs.Options.{words_by}
+use Rattle.textwrap_plain.{proofs.Unique.division_one-from, specs.Options.DividesPlainly}
+use Rattle.textwrap_plain.specs.Options.{plain_algorithm, plain_settings, points_by, words_by}
 
 pub returns-clause-lines : goal.returns-clause-lines
 returns-clause-lines c = λ o.

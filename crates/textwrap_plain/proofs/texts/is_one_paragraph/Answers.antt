@@ -1,7 +1,7 @@
 use Rattle.textwrap_plain.proofs.texts.is_one_paragraph.Goals as goal
-use Rattle.textwrap_text.proofs.Common.{subst, IsPrintable}
 use Rattle.textwrap_layout.proofs.Text.Paragraphs.{one-paragraph, printable-free}
 use Rattle.textwrap_plain.proofs.Named.{only-paragraph}
+use Rattle.textwrap_text.proofs.Common.{IsPrintable, subst}
 
 pub returns-then-is_printable : goal.returns-then-is_printable
 returns-then-is_printable c = λ one.

@@ -1,12 +1,11 @@
+use Rattle.textwrap_plain.proofs.texts.wrap.Goals as goal
 use Rattle.std.{proofs.lemmas.Result.IfOk-weaker, specs.Prelude.IfOk}
 use Rattle.textwrap_layout.proofs.Common.{AreTextLines, line_view}
 use Rattle.textwrap_plain.proofs.Words.{AddOnlyHyphens-at, ArePrintedWithin-at, AreTheText-at}
-use Rattle.textwrap_plain.proofs.Words.{IsWrapped-at}
-use Rattle.textwrap_plain.proofs.Words.{LinesKeepButHyphens-at, LinesKeepToWidth-at}
+use Rattle.textwrap_plain.proofs.Words.{IsWrapped-at, LinesKeepButHyphens-at, LinesKeepToWidth-at}
 use Rattle.textwrap_plain.proofs.texts.wrap.Goals.{After-wrap_by}
 use Rattle.textwrap_plain.specs.Options.{DividesPlainly, plain_algorithm, plain_settings}
 use Rattle.textwrap_text.proofs.Common.{map}
-use Rattle.textwrap_plain.proofs.texts.wrap.Goals as goal
 
 lines : (c : After-wrap_by) → IfOk c.wrap_by.result (λ lines.
     AreTextLines (plain_settings c.args.options.now)

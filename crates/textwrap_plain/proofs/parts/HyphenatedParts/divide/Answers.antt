@@ -1,8 +1,8 @@
 use Rattle.textwrap_plain.proofs.parts.HyphenatedParts.divide.Goals as goal
-use Rattle.textwrap_text.proofs.Common.{arith, map}
 use Rattle.textwrap_layout.proofs.Common.{AreWordsCut, word_view}
 use Rattle.textwrap_layout.proofs.Paragraph.Pieces.{AreWordsCut-texts}
 use Rattle.textwrap_plain.proofs.Pieces.{hyphenated-wide}
+use Rattle.textwrap_text.proofs.Common.{arith, map}
 
 pub returns-clause-only_memory : goal.returns-clause-only_memory
 returns-clause-only_memory g c = λ settings paragraph utf8 short are tiles never.

@@ -1,9 +1,9 @@
+use Rattle.textwrap_plain.proofs.printable.PlainWordsPrintableCuts.are_told.Goals as goal
 use Rattle.textwrap_plain.specs.declared.options.PlainSeparator.TheVariants.{AtBreaks}
 use Rattle.textwrap_text.proofs.Common.{ap, map, rules, ◌≡◌}
 use Rattle.textwrap_unicode.proofs.PrintableCuts.{parts-cut}
 use Rattle.textwrap_unicode.specs.declared.numbers.Numbers.TheVariants.{ByPairs}
 use Rattle.textwrap_words.proofs.{Common.word_of, Word.Parts.blank-words}
-use Rattle.textwrap_plain.proofs.printable.PlainWordsPrintableCuts.are_told.Goals as goal
 
 pub returns-in-AtBlanks : goal.returns-in-AtBlanks
 returns-in-AtBlanks c = λ _ text printable.

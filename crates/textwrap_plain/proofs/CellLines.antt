@@ -1,0 +1,248 @@
+-- Lines that keep to a width as texts of their own, by first fit, where no text has escape sequences and
+-- each character has room behind each indent.
+use Rattle.std.{proofs.lemmas.List.Elements.All-map, specs.List.zip, specs.Prelude.chars}
+use Rattle.std.specs.Prelude.{sum_by}
+use Rattle.textwrap_base.proofs.Division.Map.{IsDividedBy-whole}
+use Rattle.textwrap_display.specs.Tables.{IsCell, Shape}
+use Rattle.textwrap_layout.proofs.Common.{CutsNoSequence, HasNoEscape, IsPrintedWithin}
+use Rattle.textwrap_layout.proofs.Paragraph.LeftOff.{assembled-parts, blanks-utf8, bytes-assembled}
+use Rattle.textwrap_layout.proofs.Paragraph.Pieces.{pieces-measured, pieces-no_penalty}
+use Rattle.textwrap_layout.proofs.Text.Paragraphs.{each_part, paragraphs_of-each, text_width-append}
+use Rattle.textwrap_layout.proofs.Text.Paragraphs.{units-plain}
+use Rattle.textwrap_lines.proofs.Common.{All, All-cons, All-head, All-nil, All-tail, AreCuts}
+use Rattle.textwrap_lines.proofs.Common.{AreParagraphParts, AreTextLines, AreTexts, Bool}
+use Rattle.textwrap_lines.proofs.Common.{ByFirstFit, CanKeepToWidth, HasNoPenalty, IsDividedBy}
+use Rattle.textwrap_lines.proofs.Common.{IsDividedInto, IsMeasured, IsUtf8, Line, LineParts, List}
+use Rattle.textwrap_lines.proofs.Common.{Settings, WordText, [], all-left, all-right, ap}
+use Rattle.textwrap_lines.proofs.Common.{append_assoc, arith, assembled_line, cases_Bool, cond}
+use Rattle.textwrap_lines.proofs.Common.{covered, ends_in_hyphen, false, flat, indent_of, inl, inr}
+use Rattle.textwrap_lines.proofs.Common.{is_whole, laid_out-cases, length, line_bytes, line_from}
+use Rattle.textwrap_lines.proofs.Common.{map, nat_lt, paragraphs_of, paragraphs_of-utf8, parts_from}
+use Rattle.textwrap_lines.proofs.Common.{parts_of, pieces-tile, refl, rules, sizes_of, subst, sym}
+use Rattle.textwrap_lines.proofs.Common.{take, tiled, tiled-word_of, true, widths_of, word_of, ℕ}
+use Rattle.textwrap_lines.proofs.Common.{◌++◌, ◌+◌, ◌∙◌, ◌∷◌, ◌≡◌, ◌≢◌, ◌≤◌}
+use Rattle.textwrap_lines.proofs.Text.Groups.{groups-all, groups-map}
+use Rattle.textwrap_lines.proofs.Text.Printed.{ArePrintedWithin-by, blanks-whole}
+use Rattle.textwrap_plain.proofs.Words.{lines-greedy, points_by-hyphens, texts-at}
+use Rattle.textwrap_plain.specs.CutSides.{points_by-cuts}
+use Rattle.textwrap_plain.specs.Laws.{CellsKeepToColumns, HasRoomBehind, MayKeepToColumn}
+use Rattle.textwrap_plain.specs.Options.{plain_algorithm, plain_settings, points_by, words_by}
+use Rattle.textwrap_plain.specs.Tables.{PlainMakes, plain_parts, plain_shape}
+use Rattle.textwrap_plain.specs.declared.display.PlainColumn.{PlainColumn}
+use Rattle.textwrap_styles.proofs.SequenceTexts.{nil-whole, whole_text-append}
+use Rattle.textwrap_styles.specs.Styled.{IsWholeText}
+use Rattle.textwrap_text.proofs.Common.{filter, nat_tests, sum_by-cons}
+use Rattle.textwrap_text.specs.Units.{columns, escape, text_width, visible}
+use Rattle.textwrap_words.proofs.Word.Words.{text_width-nil, word_of-measured}
+
+-- ---- one character
+
+abbrev takes_columns : ℕ → Bool
+takes_columns c = nat_lt 0 (columns c)
+
+none-wide : (cs : List ℕ) → length (filter takes_columns cs) ≡ 0 → sum_by columns cs ≡ 0
+none-wide [] none = refl
+none-wide (c ∷ cs) none = grind (arith, cases_Bool, nat_tests, none-wide cs)
+
+one-wide : (n width : ℕ) (cs : List ℕ) → All (λ c. n + columns c ≤ width) cs
+    → length (filter takes_columns cs) ≡ 1 → n + sum_by columns cs ≤ width
+one-wide n width [] fit one = absurd (omega (arith, one))
+one-wide n width (c ∷ cs) fit one =
+    let here = All-head (λ c. n + columns c ≤ width) c cs fit in
+    let others = one-wide n width cs (All-tail (λ c. n + columns c ≤ width) c cs fit) in
+    grind (arith, cases_Bool, nat_tests, here, none-wide cs, others, sum_by-cons columns c cs)
+
+visible-plain : (cs : List ℕ) → All (λ c. c ≢ escape) cs → visible cs ≡ cs
+visible-plain [] none = refl
+visible-plain (c ∷ cs) none =
+    let other = All-head (λ c. c ≢ escape) c cs none in
+    search (rules, arith, visible-plain cs (All-tail (λ c. c ≢ escape) c cs none))
+
+-- ---- a line
+
+-- a text of its own that takes no more columns
+abbrev pub Fits : ℕ → List ℕ → Type 0
+Fits width line = IsWholeText line × (text_width line ≤ width)
+
+module _ (settings : Settings) (text : List ℕ) (can : CanKeepToWidth settings text)
+    (initial : HasRoomBehind settings.width text settings.initial_indent)
+    (subsequent : HasRoomBehind settings.width text settings.subsequent_indent) where
+  leaves : (b : Bool) → HasRoomBehind settings.width text (indent_of settings b)
+  leaves true = subsequent
+  leaves false = initial
+
+  indent-whole : (b : Bool) → IsWholeText (indent_of settings b)
+  indent-whole true = (can.subsequent, units-plain (chars settings.subsequent_indent) subsequent.escape)
+  indent-whole false = (can.initial, units-plain (chars settings.initial_indent) initial.escape)
+
+  -- a character of the text
+  abbrev Room : ℕ → Type 0
+  Room c = (c ≢ escape) × ((b : Bool) → text_width (indent_of settings b) + columns c ≤ settings.width)
+
+  abbrev HasRoom : WordText → Type 0
+  HasRoom w = All Room (chars w.word)
+
+  pieces-room : (ws : List WordText) → All IsMeasured ws → All Room (chars (tiled ws)) → All HasRoom ws
+  pieces-room [] measured room = All-nil HasRoom
+  pieces-room (w ∷ ws) measured room =
+      let here = All-head IsMeasured w ws measured in
+      let (word, after) = each_part Room w.word (w.whitespace ++ tiled ws) here.utf8
+      (subst (λ t. All Room (chars t)) (append_assoc w.word w.whitespace (tiled ws)) room) in
+      All-cons HasRoom w ws word (pieces-room ws (All-tail IsMeasured w ws measured)
+      (each_part Room w.whitespace (tiled ws) (blanks-utf8 w.whitespace here.ending.blanks) after).1)
+
+  word-whole : (w : WordText) → IsMeasured w → HasRoom w → IsWholeText w.word
+  word-whole w measured room =
+      (measured.utf8, units-plain (chars w.word) (λ k d lt. (room k d lt).0))
+
+  covered-whole : (ws : List WordText) → All IsMeasured ws → All HasRoom ws → IsWholeText (covered ws)
+  covered-whole [] measured room = nil-whole
+  covered-whole (w ∷ []) measured room =
+      word-whole w (All-head IsMeasured w [] measured) (All-head HasRoom w [] room)
+  covered-whole (w ∷ v ∷ ws) measured room =
+      let here = All-head IsMeasured w (v ∷ ws) measured in
+      let blanks = here.ending.blanks in
+      whole_text-append (w.word ++ w.whitespace) (covered (v ∷ ws))
+      (whole_text-append w.word w.whitespace (word-whole w here (All-head HasRoom w (v ∷ ws) room))
+      (blanks-utf8 w.whitespace blanks, blanks-whole w.whitespace blanks))
+      (covered-whole (v ∷ ws) (All-tail IsMeasured w (v ∷ ws) measured)
+      (All-tail HasRoom w (v ∷ ws) room))
+
+  -- one character fits behind either indent
+  one-fits : (b : Bool) (w : WordText) → HasRoom w → length (filter takes_columns (visible (chars w.word))) ≡ 1
+      → text_width (indent_of settings b ++ w.word) ≤ settings.width
+  one-fits b w room one =
+      let indent = indent_of settings b in
+      let whole = indent-whole b in
+      let plain = visible-plain (chars w.word) (λ k d lt. (room k d lt).0) in
+      let fits = one-wide (text_width indent) settings.width (chars w.word)
+      (λ k d lt. (room k d lt).1 b) (subst (λ cs. length (filter takes_columns cs) ≡ 1) plain one) in
+      omega (arith, text_width-append indent w.word whole.0 whole.1, ap (sum_by columns) plain, fits)
+
+  abbrev Keeps : LineParts → Type 0
+  Keeps p = CutsNoSequence p → IsPrintedWithin settings.width p → Fits settings.width (line_bytes (line_from p))
+
+  line-keeps : (b : Bool) (line : List WordText) → All IsMeasured line → All HasNoPenalty line
+      → All HasRoom line → Keeps (parts_of settings b line)
+  line-keeps b [] measured none room cuts within = (nil-whole, omega (arith, text_width-nil))
+  line-keeps b (w ∷ ws) measured none room cuts within =
+      let indent = indent_of settings b in
+      let slice = covered (w ∷ ws) in
+      let bytes : line_bytes (line_from (parts_of settings b (w ∷ ws))) ≡ indent ++ slice =
+      ap line_bytes (sym (assembled-parts settings b w ws none)
+      ∙ ap (λ k. assembled_line indent (cond k (tiled (w ∷ ws)) slice) []) can.trims)
+      ∙ bytes-assembled indent slice in
+      subst (Fits settings.width) (sym bytes) (
+        whole_text-append indent slice (indent-whole b) (covered-whole (w ∷ ws) measured room),
+        elim within [
+          | inl fits ↦ subst (λ l. text_width l ≤ settings.width) bytes fits
+          | inr (inl wide) ↦ absurd (omega (arith, wide, (leaves b).fits))
+          | inr (inr (v, is, one)) ↦ subst (λ l. text_width (indent ++ covered l) ≤ settings.width) (sym is)
+              (one-fits b v (All-head HasRoom v [] (subst (All HasRoom) is room)) one)
+        ],
+      )
+
+  lines-keep : (b : Bool) (division : List (List WordText)) → All IsMeasured (flat division)
+      → All HasNoPenalty (flat division) → All HasRoom (flat division)
+      → All Keeps (parts_from settings b division)
+  lines-keep b [] measured none room = All-nil Keeps
+  lines-keep b (line ∷ lines) measured none room =
+      All-cons Keeps (parts_of settings b line) (parts_from settings true lines)
+      (line-keeps b line (all-left IsMeasured line (flat lines) measured)
+      (all-left HasNoPenalty line (flat lines) none) (all-left HasRoom line (flat lines) room))
+      (lines-keep true lines (all-right IsMeasured line (flat lines) measured)
+      (all-right HasNoPenalty line (flat lines) none) (all-right HasRoom line (flat lines) room))
+
+  -- ---- the lines of a text
+
+  module _ (Words : List ℕ → List WordText → Type 0) (Points : List ℕ → List ℕ → Type 0)
+      (Lines : List ℕ → List WordText → List (List WordText) → Type 0)
+      (texts : (line : List ℕ) (words : List WordText) → IsUtf8 line → Words line words
+      → AreTexts line words)
+      (cuts : (text points : List ℕ) → IsUtf8 text → Points text points → AreCuts text points)
+      (hyphens : (text points : List ℕ) → Points text points
+      → All (λ p. ends_in_hyphen (take p text) ≡ true) points)
+      (greedy : (widths : List ℕ) (pieces : List WordText) (division : List (List WordText))
+      → Lines widths pieces division → IsDividedBy ByFirstFit sizes_of widths pieces division) where
+    abbrev Divides : Bool → List ℕ → List (List WordText) → Type 0
+    Divides = IsDividedInto settings Words Points Lines
+
+    -- whatever a paragraph is divided into, its pieces keep
+    division-keeps : (b : Bool) (paragraph : List ℕ) (pieces : List WordText)
+        (division : List (List WordText)) → flat division ≡ pieces → All IsMeasured pieces
+        → All HasNoPenalty pieces → tiled pieces ≡ paragraph → All Room (chars paragraph)
+        → All Keeps (parts_from settings b division)
+    division-keeps b paragraph pieces division is measured none tile room =
+        lines-keep b division (subst (All IsMeasured) (sym is) measured)
+        (subst (All HasNoPenalty) (sym is) none) (subst (All HasRoom) (sym is)
+        (pieces-room pieces measured (subst (λ t. All Room (chars t)) (sym tile) room)))
+
+    paragraph-keeps : (b : Bool) (paragraph : List ℕ) (parts : List LineParts)
+        → IsUtf8 paragraph × All Room (chars paragraph)
+        → AreParagraphParts settings Divides b paragraph parts → All Keeps parts
+    paragraph-keeps b paragraph parts (utf8, room) (division, laid_out, is) =
+        subst (All Keeps) (sym is) (laid_out-cases (λ d. All Keeps (parts_from settings b d)) paragraph _
+        division
+        (division-keeps b paragraph (word_of paragraph ∷ []) ((word_of paragraph ∷ []) ∷ []) refl
+        (All-cons IsMeasured (word_of paragraph) [] (word_of-measured paragraph utf8)
+        (All-nil IsMeasured)) (All-cons HasNoPenalty (word_of paragraph) [] refl (All-nil HasNoPenalty))
+        (tiled-word_of paragraph) room) (λ (pieces, are, divided).
+        division-keeps b paragraph pieces division
+        (IsDividedBy-whole sizes_of ByFirstFit (widths_of settings b) pieces division
+        (greedy (widths_of settings b) pieces division divided))
+        (pieces-measured settings Words Points texts cuts paragraph pieces utf8 are)
+        (pieces-no_penalty settings Words Points texts cuts hyphens paragraph pieces utf8 are)
+        (pieces-tile settings Words Points texts cuts paragraph pieces utf8 are) room)
+        (is_whole settings b paragraph) laid_out)
+
+    pub lines-fit : (lines : List Line) → IsUtf8 text → HasNoEscape text
+        → AreTextLines settings Divides text lines → All (Fits settings.width) (map line_bytes lines)
+    lines-fit lines utf8 none are =
+        let printed = ArePrintedWithin-by settings Words Points Lines texts cuts hyphens greedy text lines
+        utf8 can are in
+        let groups = printed.are.groups in
+        let ending = settings.line_ending in
+        let paragraphs = paragraphs_of ending text in
+        let room = paragraphs_of-each Room ending text utf8
+        (λ k d lt. (none k d lt, λ b. (leaves b).each k d lt)) in
+        let all = paragraphs_of-utf8 ending text utf8 in
+        let keeps = groups-all Keeps false paragraphs groups
+        (groups-map (λ p. IsUtf8 p × All Room (chars p)) (AreParagraphParts settings Divides)
+        (λ b paragraph parts. All Keeps parts) paragraph-keeps false paragraphs groups
+        (λ k d lt. (all k d lt, room k d lt)) printed.are.defined) in
+        let whole = printed.whole none initial.escape subsequent.escape in
+        subst (λ ls. All (Fits settings.width) (map line_bytes ls)) (sym printed.are.given)
+        (All-map (Fits settings.width) line_bytes (map line_from (flat groups))
+        (All-map (λ l. Fits settings.width (line_bytes l)) line_from (flat groups)
+        (λ k d lt. keeps k d lt (whole k d lt) (printed.within k d lt (whole k d lt)))))
+
+-- ---- the cells of a table
+
+-- a cell's lines, where its column and its text are such
+cell-keeps : (column : PlainColumn) (text : List ℕ) (cell : List (List ℕ)) → MayKeepToColumn column text
+    → IsCell PlainMakes (plain_parts column, text) cell → All (Fits column.options.width) cell
+cell-keeps column text cell may (lines, are, is) =
+    let o = column.options in
+    let Words : List ℕ → List WordText → Type 0 = λ line words. words ≡ words_by o.word_separator line in
+    let Points : List ℕ → List ℕ → Type 0 = λ word points. points ≡ points_by o.word_splitter word in
+    subst (All (Fits o.width)) (sym is) (lines-fit (plain_settings o) text may.can may.initial
+    may.subsequent Words Points (IsDividedBy (plain_algorithm o) sizes_of) (texts-at o.word_separator)
+    (points_by-cuts o.word_splitter) (points_by-hyphens o.word_splitter may.splitter)
+    (lines-greedy may.first_fit) lines may.utf8 may.escape are)
+
+abbrev MayKeep : PlainColumn × List ℕ → Type 0
+MayKeep p = MayKeepToColumn p.0 p.1
+
+abbrev KeepsTo : Shape × List (List ℕ) → Type 0
+KeepsTo p = All (Fits p.0.width) p.1
+
+pub cells-keep : CellsKeepToColumns
+cells-keep [] texts cells may are = All-nil KeepsTo
+cells-keep (one ∷ others) [] [] may are = All-nil KeepsTo
+cells-keep (one ∷ others) [] (cell ∷ cells) may are = absurd are
+cells-keep (one ∷ others) (text ∷ texts) [] may are = absurd are
+cells-keep (one ∷ others) (text ∷ texts) (cell ∷ cells) may (here, there) =
+    All-cons KeepsTo (plain_shape (plain_parts one), cell)
+    (zip (map plain_shape (map plain_parts others)) cells)
+    (cell-keeps one text cell (All-head MayKeep (one, text) (zip others texts) may) here)
+    (cells-keep others texts cells (All-tail MayKeep (one, text) (zip others texts) may) there)

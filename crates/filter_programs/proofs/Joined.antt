@@ -1,6 +1,6 @@
 -- The parts of a word, joined by hyphens: the first of them, and those that follow it.
-use Rattle.textwrap_text.proofs.Common.{List, [], append_assoc, refl, ℕ, ◌++◌, ◌∷◌, ◌≡◌}
 use Rattle.std.specs.List.{join_with_byte}
+use Rattle.textwrap_text.proofs.Common.{List, [], append_assoc, refl, ℕ, ◌++◌, ◌∷◌, ◌≡◌}
 use Rattle.textwrap_words.specs.{Cuts.parts_onward, WordSplitters.hyphen}
 
 joined-first : (part : List ℕ) (cut : ℕ) (cuts word : List ℕ)

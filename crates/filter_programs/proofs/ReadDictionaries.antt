@@ -1,12 +1,13 @@
 -- What is read of a file says what its bytes do.
-use Rattle.std.proofs.Common.{List, ℕ}
-use Rattle.std.specs.Prelude.{Err, Ok, Option, Result}
-use Rattle.text_filters.specs.declared.faults.Fault.TheVariants.{Read, NotUtf8, Memory, Write, Output}
-use Rattle.textwrap_hyphens.specs.declared.dictionary.Patterns.{Patterns}
-use Rattle.textwrap_program.specs.Filling.{ReadsAll}
 use Rattle.filter_programs.specs.HyphenateDictionary.{IsDictionary, ReadsDictionary}
 use Rattle.filter_programs.specs.declared.hyphenate.dictionary.Failure.{Failure}
 use Rattle.filter_programs.specs.declared.hyphenate.dictionary.Failure.TheVariants.{Unread, Wrong}
+use Rattle.std.proofs.Common.{List, ℕ}
+use Rattle.std.specs.Prelude.{Err, Ok, Option, Result}
+use Rattle.text_filters.specs.declared.faults.Fault.TheVariants.{Memory, NotUtf8, Output, Read}
+use Rattle.text_filters.specs.declared.faults.Fault.TheVariants.{Write}
+use Rattle.textwrap_hyphens.specs.declared.dictionary.Patterns.{Patterns}
+use Rattle.textwrap_program.specs.Filling.{ReadsAll}
 
 -- bytes that were read to the end of a file, and say this or are none
 pub reads : (Z : Type 0) (unread left : Option (List ℕ)) (bytes : List ℕ)

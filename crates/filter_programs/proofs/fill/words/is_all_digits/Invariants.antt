@@ -1,5 +1,5 @@
-use Rattle.std.{proofs.Common.drop, proofs.Common.◌≡◌, specs.Str.all_ascii_digits}
 use Rattle.filter_programs.proofs.fill.words.is_all_digits.Given as goal
+use Rattle.std.{proofs.Common.drop, proofs.Common.◌≡◌, specs.Str.all_ascii_digits}
 
 -- the bytes to come decide
 abbrev pub invariant-loop-byte : goal.invariant-loop-byte

@@ -1,7 +1,6 @@
-use Rattle.std.proofs.Common.{◌∙◌, Some, ap, ap₂}
-use Rattle.std.proofs.lemmas.Result.{IfOk-weaker}
-use Rattle.clap.specs.Words.{Rule, rule_of, with_rule}
 use Rattle.filter_programs.proofs.hyphenate.arguments.command.Goals as goal
+use Rattle.clap.specs.Words.{Rule, rule_of, with_rule}
+use Rattle.std.proofs.{Common.Some, Common.ap, Common.ap₂, Common.◌∙◌, lemmas.Result.IfOk-weaker}
 
 pub returns : goal.returns
 returns c =

@@ -1,9 +1,7 @@
-use Rattle.std.proofs.Common.{List, subst, ℕ}
-use Rattle.std.specs.Prelude.{Option}
-use Rattle.textwrap_program.specs.Filling.{ReadsAll}
-use Rattle.filter_programs.proofs.ReadDictionaries.{reads}
-use Rattle.filter_programs.specs.HyphenateDictionary.{IsDictionary}
 use Rattle.filter_programs.proofs.hyphenate.dictionary.read_dictionary.Goals as goal
+use Rattle.filter_programs.{proofs.ReadDictionaries.reads, specs.HyphenateDictionary.IsDictionary}
+use Rattle.std.{proofs.Common.List, proofs.Common.subst, proofs.Common.ℕ, specs.Prelude.Option}
+use Rattle.textwrap_program.specs.Filling.{ReadsAll}
 
 pub returns-clause-read : goal.returns-clause-read
 returns-clause-read g c =

@@ -1,10 +1,9 @@
-use Rattle.std.proofs.Common.{[], ◌∷◌, codes, decimal, inl, refl, subst}
-use Rattle.std.specs.Prelude.{string_bytes}
-use Rattle.text_filters.proofs.MessageLemmas.{says-result}
-use Rattle.text_filters.specs.Messages.{message_line}
-use Rattle.text_filters.specs.Program.{Says}
-use Rattle.filter_programs.specs.HyphenateProgram.{hyphenate_about}
 use Rattle.filter_programs.proofs.hyphenate.program.explain_line.Goals as goal
+use Rattle.filter_programs.specs.HyphenateProgram.{hyphenate_about}
+use Rattle.std.proofs.Common.{[], codes, decimal, inl, refl, subst, ◌∷◌}
+use Rattle.std.specs.Prelude.{string_bytes}
+use Rattle.text_filters.{proofs.MessageLemmas.says-result, specs.Messages.message_line}
+use Rattle.text_filters.specs.Program.{Says}
 
 pub returns : goal.returns
 returns g c =

@@ -1,10 +1,8 @@
-use Rattle.std.proofs.Common.{[], ◌∷◌, codes, subst}
-use Rattle.std.proofs.lemmas.Bool.{ne_eqb}
-use Rattle.text_filters.proofs.MessageLemmas.{says-result}
-use Rattle.text_filters.specs.Messages.{message_line}
-use Rattle.text_filters.specs.Program.{Says}
-use Rattle.filter_programs.specs.HyphenateProgram.{hyphenate_about}
 use Rattle.filter_programs.proofs.hyphenate.program.say_changed.Goals as goal
+use Rattle.filter_programs.specs.HyphenateProgram.{hyphenate_about}
+use Rattle.std.proofs.{Common.[], Common.codes, Common.subst, Common.◌∷◌, lemmas.Bool.ne_eqb}
+use Rattle.text_filters.{proofs.MessageLemmas.says-result, specs.Messages.message_line}
+use Rattle.text_filters.specs.Program.{Says}
 
 pub returns : goal.returns
 returns g c =

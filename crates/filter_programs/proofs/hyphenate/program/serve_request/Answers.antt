@@ -1,14 +1,11 @@
-use Rattle.std.proofs.Common.{Bool, ap, inl, subst, ◌∙◌}
-use Rattle.std.proofs.KnownBytes.{Keeps-refl}
-use Rattle.text_filters.specs.Program.{Serves, World}
-use Rattle.text_filters.specs.Streams.{faults_of}
-use Rattle.textwrap_hyphens.specs.Hyphenation.{Hyphenation}
-use Rattle.textwrap_hyphens.specs.Table.{held, patterns_view}
-use Rattle.filter_programs.specs.HyphenateArguments.{filling_of}
-use Rattle.filter_programs.specs.HyphenateProgram.{SaysChanged, hyphenate_about}
-use Rattle.filter_programs.specs.HyphenateTexts.{hyphenating_by}
 use Rattle.filter_programs.proofs.hyphenate.program.serve_request.Goals as goal
 use Rattle.filter_programs.proofs.hyphenate.program.serve_request.Goals.{else-said, then-said}
+use Rattle.filter_programs.specs.{HyphenateArguments.filling_of, HyphenateProgram.SaysChanged}
+use Rattle.filter_programs.specs.{HyphenateProgram.hyphenate_about, HyphenateTexts.hyphenating_by}
+use Rattle.std.proofs.Common.{Bool, ap, inl, subst, ◌∙◌}
+use Rattle.std.proofs.KnownBytes.{Keeps-refl}
+use Rattle.text_filters.specs.{Program.Serves, Program.World, Streams.faults_of}
+use Rattle.textwrap_hyphens.specs.{Hyphenation.Hyphenation, Table.held, Table.patterns_view}
 
 pub returns : goal.returns
 returns g c =

@@ -1,9 +1,8 @@
-use Rattle.std.proofs.lemmas.Iterator.Splits.{YieldsList-from_lines}
-use Rattle.std.specs.List.{flat_map}
-use Rattle.textwrap_text.proofs.Common.{YieldsList-end, ap, ◌∙◌}
-use Rattle.textwrap_hyphens.specs.Table.{held}
-use Rattle.filter_programs.specs.HyphenateTexts.{hyphenated_word}
 use Rattle.filter_programs.proofs.hyphenate.texts.hyphenated_words.Goals as goal
+use Rattle.filter_programs.specs.HyphenateTexts.{hyphenated_word}
+use Rattle.std.{proofs.lemmas.Iterator.Splits.YieldsList-from_lines, specs.List.flat_map}
+use Rattle.textwrap_hyphens.specs.Table.{held}
+use Rattle.textwrap_text.proofs.Common.{YieldsList-end, ap, ◌∙◌}
 
 pub returns : goal.returns
 returns c =

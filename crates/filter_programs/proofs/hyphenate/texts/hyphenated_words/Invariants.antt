@@ -1,9 +1,8 @@
-use Rattle.std.specs.List.{flat_map}
-use Rattle.std.specs.Prelude.{string_bytes}
-use Rattle.textwrap_text.proofs.Common.{map, ◌≡◌}
-use Rattle.textwrap_hyphens.specs.Table.{held}
-use Rattle.filter_programs.specs.HyphenateTexts.{hyphenated_word}
 use Rattle.filter_programs.proofs.hyphenate.texts.hyphenated_words.Given as goal
+use Rattle.filter_programs.specs.HyphenateTexts.{hyphenated_word}
+use Rattle.std.specs.{List.flat_map, Prelude.string_bytes}
+use Rattle.textwrap_hyphens.specs.Table.{held}
+use Rattle.textwrap_text.proofs.Common.{map, ◌≡◌}
 
 -- what is made so far are the lines so far, each as a word
 abbrev pub invariant-loop-word : goal.invariant-loop-word

@@ -1,8 +1,7 @@
-use Rattle.textwrap_text.proofs.Common.{drop, drop_more, get_or, slice_range, ◌+◌, ◌∙◌, ap, ◌++◌}
-use Rattle.std.proofs.Common.{lit<}
-use Rattle.std.specs.Prelude.{string_bytes}
-use Rattle.filter_programs.proofs.Joined.{joined-more}
 use Rattle.filter_programs.proofs.hyphenate.texts.push_parts.Goals as goal
+use Rattle.filter_programs.proofs.Joined.{joined-more}
+use Rattle.std.{proofs.Common.lit<, specs.Prelude.string_bytes}
+use Rattle.textwrap_text.proofs.Common.{ap, drop, drop_more, get_or, slice_range, ◌++◌, ◌+◌, ◌∙◌}
 
 pub loop-point-preserved : goal.loop-point-preserved
 loop-point-preserved c =

@@ -1,7 +1,6 @@
-use Rattle.std.proofs.Common.{◌∙◌, ap₂}
-use Rattle.std.proofs.lemmas.Result.{IfOk-weaker}
-use Rattle.clap.specs.Words.{with_rule}
 use Rattle.filter_programs.proofs.reflow.arguments.command.Goals as goal
+use Rattle.clap.specs.Words.{with_rule}
+use Rattle.std.proofs.{Common.ap₂, Common.◌∙◌, lemmas.Result.IfOk-weaker}
 
 pub returns : goal.returns
 returns c =

@@ -4,7 +4,7 @@
 # proved and compiled with: rattle-kit-13f logic dac8208d650f15bf
 # made, unproved for its own target, of the module that was proved for: x86_64-unknown-linux-gnu
 # crates: textwrap_text textwrap_base textwrap_words textwrap_layout textwrap_lines textwrap textwrap_unicode textwrap_styles textwrap_display textwrap_trie textwrap_patterns textwrap_hyphens textwrap_marks textwrap_marked textwrap_plain textwrap_calls textwrap_more_calls textwrap_c
-# sum of their sources: 41b74b78102baaaee2f6de931e15b7bd302e621ef882eb7c8aa686cd1db76b0e
+# sum of their sources: 192ca24f0438ebb2ee46aabcdb44092fb21c7b4f005af1e76374bd09e92c1fce
 # sum of the lines below: 1564204adf41e8a0f4d2494fed60185d1a0d8f8f25f9458b55c9bd7c7f026be1
 	.section	__TEXT,__text,regular,pure_instructions
 	.p2align	4

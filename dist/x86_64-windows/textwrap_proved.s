@@ -4,7 +4,7 @@
 # proved and compiled with: rattle-kit-13f logic dac8208d650f15bf
 # made, unproved for its own target, of the module that was proved for: x86_64-unknown-linux-gnu
 # crates: textwrap_text textwrap_base textwrap_words textwrap_layout textwrap_lines textwrap textwrap_unicode textwrap_styles textwrap_display textwrap_trie textwrap_patterns textwrap_hyphens textwrap_marks textwrap_marked textwrap_plain textwrap_calls textwrap_more_calls textwrap_c
-# sum of their sources: 41b74b78102baaaee2f6de931e15b7bd302e621ef882eb7c8aa686cd1db76b0e
+# sum of their sources: 192ca24f0438ebb2ee46aabcdb44092fb21c7b4f005af1e76374bd09e92c1fce
 # sum of the lines below: 3e66f8d528ca6baf6b29a98e14e3811c7d4ca94ea24821551095d9707b8b0063
 	.def	proved.1.core_str_utf8_from_utf8;
 	.scl	3;

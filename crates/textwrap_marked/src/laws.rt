@@ -62,9 +62,9 @@ pub fn nothing_is_lost_within()
     ensures { NothingIsLostWithin }
 {}
 
-/// A line whose text begins no text, behind marks, is in the new text byte for byte, but for its
-/// ending, and in order, and no other line there is such: of signs alone, of a fence, a heading's
-/// underline, a tag, what a tool reads. So is each line with a word `|`, as a row of a table has it.
+/// A line that no text begins behind marks is in the new text byte for byte, but for its ending, and
+/// in order, and no other line there is such: of signs alone, of a fence, a heading's underline, a tag,
+/// what a tool reads. So is each line with a word `|`, as a row of a table has it.
 /// Both hold also where only the paragraphs at some lines are filled, if the caller did not declare
 /// `|` as a mark.
 pub fn lines_alone_stay()

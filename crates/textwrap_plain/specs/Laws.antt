@@ -108,8 +108,8 @@ pub record HasRoomBehind (width : ℕ) (text indent : List ℕ) : Type 0 where
   pub fits : text_width indent ≤ width
   pub each : All (λ c. text_width indent + columns c ≤ width) (chars text)
 
--- a text without escape sequences, in a column that has room for each of its characters, and breaks its
--- words by first fit without a dictionary
+-- a text without escape sequences, in a column that may keep to its width, has room for each of the
+-- text's characters, and breaks its words by first fit without a dictionary
 pub record MayKeepToColumn (column : PlainColumn) (text : List ℕ) : Type 0 where
   pub splitter : plain_splitter column.options ≢ None
   pub first_fit : plain_algorithm column.options ≡ ByFirstFit

@@ -1,9 +1,10 @@
 //! What each call gives, as a row writes it.
 use crate::faults::Fault;
-use crate::notation::{push_text, push_word};
+use crate::notation::{lines_written, push_text, push_word, text_written};
+use crate::paragraphs::{appended, laid_out};
+use crate::pieces::{broken, broken_apart, found, measured, points, split, stripped};
 use crate::settings::{number, options};
 use std::alloc::{AllocError, Global};
-use std::borrow::CowStr;
 use textwrap::fuzzing::fill_slow_path;
 use textwrap::{
     LineEnding, dedent, fill, fill_inplace, indent, refill, unfill, wrap, wrap_columns,
@@ -18,12 +19,22 @@ pub fn answer(alloc: Global, words: &[String]) -> Result<String, Fault> {
         "wrap" => wrapped(alloc, arguments),
         "fill" => filled(alloc, arguments),
         "slow" => filled_slowly(alloc, arguments),
+        "laid" => laid_out(alloc, arguments),
+        "paragraph" => appended(alloc, arguments, false),
+        "slowparagraph" => appended(alloc, arguments, true),
         "inplace" => filled_in_place(alloc, arguments),
         "columns" => in_columns(alloc, arguments),
         "unfill" => unfilled(alloc, arguments),
         "refill" => refilled(alloc, arguments),
         "indent" => indented(alloc, arguments),
         "dedent" => dedented(alloc, arguments),
+        "width" => measured(alloc, arguments),
+        "strip" => stripped(alloc, arguments),
+        "words" => found(alloc, arguments),
+        "points" => points(alloc, arguments),
+        "split" => split(alloc, arguments),
+        "break" => broken(alloc, arguments),
+        "apart" => broken_apart(alloc, arguments),
         _ => Err(Fault::Malformed),
     }
 }
@@ -35,27 +46,6 @@ fn wrapped(alloc: Global, arguments: &[String]) -> Result<String, Fault> {
     };
     let lines = wrap(alloc, text.as_str(), options(settings)?)?;
     Ok(lines_written(alloc, &lines)?)
-}
-
-/// The lines, with `+` before each that is no part of the text.
-fn lines_written(alloc: Global, lines: &[CowStr<'_>]) -> Result<String, AllocError> {
-    let mut row = String::new(alloc);
-    for line in lines {
-        let mark = if matches!(line, CowStr::Owned(_)) {
-            "+"
-        } else {
-            ""
-        };
-        push_text(&mut row, mark, line.as_str())?;
-    }
-    Ok(row)
-}
-
-/// One text.
-fn text_written(alloc: Global, text: &str) -> Result<String, Fault> {
-    let mut row = String::new(alloc);
-    push_text(&mut row, "", text)?;
-    Ok(row)
 }
 
 /// `fill TEXT WIDTH SETTINGS..`: the filled text.

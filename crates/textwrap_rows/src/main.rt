@@ -14,6 +14,8 @@ use std::io;
 mod calls;
 mod faults;
 mod notation;
+mod paragraphs;
+mod pieces;
 mod rows;
 mod settings;
 

@@ -3,6 +3,7 @@
 //! Rust. No text has a quote.
 use crate::faults::Fault;
 use std::alloc::{AllocError, Global};
+use std::borrow::CowStr;
 
 /// The characters that are always escaped, and what stands for them after a backslash.
 const ESCAPES: &[(char, &str)] = &[
@@ -10,12 +11,16 @@ const ESCAPES: &[(char, &str)] = &[
     ('\r', "r"),
     ('\t', "t"),
     ('\\', "\\"),
+    ('\x07', "x07"),
     ('\x1b', "x1b"),
     ('\u{a0}', "u{a0}"),
+    ('\u{ad}', "u{ad}"),
     ('\u{301}', "u{301}"),
     ('\u{17d8}', "u{17d8}"),
     ('\u{2002}', "u{2002}"),
     ('\u{2003}', "u{2003}"),
+    ('\u{200d}', "u{200d}"),
+    ('\u{2011}', "u{2011}"),
 ];
 
 /// The words of a call, in order, texts without their quotes.
@@ -109,4 +114,25 @@ fn push_character(row: &mut String, character: char) -> Result<(), AllocError> {
         }
     }
     row.push(character)
+}
+
+/// One text.
+pub fn text_written(alloc: Global, text: &str) -> Result<String, Fault> {
+    let mut row = String::new(alloc);
+    push_text(&mut row, "", text)?;
+    Ok(row)
+}
+
+/// The lines, with `+` before each that is no part of the text.
+pub fn lines_written(alloc: Global, lines: &[CowStr<'_>]) -> Result<String, AllocError> {
+    let mut row = String::new(alloc);
+    for line in lines {
+        let mark = if matches!(line, CowStr::Owned(_)) {
+            "+"
+        } else {
+            ""
+        };
+        push_text(&mut row, mark, line.as_str())?;
+    }
+    Ok(row)
 }

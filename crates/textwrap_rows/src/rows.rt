@@ -39,9 +39,46 @@ fn wrong(alloc: Global, line: &str, verb: &str, object: &str) -> Result<Outcome,
 /// What a call gives, as a row writes it. Where the library refuses, that is one word.
 fn given(alloc: Global, call: &str) -> Result<String, Fault> {
     let words = words(alloc, call)?;
-    match calls::answer(alloc, &words) {
+    match answer(alloc, &words) {
         Err(Fault::Memory) => Ok(String::from_str(alloc, "memory")?),
         Err(Fault::Overflow) => Ok(String::from_str(alloc, "overflow")?),
         answer => answer,
     }
+}
+
+/// What a call gives. `at WORDS CALL TEXT REST..` makes the call `CALL TEXT WORD REST..` with each of
+/// the words, between which there are commas, such as widths, and is what all of them give.
+fn answer(alloc: Global, words: &[String]) -> Result<String, Fault> {
+    match words {
+        [at, each, call @ ..] if at.as_str() == "at" => at_each(alloc, each.as_str(), call),
+        _ => calls::answer(alloc, words),
+    }
+}
+
+/// What a call gives with each of these words, if that is always the same.
+fn at_each(alloc: Global, each: &str, call: &[String]) -> Result<String, Fault> {
+    let mut given = String::new(alloc);
+    for word in each.split(',') {
+        let answer = calls::answer(alloc, &with_word(alloc, call, word)?)?;
+        if !given.is_empty() && given.as_str() != answer.as_str() {
+            return Ok(format!(in alloc; "{given}, but at {word} {answer}")?);
+        }
+        given = answer;
+    }
+    Ok(given)
+}
+
+/// The words of a call with this one after its text.
+fn with_word(alloc: Global, call: &[String], after: &str) -> Result<Vec<String>, Fault> {
+    let [name, text, rest @ ..] = call else {
+        return Err(Fault::Malformed);
+    };
+    let mut words = Vec::new(alloc);
+    for word in [name.as_str(), text.as_str(), after] {
+        words.push(String::from_str(alloc, word)?)?;
+    }
+    for word in rest {
+        words.push(String::from_str(alloc, word.as_str())?)?;
+    }
+    Ok(words)
 }

@@ -1,16 +1,12 @@
 //! The tests, in tables by what they are about, each with the rule that it shows.
 mod algorithms;
 mod cards;
-mod characters;
 mod columns;
 mod costs;
 mod custom;
 mod divisions;
-mod ends;
-mod escapes;
 mod filling;
 mod given;
-mod indentation;
 mod inplace;
 mod large;
 mod laws;
@@ -24,8 +20,6 @@ mod refilling;
 mod refusals;
 mod refusing_heap;
 mod scheduling;
-mod slow_path;
 mod texts;
 mod widths;
 mod words;
-mod wrapping;

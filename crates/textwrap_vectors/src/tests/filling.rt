@@ -1,8 +1,8 @@
-//! The texts of `fill`.
+//! Texts by `wrap` and `fill`, whatever the way of a paragraph.
 use super::given::{Found, are_joined, assert_found};
 use super::plain::{plain_append, plain_fill, plain_wrap};
-use super::texts::Call::{Fill, FillSlowly};
-use super::texts::{FIRST_FIT, Layout, OPTIMAL_FIT, PENALTIES, assert_gives, options_of};
+use super::texts::Call::Wrap;
+use super::texts::{Layout, OPTIMAL_FIT, PENALTIES, gives, options_of};
 use LineEnding::{CRLF, LF};
 use std::alloc::Global;
 use std::borrow::CowStr;
@@ -10,41 +10,23 @@ use std::process::Abort;
 use textwrap::wrap_algorithms::Penalties;
 use textwrap::{LineEnding, Options, WrapError};
 
-#[rattlefmt::skip]
-const FILLED: &[(&str, usize, Layout<'_>, &str)] = &[
-    // The lines of first fit.
-    ("To be, or not to be: that is the question\n", 10, FIRST_FIT, "To be, or\nnot to be:\nthat is\nthe\nquestion\n"),
-    ("1 3 5 7\n1 3 5 7", 5, FIRST_FIT, "1 3 5\n7\n1 3 5\n7"),
-    ("aa bb cc dd", 5, FIRST_FIT, "aa bb\ncc dd"),
-    ("aa bb cc dd", 8, FIRST_FIT, "aa bb cc\ndd"),
-    // The lines of least cost.
-    ("foo bar baz", 10, OPTIMAL_FIT, "foo bar\nbaz"),
-    ("aa bb cc dd", 5, OPTIMAL_FIT, "aa bb\ncc dd"),
-    ("To be, or not to be: that is the question\n", 10, OPTIMAL_FIT, "To be,\nor not to\nbe: that\nis the\nquestion\n"),
-    ("test\n\na\n\n", 80, OPTIMAL_FIT, "test\n\na\n\n"),
-    ("  \n \n  \n ", 80, OPTIMAL_FIT, "\n\n\n"),
-    ("ab\ncdefghijkl", 5, OPTIMAL_FIT, "ab\ncdefg\nhijkl"),
-    // An escape sequence of two characters before a third, all in one word.
-    ("\x1b!Ͽ", 10, OPTIMAL_FIT, "\x1b!Ͽ"),
-    // Blanks are kept if that is on.
-    ("foo  ", 10, Layout { preserve_trailing_space: true, ..OPTIMAL_FIT }, "foo  "),
-    // A word stays whole where words are not broken.
-    ("foo\u{a0}bar\u{2011}baz", 5, Layout { break_words: false, ..OPTIMAL_FIT }, "foo\u{a0}bar\u{2011}baz"),
-    // Once a line is out, the first line of a paragraph is divided for the width that the initial
-    // indent leaves, and where paragraphs are to be even, for the one that its own indent leaves.
-    ("aaa\nbbb ccc", 7, Layout { subsequent_indent: "    ", ..OPTIMAL_FIT }, "aaa\n    bbb ccc"),
-    ("aaa\nbbb ccc", 7, Layout { subsequent_indent: "    ", even_paragraphs: true, ..OPTIMAL_FIT }, "aaa\n    bbb\n    ccc"),
-    ("a\n\nb", 10, Layout { subsequent_indent: "> ", ..OPTIMAL_FIT }, "a\n\n> b"),
-    ("a\n\nb", 10, Layout { subsequent_indent: "> ", even_paragraphs: true, ..OPTIMAL_FIT }, "a\n\n> b"),
-];
+/// A last line is short if it takes less than a tenth of its width.
+const LONG_LAST_LINE: Penalties = Penalties {
+    short_last_line_fraction: 10,
+    ..PENALTIES
+};
 
-/// The lines of a text are joined by its line ending. The slow path gives the same.
+/// By other penalties other lines have the least sum of costs.
 #[test]
-fn texts_are_filled(rt: HostRuntime) {
-    for &(text, width, layout, expected) in FILLED {
-        assert_gives(&rt, Fill(width, layout), text, expected);
-        assert_gives(&rt, FillSlowly(width, layout), text, expected);
-    }
+fn penalties_are_those_of_the_options(rt: HostRuntime) {
+    let layout = Layout {
+        penalties: Some(LONG_LAST_LINE),
+        ..OPTIMAL_FIT
+    };
+    let text = "This is a demo of the short last line penalty.";
+    let expected = "This is a demo of the short last line|penalty.|";
+    let holds = gives(rt.alloc(), Wrap(37, layout), text, expected);
+    assert_found(&rt, text, holds);
 }
 
 /// Penalties that are all unlike the defaults.

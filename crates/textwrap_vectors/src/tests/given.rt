@@ -79,12 +79,6 @@ pub(super) fn are_joined(lines: &[CowStr<'_>], ending: &str, text: &str) -> bool
     rest == Some("")
 }
 
-/// Whether a call gave the lines of this text, by line feeds.
-pub(super) fn has_lines_of(given: Result<Vec<CowStr<'_>>, WrapError>, text: &str) -> Found {
-    let lines = given?;
-    Ok(are_joined(&lines, "\n", text))
-}
-
 /// Whether the rows are the lines of this text, with a line feed after each.
 fn are_rows<A: Allocator>(rows: &[String<A>], expected: &str) -> bool {
     let mut rest = Some(expected);

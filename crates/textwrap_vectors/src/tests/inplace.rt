@@ -1,30 +1,9 @@
-//! The text that `fill_inplace` leaves, also where memory is refused.
+//! The text that `fill_inplace` leaves where memory is refused.
 use super::given::{Found, assert_row};
 use super::refusals::{Refusable, refusals_of};
-use super::texts::Call::FillInplace;
-use super::texts::assert_gives;
 use crate::heap::Heap;
 use std::process::Abort;
 use textwrap::fill_inplace;
-
-#[rattlefmt::skip]
-const FILLED: &[(&str, usize, &str)] = &[
-    ("foo  bar    baz", 10, "foo  bar   \nbaz"),
-    ("Hello   World!", 10, "Hello  \nWorld!"),
-    ("", 0, ""),
-    ("1 3 5\n1 3 5 7 9\n1 3 5 7 9 1 3", 10, "1 3 5\n1 3 5 7 9\n1 3 5 7 9\n1 3"),
-    ("  foo bar baz", 10, "  foo bar\nbaz"),
-    ("foo bar baz  ", 10, "foo bar\nbaz  "),
-];
-
-/// In each part between line feeds, the last blank before each later line of first fit becomes a
-/// line feed, and nothing else changes.
-#[test]
-fn blanks_before_new_lines_become_line_feeds(rt: HostRuntime) {
-    for &(text, width, expected) in FILLED {
-        assert_gives(&rt, FillInplace(width), text, expected);
-    }
-}
 
 /// A text that is filled in place, the width, and what becomes of it.
 #[derive(Drop)]

@@ -56,6 +56,8 @@ fn a_width_has_the_defaults(rt: HostRuntime) {
     assert_row(&rt, "from", are_same(&Options::from(80), &expected));
     let is_optimal = expected.wrap_algorithm == WrapAlgorithm::new_optimal_fit();
     assert_row(&rt, "algorithm", is_optimal);
+    let is_at_blanks = expected.word_separator == WordSeparator::new();
+    assert_row(&rt, "separator", is_at_blanks);
 }
 
 /// A builder sets its field, and no other.

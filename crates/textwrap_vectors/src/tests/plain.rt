@@ -10,7 +10,7 @@ use textwrap::fuzzing::{fill_slow_path, wrap_single_line, wrap_single_line_slow_
 use textwrap::minima::{Minimum, Steps, is_queue_case, queue_minima, table_minima};
 use textwrap::word_separators::find_words_at;
 use textwrap::word_splitters::split_words;
-use textwrap::words::{Fragment, Word, break_words, display_width, strip_ansi_escape_sequences};
+use textwrap::words::{Fragment, Word, break_words, strip_ansi_escape_sequences};
 use textwrap::wrap_algorithms::{
     Penalties, wrap_first_fit, wrap_optimal_fit, wrap_optimal_fit_counted,
 };
@@ -25,11 +25,6 @@ pub(super) fn plain_strip<A: Allocator + Copy>(
     text: &str,
 ) -> Result<String<A>, WrapError> {
     Ok(strip_ansi_escape_sequences(alloc, text)?)
-}
-
-/// The columns of a text.
-pub(super) fn plain_width(text: &str) -> usize {
-    display_width(text)
 }
 
 /// The words of these texts, as they are.
@@ -83,15 +78,6 @@ pub(super) fn plain_split<'t, A: Allocator + Copy>(
     splitter: &WordSplitter,
 ) -> Result<Vec<Word<'t>, A>, WrapError> {
     Ok(split_words(alloc, words.iter().copied(), splitter)?)
-}
-
-/// The pieces that a word is broken into at a limit.
-pub(super) fn plain_break_apart<'t>(
-    alloc: Global,
-    word: Word<'t>,
-    line_width: usize,
-) -> Result<Vec<Word<'t>>, WrapError> {
-    Ok(word.break_apart(line_width).collect(alloc)?)
 }
 
 /// The words and pieces that words are broken into at a limit.

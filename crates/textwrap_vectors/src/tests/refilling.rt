@@ -1,43 +1,9 @@
-//! Texts by `unfill` and `refill`.
+//! Texts that are filled and refilled.
 use super::given::{Found, assert_found, is_text};
 use super::plain::{plain_fill, plain_refill};
-use super::texts::Call::{Refill, Unfill};
-use super::texts::{Call, FIRST_FIT, Layout, OPTIMAL_FIT, assert_gives, options_of};
-use LineEnding::{CRLF, LF};
+use super::texts::{Layout, OPTIMAL_FIT, options_of};
 use std::alloc::Global;
-use textwrap::{LineEnding, WrapError};
-
-#[rattlefmt::skip]
-const ROWS: &[(Call<'_>, &str, &str)] = &[
-    // The lines lose their prefixes and are joined by blanks; the options have the widest line, the
-    // prefixes as indents, and the ending.
-    (Unfill(0, "", "", LF), "", ""),
-    (Unfill(3, "", "", LF), "foo\n*\n/", "foo * /"),
-    (Unfill(14, "    // ", "    // ", LF), "    // foo bar\n    // baz\n    // quux", "foo bar baz quux"),
-    (Unfill(3, "", "", LF), "foo\n##\n\n\r", "foo ## \r"),
-    (Unfill(7, "  ", "  ", LF), "  foo\n    bar\n  baz", "foo   bar baz"),
-    (Unfill(6, "######", "", LF), "######\nfoo", " foo"),
-    (Unfill(3, "", "", LF), "foo\r\nbar\n\r\n\n", "foo bar\n"),
-    (Unfill(3, "", "", CRLF), "foo\r\n\n", "foo"),
-    (Unfill(0, "", "", LF), "\n", ""),
-    // A text is unfilled and filled again, with its own indents and the algorithm and the ending of
-    // the options.
-    (Refill(5, Layout { initial_indent: "!", ..OPTIMAL_FIT }), "", ""),
-    (Refill(5, Layout { initial_indent: "!", ..OPTIMAL_FIT }), "foo bar baz", "foo\nbar\nbaz"),
-    (Refill(20, Layout { initial_indent: "!", ..OPTIMAL_FIT }), "> Memory\n> safety without garbage\n> collection.\n",
-        "> Memory safety\n> without garbage\n> collection.\n"),
-    (Refill(5, Layout { line_ending: CRLF, initial_indent: "!", ..OPTIMAL_FIT }), "foo\r\nbar\n", "foo\r\nbar\r\n"),
-    (Refill(8, FIRST_FIT), "aa bb\ncc dd", "aa bb cc\ndd"),
-    (Refill(20, OPTIMAL_FIT), "- This is my\n  list item.\n", "- This is my list\n  item.\n"),
-];
-
-/// Texts are joined to one line for each paragraph, or filled again.
-#[test]
-fn texts_are_unfilled_and_refilled(rt: HostRuntime) {
-    for &(call, text, expected) in ROWS {
-        assert_gives(&rt, call, text, expected);
-    }
-}
+use textwrap::WrapError;
 
 /// The text, filled at the first width with its words kept whole, and refilled at the second.
 fn filled_twice(

@@ -1,13 +1,12 @@
 //! What the tests on texts share: options that a constant can hold, and the calls that give a text,
 //! lines or rows, each with what it takes beside its text.
-use super::given::{Found, assert_found, has_lines, has_rows, is_text};
+use super::given::{Found, has_lines, has_rows, is_text};
 use super::plain::{
     plain_append, plain_columns, plain_dedent, plain_fill, plain_fill_inplace, plain_fill_slowly,
     plain_indent, plain_refill, plain_strip, plain_wrap,
 };
 use std::alloc::Allocator;
 use std::borrow::CowStr;
-use std::process::Abort;
 use textwrap::wrap_algorithms::Penalties;
 use textwrap::{
     LineEnding, Options, WordSeparator, WordSplitter, WrapAlgorithm, WrapError, unfill,
@@ -115,16 +114,15 @@ fn is_unfilled<A: Allocator + Copy>(
     Ok(given.as_str() == unfilled && have_layout(&options, width, indents, ending))
 }
 
-/// The lines of a text, one paragraph after the other, with the shortcut for short ones or without.
-pub(super) fn appended<'t, A: Allocator + Copy>(
+/// The lines of a text, one paragraph after the other.
+fn appended<'t, A: Allocator + Copy>(
     alloc: A,
     text: &'t str,
     options: &Options<'_>,
-    slowly: bool,
 ) -> Result<Vec<CowStr<'t, A>, A>, WrapError> {
     let mut lines = Vec::new(alloc);
     for paragraph in text.split('\n') {
-        plain_append(alloc, paragraph, options, slowly, &mut lines)?;
+        plain_append(alloc, paragraph, options, false, &mut lines)?;
     }
     Ok(lines)
 }
@@ -136,8 +134,6 @@ pub(super) enum Call<'a> {
     Wrap(usize, Layout<'a>),
     /// The lines of `wrap_single_line` for one paragraph after the other.
     Append(usize, Layout<'a>),
-    /// The lines of `wrap_single_line_slow_path`.
-    AppendSlowly(usize, Layout<'a>),
     Fill(usize, Layout<'a>),
     FillSlowly(usize, Layout<'a>),
     FillInplace(usize),
@@ -153,8 +149,7 @@ pub(super) enum Call<'a> {
 }
 
 use Call::{
-    Append, AppendSlowly, Columns, Dedent, Fill, FillInplace, FillSlowly, Indent, Refill, Strip,
-    Unfill, Wrap,
+    Append, Columns, Dedent, Fill, FillInplace, FillSlowly, Indent, Refill, Strip, Unfill, Wrap,
 };
 
 /// Whether a call gives this.
@@ -169,9 +164,8 @@ pub(super) fn gives<A: Allocator + Copy>(
             let options = options_of(width, &layout);
             has_lines(plain_wrap(alloc, text, options), expected)
         }
-        Append(width, layout) | AppendSlowly(width, layout) => {
-            let slowly = matches!(call, AppendSlowly(_, _));
-            let lines = appended(alloc, text, &options_of(width, &layout), slowly);
+        Append(width, layout) => {
+            let lines = appended(alloc, text, &options_of(width, &layout));
             has_lines(lines, expected)
         }
         Fill(width, layout) => {
@@ -199,14 +193,4 @@ pub(super) fn gives<A: Allocator + Copy>(
         Dedent => is_text(plain_dedent(alloc, text), expected),
         Strip => is_text(plain_strip(alloc, text), expected),
     }
-}
-
-/// Asserts that a call gives this.
-pub(super) fn assert_gives(
-    rt: &(impl Abort + AllocGlobal),
-    call: Call<'_>,
-    text: &str,
-    expected: &str,
-) {
-    assert_found(rt, text, gives(rt.alloc(), call, text, expected));
 }

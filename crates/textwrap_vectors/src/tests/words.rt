@@ -1,32 +1,6 @@
-//! The words of a line.
+//! The words of a line at offsets.
 use super::given::{assert_found, has_words};
-use super::plain::{plain_find_words, plain_find_words_at};
-use std::process::Abort;
-use textwrap::WordSeparator;
-
-const LINES: &[(&str, &[&str])] = &[
-    ("", &[]),
-    ("foo", &["foo"]),
-    ("   ", &["   "]),
-    ("   foo", &["   ", "foo"]),
-    ("foo\tbar", &["foo\tbar"]),
-    ("foo bar", &["foo ", "bar"]),
-    ("  foo bar", &["  ", "foo ", "bar"]),
-    ("foo     bar     baz  ", &["foo     ", "bar     ", "baz  "]),
-    // A blank is U+0020 alone, and one inside an escape sequence cuts the line too.
-    ("foo\u{a0}bar", &["foo\u{a0}bar"]),
-    ("\x1b[1 2ma", &["\x1b[1 ", "2ma"]),
-];
-
-/// A line is cut before each character that is no blank and stands right after one.
-#[test]
-fn lines_have_their_words(rt: HostRuntime) {
-    for &(line, texts) in LINES {
-        let words = plain_find_words(rt.alloc(), rt.alloc(), WordSeparator::new(), line);
-        assert_found(&rt, line, has_words(words, texts));
-    }
-    assert!(rt; WordSeparator::new() == WordSeparator::AsciiSpace);
-}
+use super::plain::plain_find_words_at;
 
 #[rattlefmt::skip]
 const LINES_AT_OFFSETS: &[(&str, &[usize], &[&str])] = &[
@@ -58,6 +32,22 @@ const LINES_AT_OFFSETS: &[(&str, &[usize], &[&str])] = &[
     ("ab\x1b[3", &[0, 1, 2], &["a", "b\x1b[3"]),
     ("a\x1bbc", &[1, 2], &["a", "\x1bbc"]),
     ("\x1b]0;ta", &[0], &["\x1b]0;ta"]),
+    // One character may be cut at all offsets of its visible text, and is one word.
+    ("\u{301}", &[0, 2], &["\u{301}"]),
+    ("\u{200d}", &[0, 3], &["\u{200d}"]),
+    ("\u{ad}", &[0, 2], &["\u{ad}"]),
+    ("\x07", &[0, 1], &["\x07"]),
+    ("\t", &[0, 1], &["\t"]),
+    ("\n", &[0, 1], &["\n"]),
+    ("\r\n", &[0, 2], &["\r\n"]),
+    ("\x1b", &[0], &["\x1b"]),
+    ("a", &[0, 1], &["a"]),
+    ("é", &[0, 2], &["é"]),
+    ("-", &[0, 1], &["-"]),
+    ("\u{a0}", &[0, 2], &["\u{a0}"]),
+    (" ", &[0, 1], &[" "]),
+    ("あ", &[0, 3], &["あ"]),
+    ("\u{17d8}", &[0, 3], &["\u{17d8}"]),
 ];
 
 /// At offsets, which count its text without escape sequences, a line is cut right after the visible

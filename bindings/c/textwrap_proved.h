@@ -187,8 +187,9 @@ typedef struct {
     size_t hyphen_penalty;           /* for a line that ends in a hyphen which a dictionary adds */
     /* The dictionary that splits words: where it has hyphens, and behind a hyphen between letters or
      * digits, whatever split_at_hyphens says. A hyphen is written where a line ends at a point of the
-     * dictionary; a part of a word that just fits the line passes it by that. Without numbers there is
-     * none. One that is tested and was damaged is TEXTWRAP_UNKNOWN_OPTIONS. */
+     * dictionary; where words are broken, a part of a word that fits the line, but not with its hyphen, is
+     * broken, too, but not at places that a caller gives. Without numbers there is none. One that is
+     * tested and was damaged is TEXTWRAP_UNKNOWN_OPTIONS. */
     textwrap_dictionary dictionary;
     size_t reserved_sizes[4]; /* 0 */
 } textwrap_options;

@@ -77,8 +77,9 @@ pub enum WordSplitter {
     Hyphenation(hyphenation::Standard),
 
     /// Where [patterns](crate::hyphens) of the word's language say, and after each hyphen between two
-    /// letters or digits. A hyphen is added where a line ends at a point of the patterns. The original
-    /// has no such splitter.
+    /// letters or digits. A hyphen is added where a line ends at a point of the patterns. Where words are
+    /// broken, a part of a word that fits the line, but not with its hyphen, is broken, too, unless a
+    /// function of the caller finds words or divides lines. The original has no such splitter.
     ///
     /// ```
     /// use textwrap_proved::hyphens::Patterns;

@@ -40,10 +40,10 @@ separator_by breaks = if breaks then AtBreaks ByPairs else AtBlanks
 abbrev pub algorithm_by : Bool → Algorithm
 algorithm_by least_cost = if least_cost then default_algorithm else ByFirstFit
 
--- a text, filled so at a width, with hyphens at the points of its words
+-- a text, filled so at a width, with hyphens at the points of its words, which have room on the lines
 abbrev pub IsFilledWith : Filling → Hyphenation → List ℕ → List ℕ → Type 0
 IsFilledWith how h =
-    let settings = settings_at how.width in
+    let settings = record (settings_at how.width) { room_for_hyphens = true } in
     IsFilled settings (DividesFrom (words_by (separator_by how.breaks)) (split_points h)
     (algorithm_by how.least_cost) settings)
 

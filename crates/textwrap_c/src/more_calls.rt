@@ -13,7 +13,7 @@ ghost use Rattle.textwrap_calls.specs.Dictionary.{IsDamaged, IsKnownDictionary, 
 ghost use Rattle.textwrap_calls.specs.Options.{AreKnown, AreTexts, TellsNotUtf8, TellsUnknown};
 ghost use Rattle.textwrap_calls.specs.Options.{have_dictionary, numbers_by, options_algorithm};
 ghost use Rattle.textwrap_calls.specs.Options.{options_points, options_settings, says_yes};
-ghost use Rattle.textwrap_calls.specs.Options.{separator_of};
+ghost use Rattle.textwrap_calls.specs.Options.{separator_of, step_settings};
 ghost use Rattle.textwrap_calls.specs.Room.{WritesText};
 ghost use Rattle.textwrap_calls.specs.Status.{done, not_utf8, out_of_memory, overflow, too_small};
 ghost use Rattle.textwrap_calls.specs.Status.{unknown_options, wrong_places};
@@ -290,7 +290,7 @@ pub extern "C" fn textwrap_fill_justified_at(
     room: &mut [u8],
     len: &mut usize,
 ) -> u32
-    ensures filled { WritesText (λ answer. answer ≡ justified_at (options_settings options.now) steps.now
+    ensures filled { WritesText (λ answer. answer ≡ justified_at (step_settings options.now) steps.now
         text.now) result room.old room.new len.old len.new }
     ensures unknown { TellsUnknown result options.now }
     ensures not_utf8 { TellsNotUtf8 result options.now text.now }
@@ -431,7 +431,7 @@ pub extern "C" fn textwrap_pieces_at(
     count: &mut usize,
 ) -> u32
     ensures pieces { WritesText (λ answer. answer ≡ piece_places 0
-        (pieces_at (options_settings options.now) cuts.now points.now paragraph.now))
+        (pieces_at (step_settings options.now) cuts.now points.now paragraph.now))
         result pieces.old pieces.new count.old count.new }
     ensures unknown { TellsUnknown result options.now }
     ensures not_utf8 { TellsNotUtf8 result options.now paragraph.now }
@@ -456,19 +456,19 @@ pub extern "C" fn textwrap_ends_at(
     count: &mut usize,
 ) -> u32
     ensures ends { WritesText (AreEndsOf (IsDividedBy (options_algorithm options.now) sizes_of
-        (widths_of (options_settings options.now) (says_yes is_later))
-        (pieces_at (options_settings options.now) cuts.now points.now paragraph.now)))
+        (widths_of (step_settings options.now) (says_yes is_later))
+        (pieces_at (step_settings options.now) cuts.now points.now paragraph.now)))
         result ends.old ends.new count.old count.new }
     ensures overflow { result ≡ overflow → OverflowsBy (options_algorithm options.now) sizes_of
-        (widths_of (options_settings options.now) (says_yes is_later))
-        (pieces_at (options_settings options.now) cuts.now points.now paragraph.now) }
+        (widths_of (step_settings options.now) (says_yes is_later))
+        (pieces_at (step_settings options.now) cuts.now points.now paragraph.now) }
     ensures written_only { (result ≡ done) ⊎ (result ≡ too_small)
         → ¬ OverflowsBy (options_algorithm options.now) sizes_of
-        (widths_of (options_settings options.now) (says_yes is_later))
-        (pieces_at (options_settings options.now) cuts.now points.now paragraph.now) }
+        (widths_of (step_settings options.now) (says_yes is_later))
+        (pieces_at (step_settings options.now) cuts.now points.now paragraph.now) }
     // Overflow needs pieces that are together wider than 64 bits can say.
     ensures no_overflow { Fits64Bits (total_width sizes_of
-        (pieces_at (options_settings options.now) cuts.now points.now paragraph.now))
+        (pieces_at (step_settings options.now) cuts.now points.now paragraph.now))
         → result ≢ overflow }
     ensures unknown { result ≡ unknown_options ↔ (1 < is_later) ⊎ (¬ AreKnown options.now) }
     ensures not_utf8 { result ≡ not_utf8 ↔ (is_later ≤ 1) × AreKnown options.now
@@ -498,7 +498,7 @@ pub extern "C" fn textwrap_lines_at(
     room: &mut [u8],
     len: &mut usize,
 ) -> u32
-    ensures lines { WritesLines (ArePlacedCuts (step_cuts (options_settings options.now) cuts.now
+    ensures lines { WritesLines (ArePlacedCuts (step_cuts (step_settings options.now) cuts.now
         points.now ends.now is_later paragraph.now))
         paragraph.now result lines.old lines.new count.old count.new room.old room.new len.old
         len.new }
@@ -508,10 +508,10 @@ pub extern "C" fn textwrap_lines_at(
     // That the ends are more than the pieces is found out only if there is memory for these.
     ensures wrong_places { result ≡ wrong_places → (is_later ≤ 1) × AreKnown options.now
         × (IsUtf8 paragraph.now × AreTexts options.now)
-        × ¬ AreLineSteps (options_settings options.now) cuts.now points.now ends.now paragraph.now }
+        × ¬ AreLineSteps (step_settings options.now) cuts.now points.now ends.now paragraph.now }
     ensures right_places { result ≢ wrong_places → result ≢ out_of_memory → (is_later ≤ 1)
         → AreKnown options.now → IsUtf8 paragraph.now × AreTexts options.now
-        → AreLineSteps (options_settings options.now) cuts.now points.now ends.now paragraph.now }
+        → AreLineSteps (step_settings options.now) cuts.now points.now ends.now paragraph.now }
     ensures statuses { (result ≤ unknown_options) ⊎ (result ≡ wrong_places) }
 {
     steps::textwrap_lines_at(
@@ -531,7 +531,7 @@ pub extern "C" fn textwrap_wrap_at(
     room: &mut [u8],
     len: &mut usize,
 ) -> u32
-    ensures lines { WritesLines (ArePlacedCuts (text_step_cuts (options_settings options.now) steps.now
+    ensures lines { WritesLines (ArePlacedCuts (text_step_cuts (step_settings options.now) steps.now
         text.now)) text.now result lines.old lines.new count.old count.new room.old room.new len.old
         len.new }
     ensures unknown { TellsUnknown result options.now }
@@ -558,7 +558,7 @@ pub extern "C" fn textwrap_fill_at(
     room: &mut [u8],
     len: &mut usize,
 ) -> u32
-    ensures filled { WritesText (λ answer. answer ≡ filled_at (options_settings options.now) steps.now
+    ensures filled { WritesText (λ answer. answer ≡ filled_at (step_settings options.now) steps.now
         text.now) result room.old room.new len.old len.new }
     ensures unknown { TellsUnknown result options.now }
     ensures not_utf8 { TellsNotUtf8 result options.now text.now }

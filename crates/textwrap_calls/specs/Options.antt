@@ -66,7 +66,12 @@ options_settings o = record (settings_at o.width) {
   break_words = says_yes o.break_words;
   preserve_trailing_space = says_yes o.preserve_trailing_space;
   even_paragraphs = says_yes o.even_paragraphs;
+  room_for_hyphens = have_dictionary o;
 }
+
+-- the same for pieces at places that the caller gives: there hyphens have no room of their own
+abbrev pub step_settings : TextwrapOptions → Settings
+step_settings o = record (options_settings o) { room_for_hyphens = false }
 
 -- a paragraph is divided so under these settings, by the words, the points and the algorithm of the
 -- options

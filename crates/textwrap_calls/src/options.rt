@@ -1,12 +1,12 @@
 //! How a text is wrapped, as C has it.
 ghost use Rattle.std.specs.Prelude.{◌≡◌, ◌≢◌, ◌⊎◌, ◌↔◌, false, None, true, IfOk, IfErr, IsUtf8, MatchOption};
 ghost use Rattle.textwrap_calls.specs.Options.{options_algorithm, AreKnown, AreRead, AreTexts};
-ghost use Rattle.textwrap_calls.specs.Options.{have_dictionary, options_points, options_settings};
+ghost use Rattle.textwrap_calls.specs.Options.{have_dictionary, step_settings, options_points};
 ghost use Rattle.textwrap_calls.specs.Options.{separator_of};
 ghost use Rattle.textwrap_calls.specs.Status.{not_utf8, unknown_options};
 ghost use Rattle.textwrap_layout.specs.Direct.{as_algorithm};
 ghost use Rattle.textwrap_layout.specs.Options.{layout_view, settings_view};
-ghost use Rattle.textwrap_plain.specs.Options.{port_splitter, points_by};
+ghost use Rattle.textwrap_plain.specs.Options.{is_dictionary, port_splitter, points_by};
 
 use crate::dictionary::{TextwrapDictionary, is_whole, read_unchecked};
 use crate::status::{NOT_UTF8, UNKNOWN_OPTIONS};
@@ -115,7 +115,7 @@ pub fn read_options<'a>(given: &TextwrapOptions<'a>) -> Result<PlainOptions<'a>,
 /// # Errors
 /// The status `UNKNOWN_OPTIONS` or `NOT_UTF8`.
 pub fn read_layout<'a>(given: &TextwrapOptions<'a>) -> Result<Options<'a>, u32>
-    ensures read { IfOk result (λ options. settings_view options ≡ options_settings given.now) }
+    ensures read { IfOk result (λ options. settings_view options ≡ step_settings given.now) }
     ensures known { IfOk result (λ _. AreKnown given.now) }
     ensures texts { IfOk result (λ _. AreTexts given.now) }
     ensures refused { IfErr result (λ status.
@@ -128,9 +128,9 @@ pub fn read_layout<'a>(given: &TextwrapOptions<'a>) -> Result<Options<'a>, u32>
     }
 }
 
-/// The default options with this layout.
+/// The default options with this layout, which ask for no room for hyphens.
 pub fn with_layout<'a>(layout: Layout<'a>) -> Options<'a>
-    ensures { settings_view result ≡ layout_view layout.entry }
+    ensures { settings_view result ≡ record (layout_view layout.entry) { room_for_hyphens = false } }
 {
     let Layout {
         width,
@@ -140,6 +140,7 @@ pub fn with_layout<'a>(layout: Layout<'a>) -> Options<'a>
         break_words,
         preserve_trailing_space,
         even_paragraphs,
+        ..
     } = layout;
     Options {
         width,
@@ -227,6 +228,7 @@ fn read_algorithm(given: &TextwrapOptions<'_>) -> BuiltInAlgorithm
 /// The splitter that is asked for.
 fn read_splitter<'a>(given: &TextwrapOptions<'a>) -> PlainSplitter<'a>
     ensures points { points_by result ≡ options_points given.now }
+    ensures dictionary { is_dictionary result ≡ have_dictionary given.now }
     ensures built_in { have_dictionary given.now ≡ false → port_splitter result ≢ None }
 {
     if !given.dictionary.numbers.is_empty() {

@@ -14,7 +14,7 @@ pub use Rattle.textwrap_layout.specs.Paragraph.{empty_word, last_piece, last_spa
 pub use Rattle.textwrap_layout.specs.Paragraph.{parts_from, text_limit, ArePieces, DividesAs, Slice}
 pub use Rattle.textwrap_layout.specs.Paragraph.{DividesAt, DividesBy, LineParts, indent_of, covered}
 pub use Rattle.textwrap_layout.specs.Paragraph.{line_from, line_view, pieces_by, pieces_of, Line}
-pub use Rattle.textwrap_layout.specs.Paragraph.{widths_of, parts_of}
+pub use Rattle.textwrap_layout.specs.Paragraph.{fitting_pieces, room_of, widths_of, parts_of}
 pub use Rattle.textwrap_layout.specs.Places.{ArePlacedLines, HasPlacesMore, AreCutLines, built_text}
 pub use Rattle.textwrap_layout.specs.Places.{built_bytes, cut_lines, places_of, text_cuts, cut_line}
 pub use Rattle.textwrap_layout.specs.Places.{lines_of, place_of, CutLine, further}

@@ -3,9 +3,11 @@
 use Rattle.std.specs.Prelude.{All, false, Some, true}
 use Rattle.std.specs.Str.{chars}
 use Rattle.textwrap_text.proofs.Common.{[], ◌∷◌, ◌≡◌, ◌∙◌, ℕ, List, All-head, ap, arith, Bool}
-use Rattle.textwrap_text.proofs.Common.{codes, flat_map, map, refl}
+use Rattle.textwrap_text.proofs.Common.{codes, flat_map, length, map, refl}
 use Rattle.textwrap_layout.proofs.Common.{AreIndented, AreSplit, AtHyphens, first_width, IsWrapped}
 use Rattle.textwrap_layout.proofs.Common.{Line, line_from, LineParts, Slice, WordText}
+use Rattle.textwrap_layout.proofs.Common.{Settings, fitting_pieces}
+use Rattle.unicode_width.specs.Width.{char_width}
 use Rattle.textwrap_layout.specs.Options.{default_algorithm, settings_at}
 use Rattle.textwrap_layout.specs.Paragraph.{Built, indent_before}
 
@@ -53,3 +55,17 @@ pub too_wide_words_dropped : (Points : List ℕ → List ℕ → Type 0) (w : Wo
     → AreSplit Points (w ∷ []) [] → ⊥
 too_wide_words_dropped Points w ([], rest, may, rest_are, is) = cc
 too_wide_words_dropped Points w (point ∷ points, rest, may, rest_are, is) = cc
+
+-- "Zei" at 3 columns with a hyphen behind it is broken, where the hyphen is to have room.
+abbrev zei : WordText
+zei = record { word = codes "Zei"; whitespace = []; penalty = codes "-"; width = 3 }
+
+abbrev with_room : Settings
+with_room = record (settings_at 3) { room_for_hyphens = true }
+
+pieces-zei : length (fitting_pieces with_room (zei ∷ [])) ≡ 2
+unfolding chars char_width lib.Utf8.encode
+pieces-zei = refl
+
+pub hyphen_without_room : zei ∷ [] ≡ fitting_pieces with_room (zei ∷ []) → ⊥
+hyphen_without_room is = let one : 1 ≡ 2 = ap length is ∙ pieces-zei in absurd (omega (arith, one))

@@ -10,7 +10,8 @@ use Rattle.textwrap_layout.specs.declared.layout.Layout.{Layout}
 use Rattle.textwrap_layout.specs.declared.options.Options.{Options}
 use Rattle.textwrap_words.specs.declared.word_separators.WordSeparator.TheVariants.{AsciiSpace}
 
--- what the options say, but for the algorithm, the separator and the splitter
+-- what the options say, but for the algorithm, the separator and the splitter, and whether a hyphen
+-- that is printed behind a piece is to have room, too, which options do not ask for
 pub record Settings : Type 0 where
   pub width : ℕ
   pub line_ending : LineEnding
@@ -19,6 +20,7 @@ pub record Settings : Type 0 where
   pub break_words : Bool
   pub preserve_trailing_space : Bool
   pub even_paragraphs : Bool
+  pub room_for_hyphens : Bool
 
 abbrev pub settings_view : {E C : Type 0} {e : _} {c : _} → Options E C e c → Settings
 settings_view o = record {
@@ -29,6 +31,7 @@ settings_view o = record {
   break_words = o.break_words;
   preserve_trailing_space = o.preserve_trailing_space;
   even_paragraphs = o.even_paragraphs;
+  room_for_hyphens = false;
 }
 
 -- the same of options without their methods
@@ -41,6 +44,7 @@ layout_view l = record {
   break_words = l.break_words;
   preserve_trailing_space = l.preserve_trailing_space;
   even_paragraphs = l.even_paragraphs;
+  room_for_hyphens = l.room_for_hyphens;
 }
 
 -- options without their methods
@@ -53,6 +57,7 @@ layout_of o = record {
   break_words = o.break_words;
   preserve_trailing_space = o.preserve_trailing_space;
   even_paragraphs = o.even_paragraphs;
+  room_for_hyphens = false;
 }
 
 -- how words are found, split and divided stays as it was
@@ -72,6 +77,7 @@ settings_at width = record {
   break_words = true;
   preserve_trailing_space = false;
   even_paragraphs = false;
+  room_for_hyphens = false;
 }
 
 abbrev pub default_algorithm : Algorithm

@@ -5,7 +5,8 @@ use Rattle.std.specs.String.{string_bytes}
 use Rattle.std.specs.declared.borrow.CowStr.{CowStr}
 use Rattle.std.specs.declared.borrow.CowStr.TheVariants.{Borrowed, Owned}
 use Rattle.textwrap_words.specs.WrapAlgorithms.{Algorithm, IsDividedBy, MayDivide}
-use Rattle.textwrap_words.specs.Breaking.{broken_words}
+use Rattle.std.specs.List.{flat_map}
+use Rattle.textwrap_words.specs.Breaking.{broken_word}
 use Rattle.textwrap_base.specs.Cost.{total_width}
 use Rattle.textwrap_base.specs.Division.{line_width, closed_width}
 use Rattle.textwrap_base.specs.Errors.{Fits64Bits}
@@ -83,10 +84,19 @@ module _ (settings : Settings) where
   abbrev pub front_pieces : List WordText
   front_pieces = if length settings.initial_indent == 0 then [] else empty_word ∷ []
 
+  -- the columns that a later line has for a piece: where that is asked, its penalty has room, too
+  abbrev pub room_of : WordText → ℕ
+  room_of w =
+      if settings.room_for_hyphens then later_width - length w.penalty else later_width
+
+  -- split words, each that is wider than its room replaced by its pieces
+  abbrev pub fitting_pieces : List WordText → List WordText
+  fitting_pieces split = flat_map (λ w. broken_word (room_of w) w) split
+
   -- the pieces that split words are broken into, where that is asked
   abbrev pub broken_pieces_of : List WordText → List WordText
   broken_pieces_of split =
-      if settings.break_words then front_pieces ++ broken_words later_width split else split
+      if settings.break_words then front_pieces ++ fitting_pieces split else split
 
   -- the pieces of these words: split and broken
   abbrev pub pieces_of_words : Splitter → List WordText → List WordText

@@ -24,6 +24,9 @@ pub struct Layout<'a> {
     /// Whether the first lines of later paragraphs are divided for the width that their own indent
     /// leaves.
     pub even_paragraphs: bool,
+    /// Whether a piece behind which a hyphen may be printed is broken so that the hyphen has room, too.
+    /// [`Options`] do not ask for it: there such a line passes its width by the hyphen.
+    pub room_for_hyphens: bool,
 }
 
 impl<'a> Layout<'a> {
@@ -51,6 +54,7 @@ impl<'a> Layout<'a> {
             break_words,
             preserve_trailing_space,
             even_paragraphs,
+            room_for_hyphens: false,
         }
     }
 }

@@ -1,14 +1,15 @@
 //! The pieces of a paragraph, as a list: its words, split as parts say, and broken where a layout asks
 //! for it.
 ghost use Rattle.textwrap_text.specs.Units.{text_width};
-ghost use Rattle.std.specs.Prelude.{◌≡◌, ◌++◌, All, List, Option, map, ℕ, IfOk, IfSome, IsSomeAnd, OnOk};
+ghost use Rattle.std.specs.Prelude.{◌≡◌, ◌-◌, ◌++◌, All, List, Option, length, map, ℕ, IfOk, IfSome, IsSomeAnd, OnOk};
+ghost use Rattle.std.specs.List.{flat_map};
+ghost use Rattle.textwrap_words.specs.Breaking.{broken_word};
 ghost use Rattle.textwrap_layout.specs.Direct.{AreWordsCut, CanBeCut, HasMethods, IsDirect};
 ghost use Rattle.textwrap_layout.specs.Direct.{as_algorithm, words_cut};
 ghost use Rattle.textwrap_layout.specs.Frame.{frame_settings};
-ghost use Rattle.textwrap_words.specs.Breaking.{broken_words};
 ghost use Rattle.textwrap_words.specs.Pieces.{as_splitter};
 ghost use Rattle.textwrap_words.specs.Words.{word_view, Tiles};
-ghost use Rattle.textwrap_layout.specs.Paragraph.{broken_pieces_of, ArePieces};
+ghost use Rattle.textwrap_layout.specs.Paragraph.{broken_pieces_of, fitting_pieces, ArePieces};
 ghost use Rattle.textwrap_words.specs.WordSplitters.{AreSplit, split_pieces};
 
 use crate::frame::Frame;
@@ -17,7 +18,8 @@ use crate::parts::{BuiltInAlgorithm, BuiltInParts, Parts};
 use crate::printable_cuts::BlankCuts;
 use std::alloc::{AllocError, Allocator};
 use textwrap_words::inner::{
-    BuiltInSplitter, given_cuts, push_split, stay_whole, words_at_blanks, words_between,
+    BuiltInSplitter, given_cuts, push_broken, push_split, stay_whole, words_at_blanks,
+    words_between,
 };
 use textwrap_words::word_separators::{WordSeparator, Words};
 use textwrap_words::word_splitters::WordSplitter;
@@ -61,7 +63,7 @@ pub fn break_pieces<'t, A: Allocator + Copy>(
     if !frame.layout.break_words {
         return Ok(split);
     }
-    let mut broken = break_wide(alloc, split, frame.later_columns)?;
+    let mut broken = break_wide(alloc, split, frame)?;
     if !frame.layout.initial_indent.is_empty() {
         // Where the first word has no room beside the indent, the first line is the indent alone.
         broken.insert(0, Word::from(""))?;
@@ -69,21 +71,44 @@ pub fn break_pieces<'t, A: Allocator + Copy>(
     Ok(broken)
 }
 
-/// The words, each that is wider than the line replaced by its pieces.
+/// The words, each that is wider than its room replaced by its pieces.
 fn break_wide<'t, A: Allocator + Copy>(
     alloc: A,
     words: Vec<Word<'t>, A>,
-    line_width: usize,
+    frame: &Frame<'_>,
 ) -> Result<Vec<Word<'t>, A>, AllocError>
     ensures { IfOk result (λ pieces. map word_view pieces.items
-        ≡ broken_words line_width (map word_view words.entry.items)) }
+        ≡ fitting_pieces (frame_settings frame.now) (map word_view words.entry.items)) }
 {
+    if frame.layout.room_for_hyphens {
+        return break_with_hyphens(alloc, &words, frame.later_columns);
+    }
     // Most words are narrow, and then the list is not copied.
-    if stay_whole(&words, line_width) {
+    if stay_whole(&words, frame.later_columns) {
         return Ok(words);
     }
     // By reference, since the checker does not cover handing on a list that any allocator made.
-    break_words(alloc, words.iter().copied(), line_width)
+    break_words(alloc, words.iter().copied(), frame.later_columns)
+}
+
+/// The words, each that is wider than the line without its penalty replaced by its pieces.
+fn break_with_hyphens<'t, A: Allocator>(
+    alloc: A,
+    words: &[Word<'t>],
+    line_width: usize,
+) -> Result<Vec<Word<'t>, A>, AllocError>
+    ensures { IfOk result (λ pieces. map word_view pieces.items
+        ≡ flat_map (λ w. broken_word (line_width - length w.penalty) w) (map word_view words.now)) }
+{
+    let mut pieces = Vec::with_capacity(alloc, words.len())?;
+    for word in words {
+        push_broken(
+            &mut pieces,
+            *word,
+            line_width.saturating_sub(word.penalty.len()),
+        )?;
+    }
+    Ok(pieces)
 }
 
 /// The words of a paragraph, split.

@@ -8,7 +8,7 @@ use Rattle.textwrap_layout.specs.Options.{Settings}
 use Rattle.textwrap_layout.specs.Paragraph.{LineParts, is_whole, line_bytes, parts_from}
 use Rattle.textwrap_layout.specs.Places.{CutLine, lines_of, text_cuts}
 use Rattle.textwrap_lines.specs.Steps.{pieces_at}
-use Rattle.textwrap_calls.specs.Options.{options_settings}
+use Rattle.textwrap_calls.specs.Options.{step_settings}
 use Rattle.textwrap_more_calls.specs.Steps.{AreLineSteps}
 use Rattle.textwrap_calls.specs.declared.options.TextwrapOptions.{TextwrapOptions}
 use Rattle.textwrap_more_calls.specs.declared.steps.TextwrapSteps.{TextwrapSteps}
@@ -60,5 +60,5 @@ module _ (settings : Settings) where
 -- the steps of a text by the options
 abbrev pub AreStepsOf : TextwrapOptions → List ℕ → List TextwrapSteps → Type 0
 AreStepsOf o text steps =
-    let settings = options_settings o in
+    let settings = step_settings o in
     AreTextSteps settings false (paragraphs_of settings.line_ending text) steps

@@ -2,7 +2,7 @@
 ghost use Rattle.std.specs.Prelude.{◌≡◌, ◌≢◌, ◌≤◌, ◌⊎◌, ◌||◌, false, IfErr, IfOk, IsUtf8, length};
 ghost use Rattle.std.specs.Prelude.{◌∷◌, [], map, nat_lt, string_bytes};
 ghost use Rattle.textwrap_more_calls.specs.JustifiedSteps.{justified_at};
-ghost use Rattle.textwrap_calls.specs.Options.{options_settings, AreKnown, AreTexts, TellsUnknown};
+ghost use Rattle.textwrap_calls.specs.Options.{step_settings, AreKnown, AreTexts, TellsUnknown};
 ghost use Rattle.textwrap_calls.specs.Options.{TellsNotUtf8};
 ghost use Rattle.textwrap_calls.specs.Room.{WritesText};
 ghost use Rattle.textwrap_calls.specs.Status.{out_of_memory, unknown_options};
@@ -37,7 +37,7 @@ pub fn textwrap_fill_justified_at(
     room: &mut [u8],
     len: &mut usize,
 ) -> u32
-    ensures filled { WritesText (λ answer. answer ≡ justified_at (options_settings options.now) steps.now
+    ensures filled { WritesText (λ answer. answer ≡ justified_at (step_settings options.now) steps.now
         text.now) result room.old room.new len.old len.new }
     ensures unknown { TellsUnknown result options.now }
     ensures not_utf8 { TellsNotUtf8 result options.now text.now }

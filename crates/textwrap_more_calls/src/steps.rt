@@ -12,7 +12,7 @@ ghost use Rattle.textwrap_layout.specs.Paragraph.{line_from, line_view, parts_fr
 ghost use Rattle.textwrap_layout.specs.Paragraph.{widths_of};
 ghost use Rattle.textwrap_layout.specs.Places.{HasPlacesMore, division_cuts, further};
 ghost use Rattle.textwrap_lines.specs.Steps.{pieces_at};
-ghost use Rattle.textwrap_calls.specs.Options.{options_algorithm, options_settings, says_yes};
+ghost use Rattle.textwrap_calls.specs.Options.{options_algorithm, step_settings, says_yes};
 ghost use Rattle.textwrap_calls.specs.Options.{AreKnown, AreTexts, TellsUnknown, TellsNotUtf8};
 ghost use Rattle.textwrap_more_calls.specs.Pieces.{piece_places};
 ghost use Rattle.textwrap_calls.specs.Room.{WritesText};
@@ -63,7 +63,7 @@ pub fn textwrap_pieces_at(
     count: &mut usize,
 ) -> u32
     ensures pieces { WritesText (λ answer. answer ≡ piece_places 0
-        (pieces_at (options_settings options.now) cuts.now points.now paragraph.now))
+        (pieces_at (step_settings options.now) cuts.now points.now paragraph.now))
         result pieces.old pieces.new count.old count.new }
     ensures unknown { TellsUnknown result options.now }
     ensures not_utf8 { TellsNotUtf8 result options.now paragraph.now }
@@ -131,19 +131,19 @@ pub fn textwrap_ends_at(
     count: &mut usize,
 ) -> u32
     ensures ends { WritesText (AreEndsOf (IsDividedBy (options_algorithm options.now) sizes_of
-        (widths_of (options_settings options.now) (says_yes is_later))
-        (pieces_at (options_settings options.now) cuts.now points.now paragraph.now)))
+        (widths_of (step_settings options.now) (says_yes is_later))
+        (pieces_at (step_settings options.now) cuts.now points.now paragraph.now)))
         result ends.old ends.new count.old count.new }
     ensures overflow { result ≡ overflow → OverflowsBy (options_algorithm options.now) sizes_of
-        (widths_of (options_settings options.now) (says_yes is_later))
-        (pieces_at (options_settings options.now) cuts.now points.now paragraph.now) }
+        (widths_of (step_settings options.now) (says_yes is_later))
+        (pieces_at (step_settings options.now) cuts.now points.now paragraph.now) }
     ensures written_only { (result ≡ done) ⊎ (result ≡ too_small)
         → ¬ OverflowsBy (options_algorithm options.now) sizes_of
-        (widths_of (options_settings options.now) (says_yes is_later))
-        (pieces_at (options_settings options.now) cuts.now points.now paragraph.now) }
+        (widths_of (step_settings options.now) (says_yes is_later))
+        (pieces_at (step_settings options.now) cuts.now points.now paragraph.now) }
     // Overflow needs pieces that are together wider than 64 bits can say.
     ensures no_overflow { Fits64Bits (total_width sizes_of
-        (pieces_at (options_settings options.now) cuts.now points.now paragraph.now))
+        (pieces_at (step_settings options.now) cuts.now points.now paragraph.now))
         → result ≢ overflow }
     ensures unknown { result ≡ unknown_options ↔ (1 < is_later) ⊎ (¬ AreKnown options.now) }
     ensures not_utf8 { result ≡ not_utf8 ↔ (is_later ≤ 1) × AreKnown options.now
@@ -198,7 +198,7 @@ pub fn textwrap_lines_at(
     room: &mut [u8],
     len: &mut usize,
 ) -> u32
-    ensures lines { WritesLines (ArePlacedCuts (step_cuts (options_settings options.now) cuts.now
+    ensures lines { WritesLines (ArePlacedCuts (step_cuts (step_settings options.now) cuts.now
         points.now ends.now is_later paragraph.now))
         paragraph.now result lines.old lines.new count.old count.new room.old room.new len.old
         len.new }
@@ -208,10 +208,10 @@ pub fn textwrap_lines_at(
     // That the ends are more than the pieces is found out only if there is memory for these.
     ensures wrong_places { result ≡ wrong_places → (is_later ≤ 1) × AreKnown options.now
         × (IsUtf8 paragraph.now × AreTexts options.now)
-        × ¬ AreLineSteps (options_settings options.now) cuts.now points.now ends.now paragraph.now }
+        × ¬ AreLineSteps (step_settings options.now) cuts.now points.now ends.now paragraph.now }
     ensures right_places { result ≢ wrong_places → result ≢ out_of_memory → (is_later ≤ 1)
         → AreKnown options.now → IsUtf8 paragraph.now × AreTexts options.now
-        → AreLineSteps (options_settings options.now) cuts.now points.now ends.now paragraph.now }
+        → AreLineSteps (step_settings options.now) cuts.now points.now ends.now paragraph.now }
     ensures statuses { (result ≤ unknown_options) ⊎ (result ≡ wrong_places) }
 {
     if is_later > 1 {

@@ -3,7 +3,7 @@ ghost use Rattle.std.specs.Prelude.{◌≡◌, ◌≢◌, ◌≤◌, ◌<◌, �
 ghost use Rattle.std.specs.Prelude.{IfErr, IfOk, IsUtf8, OnOk, length, map, nat_lt, slice_range};
 ghost use Rattle.std.specs.Prelude.{if◌then◌else◌};
 ghost use Rattle.std.specs.Io.{StartsWith};
-ghost use Rattle.textwrap_calls.specs.Options.{options_settings, AreKnown, AreTexts, TellsUnknown};
+ghost use Rattle.textwrap_calls.specs.Options.{step_settings, AreKnown, AreTexts, TellsUnknown};
 ghost use Rattle.textwrap_calls.specs.Options.{TellsNotUtf8};
 ghost use Rattle.textwrap_calls.specs.Room.{WritesText};
 ghost use Rattle.textwrap_calls.specs.Status.{out_of_memory, unknown_options};
@@ -44,7 +44,7 @@ pub fn textwrap_wrap_at(
     room: &mut [u8],
     len: &mut usize,
 ) -> u32
-    ensures lines { WritesLines (ArePlacedCuts (text_step_cuts (options_settings options.now) steps.now
+    ensures lines { WritesLines (ArePlacedCuts (text_step_cuts (step_settings options.now) steps.now
         text.now)) text.now result lines.old lines.new count.old count.new room.old room.new len.old
         len.new }
     ensures unknown { TellsUnknown result options.now }
@@ -80,7 +80,7 @@ pub fn textwrap_fill_at(
     room: &mut [u8],
     len: &mut usize,
 ) -> u32
-    ensures filled { WritesText (λ answer. answer ≡ filled_at (options_settings options.now) steps.now
+    ensures filled { WritesText (λ answer. answer ≡ filled_at (step_settings options.now) steps.now
         text.now) result room.old room.new len.old len.new }
     ensures unknown { TellsUnknown result options.now }
     ensures not_utf8 { TellsNotUtf8 result options.now text.now }

@@ -5,8 +5,9 @@ use Rattle.std.specs.Prelude.{sum_by}
 use Rattle.textwrap_base.proofs.Division.Map.{IsDividedBy-whole}
 use Rattle.textwrap_display.specs.Tables.{IsCell, Shape}
 use Rattle.textwrap_layout.proofs.Common.{CutsNoSequence, HasNoEscape, IsPrintedWithin}
-use Rattle.textwrap_layout.proofs.Paragraph.LeftOff.{assembled-parts, blanks-utf8, bytes-assembled}
-use Rattle.textwrap_layout.proofs.Paragraph.Pieces.{pieces-measured, pieces-no_penalty}
+use Rattle.textwrap_layout.proofs.Common.{ArePieces, last_piece}
+use Rattle.textwrap_layout.proofs.Paragraph.{LeftOff.blanks-utf8, Widths.PiecesClose}
+use Rattle.textwrap_layout.proofs.Paragraph.Pieces.{pieces-measured}
 use Rattle.textwrap_layout.proofs.Text.Paragraphs.{each_part, paragraphs_of-each, text_width-append}
 use Rattle.textwrap_layout.proofs.Text.Paragraphs.{units-plain}
 use Rattle.textwrap_lines.proofs.Common.{All, All-cons, All-head, All-nil, All-tail, AreCuts}
@@ -14,19 +15,29 @@ use Rattle.textwrap_lines.proofs.Common.{AreParagraphParts, AreTextLines, AreTex
 use Rattle.textwrap_lines.proofs.Common.{ByFirstFit, CanKeepToWidth, HasNoPenalty, IsDividedBy}
 use Rattle.textwrap_lines.proofs.Common.{IsDividedInto, IsMeasured, IsUtf8, Line, LineParts, List}
 use Rattle.textwrap_lines.proofs.Common.{Settings, WordText, [], all-left, all-right, ap}
-use Rattle.textwrap_lines.proofs.Common.{append_assoc, arith, assembled_line, cases_Bool, cond}
-use Rattle.textwrap_lines.proofs.Common.{covered, ends_in_hyphen, false, flat, indent_of, inl, inr}
+use Rattle.textwrap_lines.proofs.Common.{append_assoc, arith, cases_Bool, cond, covered}
+use Rattle.textwrap_lines.proofs.Common.{false, flat, indent_of, inl, inr, ◌-◌, ◌<◌}
 use Rattle.textwrap_lines.proofs.Common.{is_whole, laid_out-cases, length, line_bytes, line_from}
 use Rattle.textwrap_lines.proofs.Common.{map, nat_lt, paragraphs_of, paragraphs_of-utf8, parts_from}
 use Rattle.textwrap_lines.proofs.Common.{parts_of, pieces-tile, refl, rules, sizes_of, subst, sym}
-use Rattle.textwrap_lines.proofs.Common.{take, tiled, tiled-word_of, true, widths_of, word_of, ℕ}
-use Rattle.textwrap_lines.proofs.Common.{◌++◌, ◌+◌, ◌∙◌, ◌∷◌, ◌≡◌, ◌≢◌, ◌≤◌}
+use Rattle.textwrap_lines.proofs.Common.{tiled, tiled-word_of, true, widths_of, word_of, ℕ, None}
+use Rattle.textwrap_lines.proofs.Common.{◌++◌, ◌+◌, ◌∷◌, ◌≡◌, ◌≢◌, ◌≤◌}
 use Rattle.textwrap_lines.proofs.Text.Groups.{groups-all, groups-map}
-use Rattle.textwrap_lines.proofs.Text.Printed.{ArePrintedWithin-by, blanks-whole}
-use Rattle.textwrap_plain.proofs.Words.{lines-greedy, points_by-hyphens, texts-at}
+use Rattle.textwrap_lines.proofs.Text.Printed.{ArePrintedWithin-by, PrintsPenalty, blanks-whole}
+use Rattle.textwrap_lines.proofs.Text.Printed.{bytes-trimmed}
+use Rattle.textwrap_lines.proofs.Common.{chars-IsAscii}
+use Rattle.textwrap_lines.proofs.PrintableTexts.Bytes.{printable-utf8}
+use Rattle.textwrap_text.proofs.Units.Reading.{printable-ascii}
+use Rattle.textwrap_words.specs.WordSplitters.{hyphen}
+use Rattle.textwrap_plain.proofs.Words.{close-at, hyphen-printable, hyphen-prints, lines-greedy}
+use Rattle.textwrap_plain.proofs.Words.{pieces-at, texts-at}
 use Rattle.textwrap_plain.specs.CutSides.{points_by-cuts}
 use Rattle.textwrap_plain.specs.Laws.{CellsKeepToColumns, HasRoomBehind, MayKeepToColumn}
-use Rattle.textwrap_plain.specs.Options.{plain_algorithm, plain_settings, points_by, words_by}
+use Rattle.textwrap_plain.specs.Laws.{hyphen_columns}
+use Rattle.textwrap_plain.specs.Options.{is_dictionary, plain_algorithm, plain_settings, points_by}
+use Rattle.textwrap_plain.specs.Options.{port_splitter, words_by}
+use Rattle.textwrap_plain.specs.declared.options.PlainSplitter.{PlainSplitter}
+use Rattle.textwrap_plain.specs.declared.options.PlainSplitter.TheVariants.{BuiltIn, Dictionary}
 use Rattle.textwrap_plain.specs.Tables.{PlainMakes, plain_parts, plain_shape}
 use Rattle.textwrap_plain.specs.declared.display.PlainColumn.{PlainColumn}
 use Rattle.textwrap_styles.proofs.SequenceTexts.{nil-whole, whole_text-append}
@@ -64,10 +75,14 @@ visible-plain (c ∷ cs) none =
 abbrev pub Fits : ℕ → List ℕ → Type 0
 Fits width line = IsWholeText line × (text_width line ≤ width)
 
-module _ (settings : Settings) (text : List ℕ) (can : CanKeepToWidth settings text)
-    (initial : HasRoomBehind settings.width text settings.initial_indent)
-    (subsequent : HasRoomBehind settings.width text settings.subsequent_indent) where
-  leaves : (b : Bool) → HasRoomBehind settings.width text (indent_of settings b)
+-- a penalty that has room, and cuts no sequence
+abbrev IsMarked : ℕ → WordText → Type 0
+IsMarked spare w = IsWholeText w.penalty × (text_width w.penalty ≤ spare)
+
+module _ (settings : Settings) (spare : ℕ) (text : List ℕ) (can : CanKeepToWidth settings text)
+    (initial : HasRoomBehind settings.width spare text settings.initial_indent)
+    (subsequent : HasRoomBehind settings.width spare text settings.subsequent_indent) where
+  leaves : (b : Bool) → HasRoomBehind settings.width spare text (indent_of settings b)
   leaves true = subsequent
   leaves false = initial
 
@@ -77,7 +92,8 @@ module _ (settings : Settings) (text : List ℕ) (can : CanKeepToWidth settings 
 
   -- a character of the text
   abbrev Room : ℕ → Type 0
-  Room c = (c ≢ escape) × ((b : Bool) → text_width (indent_of settings b) + columns c ≤ settings.width)
+  Room c = (c ≢ escape)
+      × ((b : Bool) → text_width (indent_of settings b) + columns c + spare ≤ settings.width)
 
   abbrev HasRoom : WordText → Type 0
   HasRoom w = All Room (chars w.word)
@@ -108,50 +124,75 @@ module _ (settings : Settings) (text : List ℕ) (can : CanKeepToWidth settings 
       (covered-whole (v ∷ ws) (All-tail IsMeasured w (v ∷ ws) measured)
       (All-tail HasRoom w (v ∷ ws) room))
 
-  -- one character fits behind either indent
-  one-fits : (b : Bool) (w : WordText) → HasRoom w → length (filter takes_columns (visible (chars w.word))) ≡ 1
-      → text_width (indent_of settings b ++ w.word) ≤ settings.width
-  one-fits b w room one =
+  -- one character fits behind either indent, with the penalty
+  one-fits : (b : Bool) (w : WordText) → IsMeasured w → HasRoom w → IsMarked spare w
+      → length (filter takes_columns (visible (chars w.word))) ≡ 1
+      → text_width (indent_of settings b ++ (w.word ++ w.penalty)) ≤ settings.width
+  one-fits b w measured room marked one =
       let indent = indent_of settings b in
       let whole = indent-whole b in
+      let word = word-whole w measured room in
       let plain = visible-plain (chars w.word) (λ k d lt. (room k d lt).0) in
-      let fits = one-wide (text_width indent) settings.width (chars w.word)
-      (λ k d lt. (room k d lt).1 b) (subst (λ cs. length (filter takes_columns cs) ≡ 1) plain one) in
-      omega (arith, text_width-append indent w.word whole.0 whole.1, ap (sum_by columns) plain, fits)
+      let fits = one-wide (text_width indent + spare) settings.width (chars w.word)
+      (λ k d lt. omega (arith, (room k d lt).1 b))
+      (subst (λ cs. length (filter takes_columns cs) ≡ 1) plain one) in
+      omega (
+        arith,
+        text_width-append indent (w.word ++ w.penalty) whole.0 whole.1,
+        text_width-append w.word w.penalty word.0 word.1,
+        ap (sum_by columns) plain,
+        marked.1,
+        fits,
+      )
 
   abbrev Keeps : LineParts → Type 0
   Keeps p = CutsNoSequence p → IsPrintedWithin settings.width p → Fits settings.width (line_bytes (line_from p))
 
-  line-keeps : (b : Bool) (line : List WordText) → All IsMeasured line → All HasNoPenalty line
+  last-marked : (w : WordText) (ws : List WordText) → All (IsMarked spare) (w ∷ ws) → IsMarked spare (last_piece w ws)
+  last-marked w [] marked = All-head (IsMarked spare) w [] marked
+  last-marked w (v ∷ ws) marked = last-marked v ws (All-tail (IsMarked spare) w (v ∷ ws) marked)
+
+  line-keeps : (b : Bool) (line : List WordText) → All IsMeasured line → All (IsMarked spare) line
       → All HasRoom line → Keeps (parts_of settings b line)
-  line-keeps b [] measured none room cuts within = (nil-whole, omega (arith, text_width-nil))
-  line-keeps b (w ∷ ws) measured none room cuts within =
+  line-keeps b [] measured marked room cuts within = (nil-whole, omega (arith, text_width-nil))
+  line-keeps b (w ∷ ws) measured marked room cuts within =
       let indent = indent_of settings b in
       let slice = covered (w ∷ ws) in
-      let bytes : line_bytes (line_from (parts_of settings b (w ∷ ws))) ≡ indent ++ slice =
-      ap line_bytes (sym (assembled-parts settings b w ws none)
-      ∙ ap (λ k. assembled_line indent (cond k (tiled (w ∷ ws)) slice) []) can.trims)
-      ∙ bytes-assembled indent slice in
+      let last = last_piece w ws in
+      let bytes = bytes-trimmed settings can.trims can.initial can.subsequent b w ws in
       subst (Fits settings.width) (sym bytes) (
-        whole_text-append indent slice (indent-whole b) (covered-whole (w ∷ ws) measured room),
+        whole_text-append indent (slice ++ last.penalty) (indent-whole b)
+            (whole_text-append slice last.penalty (covered-whole (w ∷ ws) measured room)
+            (last-marked w ws marked).0),
         elim within [
           | inl fits ↦ subst (λ l. text_width l ≤ settings.width) bytes fits
           | inr (inl wide) ↦ absurd (omega (arith, wide, (leaves b).fits))
-          | inr (inr (v, is, one)) ↦ subst (λ l. text_width (indent ++ covered l) ≤ settings.width) (sym is)
-              (one-fits b v (All-head HasRoom v [] (subst (All HasRoom) is room)) one)
+          | inr (inr (v, is, one)) ↦ alone v is one
         ],
       )
+    where
+      alone : (v : WordText) → w ∷ ws ≡ v ∷ []
+          → length (filter takes_columns (visible (chars v.word))) ≡ 1
+          → text_width (indent_of settings b ++ (covered (w ∷ ws) ++ (last_piece w ws).penalty))
+          ≤ settings.width
+      alone v is one =
+          let first : w ≡ v = cc is in
+          let none : ws ≡ [] = cc is in
+          rw (none, first) (one-fits b v
+          (All-head IsMeasured v [] (subst (All IsMeasured) is measured))
+          (All-head HasRoom v [] (subst (All HasRoom) is room))
+          (All-head (IsMarked spare) v [] (subst (All (IsMarked spare)) is marked)) one)
 
   lines-keep : (b : Bool) (division : List (List WordText)) → All IsMeasured (flat division)
-      → All HasNoPenalty (flat division) → All HasRoom (flat division)
+      → All (IsMarked spare) (flat division) → All HasRoom (flat division)
       → All Keeps (parts_from settings b division)
-  lines-keep b [] measured none room = All-nil Keeps
-  lines-keep b (line ∷ lines) measured none room =
+  lines-keep b [] measured marked room = All-nil Keeps
+  lines-keep b (line ∷ lines) measured marked room =
       All-cons Keeps (parts_of settings b line) (parts_from settings true lines)
       (line-keeps b line (all-left IsMeasured line (flat lines) measured)
-      (all-left HasNoPenalty line (flat lines) none) (all-left HasRoom line (flat lines) room))
+      (all-left (IsMarked spare) line (flat lines) marked) (all-left HasRoom line (flat lines) room))
       (lines-keep true lines (all-right IsMeasured line (flat lines) measured)
-      (all-right HasNoPenalty line (flat lines) none) (all-right HasRoom line (flat lines) room))
+      (all-right (IsMarked spare) line (flat lines) marked) (all-right HasRoom line (flat lines) room))
 
   -- ---- the lines of a text
 
@@ -160,8 +201,10 @@ module _ (settings : Settings) (text : List ℕ) (can : CanKeepToWidth settings 
       (texts : (line : List ℕ) (words : List WordText) → IsUtf8 line → Words line words
       → AreTexts line words)
       (cuts : (text points : List ℕ) → IsUtf8 text → Points text points → AreCuts text points)
-      (hyphens : (text points : List ℕ) → Points text points
-      → All (λ p. ends_in_hyphen (take p text) ≡ true) points)
+      (close : settings.break_words ≡ true → PiecesClose settings Words Points)
+      (mark : (paragraph : List ℕ) (pieces : List WordText) → IsUtf8 paragraph
+      → ArePieces settings Words Points paragraph pieces
+      → All (λ w. PrintsPenalty w × IsMarked spare w) pieces)
       (greedy : (widths : List ℕ) (pieces : List WordText) (division : List (List WordText))
       → Lines widths pieces division → IsDividedBy ByFirstFit sizes_of widths pieces division) where
     abbrev Divides : Bool → List ℕ → List (List WordText) → Type 0
@@ -170,11 +213,11 @@ module _ (settings : Settings) (text : List ℕ) (can : CanKeepToWidth settings 
     -- whatever a paragraph is divided into, its pieces keep
     division-keeps : (b : Bool) (paragraph : List ℕ) (pieces : List WordText)
         (division : List (List WordText)) → flat division ≡ pieces → All IsMeasured pieces
-        → All HasNoPenalty pieces → tiled pieces ≡ paragraph → All Room (chars paragraph)
+        → All (IsMarked spare) pieces → tiled pieces ≡ paragraph → All Room (chars paragraph)
         → All Keeps (parts_from settings b division)
-    division-keeps b paragraph pieces division is measured none tile room =
+    division-keeps b paragraph pieces division is measured marked tile room =
         lines-keep b division (subst (All IsMeasured) (sym is) measured)
-        (subst (All HasNoPenalty) (sym is) none) (subst (All HasRoom) (sym is)
+        (subst (All (IsMarked spare)) (sym is) marked) (subst (All HasRoom) (sym is)
         (pieces-room pieces measured (subst (λ t. All Room (chars t)) (sym tile) room)))
 
     paragraph-keeps : (b : Bool) (paragraph : List ℕ) (parts : List LineParts)
@@ -185,20 +228,22 @@ module _ (settings : Settings) (text : List ℕ) (can : CanKeepToWidth settings 
         division
         (division-keeps b paragraph (word_of paragraph ∷ []) ((word_of paragraph ∷ []) ∷ []) refl
         (All-cons IsMeasured (word_of paragraph) [] (word_of-measured paragraph utf8)
-        (All-nil IsMeasured)) (All-cons HasNoPenalty (word_of paragraph) [] refl (All-nil HasNoPenalty))
+        (All-nil IsMeasured)) (All-cons (IsMarked spare) (word_of paragraph) []
+        (nil-whole, omega (arith, text_width-nil)) (All-nil (IsMarked spare)))
         (tiled-word_of paragraph) room) (λ (pieces, are, divided).
         division-keeps b paragraph pieces division
         (IsDividedBy-whole sizes_of ByFirstFit (widths_of settings b) pieces division
         (greedy (widths_of settings b) pieces division divided))
         (pieces-measured settings Words Points texts cuts paragraph pieces utf8 are)
-        (pieces-no_penalty settings Words Points texts cuts hyphens paragraph pieces utf8 are)
+        (λ k d lt. (mark paragraph pieces utf8 are k d lt).1)
         (pieces-tile settings Words Points texts cuts paragraph pieces utf8 are) room)
         (is_whole settings b paragraph) laid_out)
 
     pub lines-fit : (lines : List Line) → IsUtf8 text → HasNoEscape text
         → AreTextLines settings Divides text lines → All (Fits settings.width) (map line_bytes lines)
     lines-fit lines utf8 none are =
-        let printed = ArePrintedWithin-by settings Words Points Lines texts cuts hyphens greedy text lines
+        let printed = ArePrintedWithin-by settings Words Points Lines texts cuts close
+        (λ paragraph pieces utf8 are k d lt. (mark paragraph pieces utf8 are k d lt).0) greedy text lines
         utf8 can are in
         let groups = printed.are.groups in
         let ending = settings.line_ending in
@@ -218,6 +263,26 @@ module _ (settings : Settings) (text : List ℕ) (can : CanKeepToWidth settings 
 
 -- ---- the cells of a table
 
+hyphen-whole : IsWholeText (hyphen ∷ [])
+hyphen-whole =
+    let ascii = printable-ascii (hyphen ∷ []) hyphen-printable in (
+      printable-utf8 (hyphen ∷ []) hyphen-printable,
+      units-plain (chars (hyphen ∷ [])) (rw (chars-IsAscii (hyphen ∷ []) ascii)
+          (All-cons (λ c. c ≢ escape) hyphen [] (λ is. cc) (All-nil (λ c. c ≢ escape)))),
+    )
+
+-- the penalty of a piece, which a dictionary alone gives
+abbrev Marks : Bool → WordText → Type 0
+Marks b w = PrintsPenalty w × IsMarked (cond b 1 0) w
+
+no-mark : (b : Bool) (w : WordText) → HasNoPenalty w → Marks b w
+no-mark b w none = rw none (text_width-nil, (nil-whole, omega (arith, text_width-nil)))
+
+hyphen-mark : (w : WordText) → w.penalty ≡ hyphen ∷ [] → Marks true w
+hyphen-mark w is =
+    let width = hyphen-prints w is in
+    (width, (rw is hyphen-whole, omega (arith, width, ap length is)))
+
 -- a cell's lines, where its column and its text are such
 cell-keeps : (column : PlainColumn) (text : List ℕ) (cell : List (List ℕ)) → MayKeepToColumn column text
     → IsCell PlainMakes (plain_parts column, text) cell → All (Fits column.options.width) cell
@@ -225,10 +290,20 @@ cell-keeps column text cell may (lines, are, is) =
     let o = column.options in
     let Words : List ℕ → List WordText → Type 0 = λ line words. words ≡ words_by o.word_separator line in
     let Points : List ℕ → List ℕ → Type 0 = λ word points. points ≡ points_by o.word_splitter word in
-    subst (All (Fits o.width)) (sym is) (lines-fit (plain_settings o) text may.can may.initial
-    may.subsequent Words Points (IsDividedBy (plain_algorithm o) sizes_of) (texts-at o.word_separator)
-    (points_by-cuts o.word_splitter) (points_by-hyphens o.word_splitter may.splitter)
+    subst (All (Fits o.width)) (sym is) (lines-fit (plain_settings o) (hyphen_columns o) text may.can
+    may.initial may.subsequent Words Points (IsDividedBy (plain_algorithm o) sizes_of)
+    (texts-at o.word_separator) (points_by-cuts o.word_splitter)
+    (close-at o.word_separator (plain_settings o) o.word_splitter refl
+    (later-room o.word_splitter may.subsequent.fits))
+    (pieces-at o.word_separator (plain_settings o) Marks no-mark hyphen-mark o.word_splitter)
     (lines-greedy may.first_fit) lines may.utf8 may.escape are)
+  where
+    later-room : (splitter : PlainSplitter)
+        → text_width column.options.subsequent_indent.now + cond (is_dictionary splitter) 1 0
+        ≤ column.options.width → port_splitter splitter ≡ None
+        → 0 < column.options.width - text_width column.options.subsequent_indent.now
+    later-room (BuiltIn splitter) fits none = cc
+    later-room (Dictionary table) fits none = omega (arith, fits)
 
 abbrev MayKeep : PlainColumn × List ℕ → Type 0
 MayKeep p = MayKeepToColumn p.0 p.1

@@ -4,17 +4,20 @@ use Rattle.textwrap_hyphens.proofs.SplitPieces.{HasHyphenAtMost, held-cuts, spli
 use Rattle.textwrap_hyphens.{proofs.SplitPieces.split-hyphens, specs.Table.held}
 use Rattle.textwrap_hyphens.specs.declared.table.PatternTable.{PatternTable}
 use Rattle.textwrap_layout.proofs.Common.{ArePieces, ArePoints, AreWordsCut, Settings, as_splitter}
-use Rattle.textwrap_layout.proofs.Common.{empty_word, front_pieces, later_width}
+use Rattle.textwrap_layout.proofs.Common.{empty_word, fitting_pieces, front_pieces, later_width}
+use Rattle.textwrap_layout.proofs.{Common.room_of, Paragraph.Room.fitting-tight}
+use Rattle.textwrap_layout.proofs.Paragraph.Widths.{PiecesClose, close-room}
 use Rattle.textwrap_layout.proofs.Paragraph.Pieces.{AreWordsCut-texts, pieces-bounded, pieces-tile}
 use Rattle.textwrap_plain.{proofs.Widths.pieces-wide, specs.Hyphenated.ArePointsBy}
 use Rattle.textwrap_plain.specs.{Options.points_by, declared.options.PlainSplitter.PlainSplitter}
 use Rattle.textwrap_plain.specs.declared.options.PlainSplitter.TheVariants.{BuiltIn, Dictionary}
-use Rattle.textwrap_text.proofs.Common.{All, All-append, All-cons, All-nil, Bool, IsUtf8, List, []}
-use Rattle.textwrap_text.proofs.Common.{ap, arith, cond, eqb, false, inl, length, ltb, refl, subst}
+use Rattle.textwrap_text.proofs.Common.{All, All-append, All-cons, All-nil, All-weaker, Bool, IsUtf8}
+use Rattle.textwrap_text.proofs.Common.{List, [], ap, arith, cond, eqb, false, inl, inr, length, ltb}
+use Rattle.textwrap_text.proofs.Common.{refl, subst}
 use Rattle.textwrap_text.proofs.Common.{sym, true, ℕ, ⊤, ◌*◌, ◌++◌, ◌<◌, ◌^◌, ◌∷◌, ◌≡◌, ◌≤◌}
 use Rattle.textwrap_words.proofs.Common.{WordText, broken_pieces, broken_texts, broken_word}
-use Rattle.textwrap_words.proofs.Common.{broken_words, sizes_of}
-use Rattle.textwrap_words.proofs.Word.BrokenPieces.{IsTight, broken_words-tight, pieces_with-all}
+use Rattle.textwrap_words.proofs.{Common.sizes_of, Word.BrokenPieces.IsTight}
+use Rattle.textwrap_words.proofs.Word.BrokenPieces.{pieces_with-all}
 use Rattle.textwrap_words.proofs.Word.Pieces.{ArePoints-cuts, ArePoints-hyphens, AreTexts}
 use Rattle.textwrap_words.proofs.Word.Pieces.{split-measured, split-tile}
 use Rattle.textwrap_words.proofs.Word.Words.{All-each, total_width-narrow}
@@ -65,16 +68,16 @@ module _ (settings : Settings) (Words : List ℕ → List WordText → Type 0)
       → All HasHyphenAtMost pieces
   hyphenated-hyphens paragraph pieces utf8 (words, split, words_are, split_are, is) =
       let are = texts paragraph words utf8 words_are in
-      let limit = later_width settings in
+      let room = room_of settings in
       let hyphens = split-hyphens patterns words split are.measured are.plain split_are in
       subst (All HasHyphenAtMost) (sym is) (elim settings.break_words
       as (λ b. All HasHyphenAtMost (cond b (front_pieces settings
-      ++ broken_words limit split) split)) [
+      ++ fitting_pieces settings split) split)) [
         | true ↦
-            All-append HasHyphenAtMost (front_pieces settings) (broken_words limit split)
+            All-append HasHyphenAtMost (front_pieces settings) (fitting_pieces settings split)
             (front-hyphens (eqb (length settings.initial_indent) 0))
-            (All-each HasHyphenAtMost HasHyphenAtMost (broken_word limit)
-            (λ w has. broken_word-hyphens limit w has (ltb limit w.width)) split hyphens)
+            (All-each HasHyphenAtMost HasHyphenAtMost (λ w. broken_word (room w) w)
+            (λ w has. broken_word-hyphens (room w) w has (ltb (room w) w.width)) split hyphens)
         | false ↦ hyphens
       ])
 
@@ -88,9 +91,25 @@ module _ (settings : Settings) (Words : List ℕ → List WordText → Type 0)
       let measured = split-measured Words (ArePointsBy (held patterns)) texts (held-cuts patterns)
       paragraph split utf8 (words, words_are, split_are) in
       subst (All (IsTight limit)) (sym is) (rw breaks
-      (All-append (IsTight limit) (front_pieces settings) (broken_words limit split)
+      (All-append (IsTight limit) (front_pieces settings) (fitting_pieces settings split)
       (front-tight limit (eqb (length settings.initial_indent) 0))
-      (broken_words-tight limit split measured)))
+      (fitting-tight settings split measured)))
+
+  -- where hyphens are to have room, and later lines have it, each piece keeps to a later line that ends
+  -- with it, or has one character that takes columns
+  pub hyphenated-close : settings.room_for_hyphens ≡ true → 0 < later_width settings
+      → settings.break_words ≡ true → PiecesClose settings Words (ArePointsBy (held patterns))
+  hyphenated-close asked room breaks =
+      close-room settings Words (ArePointsBy (held patterns)) breaks texts (held-cuts patterns) asked
+      (λ paragraph words split utf8 words_are split_are.
+      let are = texts paragraph words utf8 words_are in
+      All-weaker HasHyphenAtMost (λ w. length w.penalty ≤ later_width settings)
+      (λ w has. short w has) split
+      (split-hyphens patterns words split are.measured are.plain split_are))
+    where
+      short : (w : WordText) → HasHyphenAtMost w → length w.penalty ≤ later_width settings
+      short w (inl none) = omega (arith, ap length none)
+      short w (inr hyphen) = omega (arith, ap length hyphen, room)
 
 -- ---- the pieces by options without functions
 

@@ -3,13 +3,13 @@
 use Rattle.textwrap_base.proofs.{Common.total_width, Cost.LineCosts.total_width-cons}
 use Rattle.textwrap_hyphens.proofs.SplitPieces.{CarriesHyphen}
 use Rattle.textwrap_layout.proofs.Common.{Settings, broken_pieces_of, empty_word, front_pieces}
-use Rattle.textwrap_layout.proofs.Common.{later_width}
+use Rattle.textwrap_layout.proofs.Common.{fitting_pieces, room_of}
 use Rattle.textwrap_text.proofs.Common.{All, All-head, All-tail, Bool, IsUtf8, List, [], ap}
 use Rattle.textwrap_text.proofs.Common.{append-nil, arith, cond, eqb, false, flat_map, length}
 use Rattle.textwrap_text.proofs.Common.{length-append, ltb, sum_by-append, true, ℕ, ◌*◌, ◌++◌, ◌+◌}
 use Rattle.textwrap_text.proofs.{Common.◌∷◌, Common.◌≡◌, Common.◌≤◌, Units.Reading.text_width-le}
 use Rattle.textwrap_words.proofs.Common.{WordText, broken_pieces, broken_texts, broken_word}
-use Rattle.textwrap_words.proofs.Common.{broken_words, piece, pieces_with, sizes_of, tile_of, tiled}
+use Rattle.textwrap_words.proofs.Common.{piece, pieces_with, sizes_of, tile_of, tiled}
 use Rattle.textwrap_words.proofs.Word.BrokenPieces.{broken_texts-tile, broken_texts-utf8}
 use Rattle.textwrap_words.proofs.Word.Words.{IsMeasured}
 
@@ -65,18 +65,19 @@ broken_word-wide limit w measured carries =
           )
     ]
 
-broken_words-wide : (limit : ℕ) (words : List WordText) → All IsMeasured words
+fitting-wide : (settings : Settings) (words : List WordText) → All IsMeasured words
     → All CarriesHyphen words
-    → total_width sizes_of (broken_words limit words) ≤ 2 * length (tiled words)
-broken_words-wide limit [] measured carries = omega arith
-broken_words-wide limit (w ∷ words) measured carries =
+    → total_width sizes_of (fitting_pieces settings words) ≤ 2 * length (tiled words)
+fitting-wide settings [] measured carries = omega arith
+fitting-wide settings (w ∷ words) measured carries =
+    let room = room_of settings w in
     omega (
       arith,
-      broken_word-wide limit w (All-head IsMeasured w words measured)
+      broken_word-wide room w (All-head IsMeasured w words measured)
           (All-head CarriesHyphen w words carries),
-      broken_words-wide limit words (All-tail IsMeasured w words measured)
+      fitting-wide settings words (All-tail IsMeasured w words measured)
           (All-tail CarriesHyphen w words carries),
-      total_width-append (broken_word limit w) (broken_words limit words),
+      total_width-append (broken_word room w) (fitting_pieces settings words),
       length-append (tile_of w) (tiled words),
     )
 
@@ -107,15 +108,14 @@ pub pieces-wide : (settings : Settings) (split : List WordText) → All IsMeasur
     → All CarriesHyphen split
     → total_width sizes_of (broken_pieces_of settings split) ≤ 2 * length (tiled split)
 pieces-wide settings split measured carries =
-    let limit = later_width settings in
+    let broken = fitting_pieces settings split in
     elim settings.break_words as (λ b. total_width sizes_of
-    (cond b (front_pieces settings ++ broken_words limit split) split)
-    ≤ 2 * length (tiled split)) [
+    (cond b (front_pieces settings ++ broken) split) ≤ 2 * length (tiled split)) [
       | true ↦
           omega (
             arith,
-            broken_words-wide limit split measured carries,
-            total_width-append (front_pieces settings) (broken_words limit split),
+            fitting-wide settings split measured carries,
+            total_width-append (front_pieces settings) broken,
             front-wide (eqb (length settings.initial_indent) 0),
           )
       | false ↦ words-wide split measured carries

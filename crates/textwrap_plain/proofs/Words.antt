@@ -3,29 +3,47 @@ use Rattle.textwrap_base.proofs.Division.Map.{IsDividedBy-some, IsDividedBy-whol
 use Rattle.textwrap_hyphens.specs.declared.table.PatternTable.{PatternTable}
 use Rattle.textwrap_layout.proofs.Common.{ArePrintedWithin, AreTextLines, CanKeepToWidth, IsWrapped}
 use Rattle.textwrap_layout.proofs.Common.{Line, LinesKeepToWidth, Settings}
-use Rattle.textwrap_layout.proofs.Paragraph.Pieces.{AreWordsCut-texts}
-use Rattle.textwrap_lines.proofs.Text.Printed.{ArePrintedWithin-by}
+use Rattle.textwrap_layout.proofs.Common.{ArePieces, later_width}
+use Rattle.textwrap_layout.proofs.Paragraph.Pieces.{AreWordsCut-texts, pieces-no_penalty}
+use Rattle.textwrap_layout.proofs.Paragraph.Widths.{PiecesClose, close-plain}
+use Rattle.textwrap_hyphens.proofs.SplitPieces.{HasHyphenAtMost}
+use Rattle.textwrap_lines.proofs.Text.Printed.{ArePrintedWithin-by, PrintsPenalty}
 use Rattle.textwrap_lines.proofs.Text.Promises.{IsWrapped-by, LinesKeepToWidth-by}
+use Rattle.textwrap_plain.proofs.Pieces.{hyphenated-close, hyphenated-hyphens}
 use Rattle.textwrap_plain.proofs.Wrapping.{AddOnlyHyphens-by, LinesKeepButHyphens-by, hyphens-alone}
 use Rattle.textwrap_plain.specs.CutSides.{points_by-cuts, words_by-cut}
 use Rattle.textwrap_plain.specs.Hyphenated.{AddOnlyHyphens, AddsHyphenAtMost, AreTheText}
 use Rattle.textwrap_plain.specs.Hyphenated.{LinesKeepButHyphens}
-use Rattle.textwrap_plain.specs.Options.{DividesFrom, points_by, port_splitter, words_by}
+use Rattle.textwrap_plain.specs.Options.{DividesFrom, is_dictionary, points_by, port_splitter}
+use Rattle.textwrap_plain.specs.Options.{words_by}
 use Rattle.textwrap_plain.specs.declared.options.PlainSeparator.{PlainSeparator}
 use Rattle.textwrap_plain.specs.declared.options.PlainSplitter.{PlainSplitter}
 use Rattle.textwrap_plain.specs.declared.options.PlainSplitter.TheVariants.{BuiltIn, Dictionary}
-use Rattle.textwrap_text.proofs.Common.{All, Bool, IsUtf8, List, None, Some, [], append-nil, arith}
+use Rattle.textwrap_text.proofs.Common.{All, All-weaker, Bool, IsUtf8, List, None, Some, [], arith}
+use Rattle.textwrap_text.proofs.Common.{All-cons, All-nil, append-nil, false, ⊎_elim, ◌<◌, ◌∷◌}
+use Rattle.textwrap_lines.proofs.Common.{IsPrintable, printable-width}
+use Rattle.textwrap_text.specs.Units.{IsPrintableByte}
+use Rattle.textwrap_words.specs.WordSplitters.{hyphen}
 use Rattle.textwrap_text.proofs.Common.{refl, rules, subst, sym, take, true, ℕ, ◌≡◌, ◌≢◌}
 use Rattle.textwrap_text.proofs.Lists.Parts.{Begins, flat}
 use Rattle.textwrap_words.proofs.Common.{Algorithm, ByFirstFit, IsDividedBy, WordText, as_splitter}
 use Rattle.textwrap_words.proofs.Common.{ends_in_hyphen, sizes_of}
 use Rattle.textwrap_words.proofs.Word.Pieces.{ArePoints-hyphens, AreTexts}
+use Rattle.textwrap_words.proofs.Word.Words.{HasNoPenalty, text_width-nil}
 
 -- the words of a line are texts of it
 pub words_by-texts : (separator : PlainSeparator) (line : List ℕ) → IsUtf8 line
     → AreTexts line (words_by separator line)
 words_by-texts separator line utf8 =
     AreWordsCut-texts line (words_by separator line) utf8 (words_by-cut separator line utf8)
+
+pub hyphen-printable : IsPrintable (hyphen ∷ [])
+hyphen-printable =
+    All-cons IsPrintableByte hyphen [] (omega arith, omega arith) (All-nil IsPrintableByte)
+
+-- a hyphen takes a column
+pub hyphen-prints : (w : WordText) → w.penalty ≡ hyphen ∷ [] → PrintsPenalty w
+hyphen-prints w is = rw is (printable-width (hyphen ∷ []) hyphen-printable)
 
 -- ---- what lines keep to that are divided by the words of options without functions
 
@@ -39,6 +57,38 @@ pub points_by-hyphens : (splitter : PlainSplitter) → port_splitter splitter �
     → points ≡ points_by splitter text → All (λ p. ends_in_hyphen (take p text) ≡ true) points
 points_by-hyphens (BuiltIn splitter) is_built_in = ArePoints-hyphens (as_splitter splitter)
 points_by-hyphens (Dictionary table) is_built_in = absurd (is_built_in refl)
+
+-- ---- the pieces of a paragraph
+
+module _ (separator : PlainSeparator) (settings : Settings) where
+  abbrev Words : List ℕ → List WordText → Type 0
+  Words line words = words ≡ words_by separator line
+
+  -- each keeps to a later line that ends with it, or has one character that takes columns
+  pub close-at : (splitter : PlainSplitter) → settings.room_for_hyphens ≡ is_dictionary splitter
+      → (port_splitter splitter ≡ None → 0 < later_width settings) → settings.break_words ≡ true
+      → PiecesClose settings Words (λ word points. points ≡ points_by splitter word)
+  close-at (BuiltIn splitter) asked room breaks =
+      close-plain settings Words (λ word points. points ≡ points_by (BuiltIn splitter) word) breaks
+      (texts-at separator) (points_by-cuts (BuiltIn splitter))
+      (points_by-hyphens (BuiltIn splitter) (λ none. cc))
+  close-at (Dictionary table) asked room breaks =
+      hyphenated-close settings Words (texts-at separator) table asked (room refl) breaks
+
+  -- what holds of each piece without a penalty, and by a dictionary of each with a hyphen
+  pub pieces-at : (P : Bool → WordText → Type 0) → ((b : Bool) (w : WordText) → HasNoPenalty w → P b w)
+      → ((w : WordText) → w.penalty ≡ hyphen ∷ [] → P true w) → (splitter : PlainSplitter)
+      (paragraph : List ℕ) (pieces : List WordText) → IsUtf8 paragraph
+      → ArePieces settings Words (λ word points. points ≡ points_by splitter word) paragraph pieces
+      → All (P (is_dictionary splitter)) pieces
+  pieces-at P none marked (BuiltIn splitter) paragraph pieces utf8 are =
+      All-weaker HasNoPenalty (P false) (none false) pieces
+      (pieces-no_penalty settings Words (λ word points. points ≡ points_by (BuiltIn splitter) word)
+      (texts-at separator) (points_by-cuts (BuiltIn splitter))
+      (points_by-hyphens (BuiltIn splitter) (λ none. cc)) paragraph pieces utf8 are)
+  pieces-at P none marked (Dictionary table) paragraph pieces utf8 are =
+      All-weaker HasHyphenAtMost (P true) (λ w. ⊎_elim (none true w) (marked w)) pieces
+      (hyphenated-hyphens settings Words (texts-at separator) table paragraph pieces utf8 are)
 
 lines-begin : (algorithm : Algorithm) (widths : List ℕ) (pieces : List WordText)
     (division : List (List WordText)) → IsDividedBy algorithm sizes_of widths pieces division
@@ -102,15 +152,17 @@ module _ (separator : PlainSeparator) {settings : Settings} {algorithm : Algorit
         (texts-at separator) table (IsDividedBy algorithm sizes_of) (lines-begin algorithm)
         (lines-greedy first) breaks text lines utf8 are
 
-    module _ (splitter : PlainSplitter) (is_built_in : port_splitter splitter ≢ None) where
+    module _ (splitter : PlainSplitter) (asked : settings.room_for_hyphens ≡ is_dictionary splitter)
+        (room : port_splitter splitter ≡ None → 0 < later_width settings) where
       pub LinesKeepToWidth-at : settings.even_paragraphs ≡ true → settings.break_words ≡ true
           → AreTextLines settings (By separator splitter algorithm settings) text lines
           → LinesKeepToWidth settings (By separator splitter algorithm settings) text lines
-      LinesKeepToWidth-at =
+      LinesKeepToWidth-at even breaks =
           LinesKeepToWidth-by settings (λ line words. words ≡ words_by separator line)
           (λ word points. points ≡ points_by splitter word) (IsDividedBy algorithm sizes_of)
           (texts-at separator) (points_by-cuts splitter) (lines-begin algorithm)
-          (points_by-hyphens splitter is_built_in) (lines-greedy first) text lines utf8
+          (close-at separator settings splitter asked room breaks) (lines-greedy first) text lines utf8
+          even breaks
 
       pub ArePrintedWithin-at : CanKeepToWidth settings text
           → AreTextLines settings (By separator splitter algorithm settings) text lines
@@ -118,8 +170,10 @@ module _ (separator : PlainSeparator) {settings : Settings} {algorithm : Algorit
       ArePrintedWithin-at =
           ArePrintedWithin-by settings (λ line words. words ≡ words_by separator line)
           (λ word points. points ≡ points_by splitter word) (IsDividedBy algorithm sizes_of)
-          (texts-at separator) (points_by-cuts splitter) (points_by-hyphens splitter is_built_in)
-          (lines-greedy first) text lines utf8
+          (texts-at separator) (points_by-cuts splitter)
+          (close-at separator settings splitter asked room)
+          (pieces-at separator settings (λ b. PrintsPenalty) (λ b w none. rw none text_width-nil)
+          hyphen-prints splitter) (lines-greedy first) text lines utf8
 
 -- a dictionary's lines are the text
 pub AreTheText-at : (separator : PlainSeparator) (splitter : PlainSplitter) (algorithm : Algorithm)

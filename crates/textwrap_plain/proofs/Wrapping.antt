@@ -6,7 +6,7 @@ use Rattle.textwrap_hyphens.specs.{Hyphenation.Hyphenation, Splitting.split_poin
 use Rattle.textwrap_hyphens.specs.declared.table.PatternTable.{PatternTable}
 use Rattle.textwrap_layout.proofs.Common.{AreParagraphParts, AreTextLines, IsDividedInto, IsWrapped}
 use Rattle.textwrap_layout.proofs.Common.{Line, LineParts, Settings, front_pieces, is_whole}
-use Rattle.textwrap_layout.proofs.Common.{later_width, settings_view, widths_of}
+use Rattle.textwrap_layout.proofs.Common.{fitting_pieces, settings_view, widths_of}
 use Rattle.textwrap_layout.proofs.Paragraph.{LeftOff.laid_out-cases, Pieces.division-as}
 use Rattle.textwrap_layout.specs.declared.options.Options.{Options}
 use Rattle.textwrap_lines.proofs.Common.{paragraphs_of, paragraphs_of-utf8}
@@ -27,7 +27,7 @@ use Rattle.textwrap_text.proofs.Common.{cond, false, inl, map, refl, subst, sym,
 use Rattle.textwrap_text.proofs.Common.{◌∙◌, ◌∷◌, ◌≡◌, ◌≢◌, ◌≤◌}
 use Rattle.textwrap_text.proofs.Lists.Parts.{Begins, all-left, flat}
 use Rattle.textwrap_words.proofs.Common.{Algorithm, ByFirstFit, IsDividedBy, MayDivide, MaySeparate}
-use Rattle.textwrap_words.proofs.Common.{WordText, algorithm_view, broken_words, sizes_of, word_of}
+use Rattle.textwrap_words.proofs.Common.{WordText, algorithm_view, sizes_of, word_of}
 use Rattle.textwrap_words.proofs.{Common.words_of, Word.Divisions.MayDivide-begins}
 use Rattle.textwrap_words.proofs.Word.Divisions.{MayDivide-greedy, MayDivide-some, MayDivide-whole}
 use Rattle.textwrap_words.proofs.Word.{Parts.MaySeparate-texts, Pieces.AreTexts, Words.words_unique}
@@ -81,7 +81,7 @@ module _ (settings : Settings) (Words : List ℕ → List WordText → Type 0)
         → IsUtf8 paragraph → Divides is_later paragraph division
         → OnlyHyphensPass (widths_of settings is_later) 0 division
     division-passes is_later paragraph division utf8 (pieces, are, divided) =
-        let broken = broken_words (later_width settings) are.1 in
+        let broken = fitting_pieces settings are.1 in
         let same : pieces ≡ front_pieces settings ++ broken = are.4
         ∙ ap (λ b. cond b (front_pieces settings ++ broken) are.1) breaks in
         greedy_passes settings is_later broken division

@@ -1,6 +1,6 @@
 -- What the laws say.
 use Rattle.std.specs.Prelude.{◌≡◌, ◌≢◌, ◌↔◌, ℕ, ◌+◌, ◌≤◌, All, Bool, IsUtf8, List, None, chars, map}
-use Rattle.std.specs.Prelude.{true}
+use Rattle.std.specs.Prelude.{if◌then◌else◌, true}
 use Rattle.std.specs.List.{zip}
 use Rattle.textwrap.specs.Filling.{IsFilled}
 use Rattle.textwrap.specs.Laws.{IsUnique}
@@ -19,8 +19,7 @@ use Rattle.textwrap_layout.specs.declared.options.Options.{Options}
 use Rattle.textwrap_plain.specs.Hyphenated.{AddOnlyHyphens, DividesAtPoints, DividesHyphenated}
 use Rattle.textwrap_plain.specs.Hyphenated.{AreTheText, DividesHyphenatedUnder, HasPartsBeside}
 use Rattle.textwrap_plain.specs.Hyphenated.{LinesKeepButHyphens}
-use Rattle.textwrap_plain.specs.Options.{DividesPlainly, plain_algorithm, plain_settings}
-use Rattle.textwrap_plain.specs.Options.{plain_splitter}
+use Rattle.textwrap_plain.specs.Options.{is_dictionary, DividesPlainly, plain_algorithm, plain_settings}
 use Rattle.textwrap_plain.specs.Tables.{PlainMakes, plain_parts, plain_shape}
 use Rattle.textwrap_plain.specs.declared.display.PlainColumn.{PlainColumn}
 use Rattle.textwrap_plain.specs.declared.options.PlainOptions.{PlainOptions}
@@ -102,22 +101,27 @@ KeepToWidthButHyphens o table =
 -- ---- tables
 
 -- an indent that has no escape sequence takes no more than the width, and neither does a character of
--- the text behind it
-pub record HasRoomBehind (width : ℕ) (text indent : List ℕ) : Type 0 where
+-- the text behind it, with so many columns to spare
+pub record HasRoomBehind (width spare : ℕ) (text indent : List ℕ) : Type 0 where
   pub escape : HasNoEscape indent
-  pub fits : text_width indent ≤ width
-  pub each : All (λ c. text_width indent + columns c ≤ width) (chars text)
+  pub fits : text_width indent + spare ≤ width
+  pub each : All (λ c. text_width indent + columns c + spare ≤ width) (chars text)
+
+-- the columns of a hyphen, where a dictionary splits words
+abbrev pub hyphen_columns : PlainOptions → ℕ
+hyphen_columns o = if is_dictionary o.word_splitter then 1 else 0
 
 -- a text without escape sequences, in a column that may keep to its width, has room for each of the
--- text's characters, and breaks its words by first fit without a dictionary
+-- text's characters, with a hyphen where a dictionary splits words, and breaks words by first fit
 pub record MayKeepToColumn (column : PlainColumn) (text : List ℕ) : Type 0 where
-  pub splitter : plain_splitter column.options ≢ None
   pub first_fit : plain_algorithm column.options ≡ ByFirstFit
   pub utf8 : IsUtf8 text
   pub escape : HasNoEscape text
   pub can : CanKeepToWidth (plain_settings column.options) text
-  pub initial : HasRoomBehind column.options.width text column.options.initial_indent.now
-  pub subsequent : HasRoomBehind column.options.width text column.options.subsequent_indent.now
+  pub initial : HasRoomBehind column.options.width (hyphen_columns column.options) text
+      column.options.initial_indent.now
+  pub subsequent : HasRoomBehind column.options.width (hyphen_columns column.options) text
+      column.options.subsequent_indent.now
 
 -- the lines of such texts keep to their columns
 abbrev pub CellsKeepToColumns : Type 0

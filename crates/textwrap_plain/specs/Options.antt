@@ -1,7 +1,9 @@
 -- What options without functions say, and the lines that they name.
-use Rattle.std.specs.Prelude.{◌≡◌, ◌≢◌, ℕ, ◌-◌, Bool, false, List, None, Option, Some, map, slice_index}
+use Rattle.std.specs.Prelude.{◌≡◌, ◌≢◌, ℕ, ◌-◌, ◌<◌, Bool, false, true, List, None, Option, Some, map}
+use Rattle.std.specs.Prelude.{slice_index}
 use Rattle.std.specs.List.{flat_map}
 use Rattle.textwrap.specs.Cuts.{parts_between}
+use Rattle.textwrap_text.specs.Units.{text_width}
 use Rattle.textwrap.specs.Options.{default_algorithm, Settings, settings_at}
 use Rattle.textwrap.specs.WordSplitters.{Splitter, AtHyphens}
 use Rattle.textwrap_words.specs.WordSplitters.{points_of, split_pieces}
@@ -35,6 +37,11 @@ is_cut_plainly AtBlanks text place = is_cut (slice_index text (place - 1)) (slic
 is_cut_plainly (AtBreaks ByPairs) text place = at_breaks text place
 is_cut_plainly (AtBreaks ByExpression) text place = false
 
+abbrev pub is_dictionary : PlainSplitter → Bool
+is_dictionary (BuiltIn splitter) = false
+is_dictionary (Dictionary table) = true
+
+-- with a dictionary hyphens are to have room
 abbrev pub plain_settings : PlainOptions → Settings
 plain_settings o = record {
   width = o.width;
@@ -44,6 +51,7 @@ plain_settings o = record {
   break_words = o.break_words;
   preserve_trailing_space = o.preserve_trailing_space;
   even_paragraphs = o.even_paragraphs;
+  room_for_hyphens = is_dictionary o.word_splitter;
 }
 
 -- the layout that they say
@@ -56,6 +64,7 @@ plain_layout o = record {
   break_words = o.break_words;
   preserve_trailing_space = o.preserve_trailing_space;
   even_paragraphs = o.even_paragraphs;
+  room_for_hyphens = is_dictionary o.word_splitter;
 }
 
 -- the splitter of the port, if it is one
@@ -90,6 +99,10 @@ DividesFrom words points algorithm settings =
 abbrev pub DividesPlainly : PlainOptions → Settings → Bool → List ℕ → List (List WordText) → Type 0
 DividesPlainly o =
     DividesFrom (words_by o.word_separator) (points_by o.word_splitter) (plain_algorithm o)
+
+-- if a dictionary splits words, a later line has room for a hyphen behind its indent
+abbrev pub HasRoomForHyphen : PlainOptions → Type 0
+HasRoomForHyphen o = plain_splitter o ≡ None → text_width o.subsequent_indent.now < o.width
 
 -- words stand between blanks, no dictionary splits them, and each line takes as many of their pieces
 -- as fit

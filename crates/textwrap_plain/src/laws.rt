@@ -42,9 +42,9 @@ pub fn hyphenated_lines(options: &Options<'_>, patterns: &PatternTable<'_>)
 {}
 
 /// The lines of a table's cells keep to their columns, as `table_rows_are_even` of `textwrap_display`
-/// asks for, where first fit breaks the words of each text, no dictionary splits them, no blanks at
-/// line ends are kept, paragraphs are even or there is one alone, neither text nor indents have escape
-/// sequences, and each character has room in its column, behind the indent.
+/// asks for, where first fit breaks the words of each text, no blanks at line ends are kept, paragraphs
+/// are even or there is one alone, neither text nor indents have escape sequences, and each character
+/// has room in its column, behind the indent, with a hyphen where a dictionary splits words.
 pub fn cells_keep_to_columns()
     ensures { CellsKeepToColumns }
 {}

@@ -3,7 +3,7 @@
 ghost use Rattle.std.specs.Prelude.{◌≡◌};
 ghost use Rattle.textwrap_plain.specs.Options.{plain_layout};
 
-use crate::options::{PlainOptions, PlainSeparator};
+use crate::options::{PlainOptions, PlainSeparator, PlainSplitter};
 use crate::parts::PlainParts;
 use std::alloc::{AllocError, Global};
 use textwrap_layout::layout::Layout;
@@ -85,6 +85,7 @@ impl<'a> PlainOptions<'a> {
             break_words,
             preserve_trailing_space,
             even_paragraphs,
+            word_splitter,
             ..
         } = *self;
         Layout {
@@ -95,6 +96,7 @@ impl<'a> PlainOptions<'a> {
             break_words,
             preserve_trailing_space,
             even_paragraphs,
+            room_for_hyphens: matches!(word_splitter, PlainSplitter::Dictionary(_)),
         }
     }
 

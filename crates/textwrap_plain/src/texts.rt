@@ -8,7 +8,7 @@ ghost use Rattle.textwrap.specs.Refilling.{IsRefilled};
 ghost use Rattle.textwrap.specs.Text.{ArePrintedWithin, CanKeepToWidth, IsWrapped, LinesKeepToWidth};
 ghost use Rattle.textwrap.specs.WrapAlgorithms.{ByFirstFit};
 ghost use Rattle.textwrap_plain.specs.Options.{plain_algorithm, DividesPlainly, plain_settings};
-ghost use Rattle.textwrap_plain.specs.Options.{AreDirect, plain_splitter};
+ghost use Rattle.textwrap_plain.specs.Options.{AreDirect, HasRoomForHyphen, plain_splitter};
 ghost use Rattle.textwrap_plain.specs.Hyphenated.{AddOnlyHyphens, AreTheText, LinesKeepButHyphens};
 ghost use Rattle.textwrap_text.specs.LineEnding.{paragraphs_of};
 ghost use Rattle.textwrap_text.specs.Blanks.{without_final_blanks};
@@ -43,14 +43,14 @@ pub fn wrap<'t>(
         (plain_splitter options.now) (Some (plain_algorithm options.now))
         (DividesPlainly options.now (plain_settings options.now)) text.now
         (map line_view lines.items)) }
-    // Where paragraphs are even, lines keep to the width with their indents, if they can.
-    ensures even { plain_splitter options.now ≢ None → options.now.even_paragraphs ≡ true
+    // Where paragraphs are even, lines keep to the width with their indents and hyphens, if they can.
+    ensures even { HasRoomForHyphen options.now → options.now.even_paragraphs ≡ true
         → plain_algorithm options.now ≡ ByFirstFit → options.now.break_words ≡ true → IfOk result (λ lines. LinesKeepToWidth
         (plain_settings options.now) (DividesPlainly options.now (plain_settings options.now)) text.now
         (map line_view lines.items)) }
     // And so they do in the columns that they are printed in, if no blanks are preserved and neither
     // an indent nor a piece cuts an escape sequence; a text of one paragraph need not be even.
-    ensures printed { plain_splitter options.now ≢ None → plain_algorithm options.now ≡ ByFirstFit
+    ensures printed { HasRoomForHyphen options.now → plain_algorithm options.now ≡ ByFirstFit
         → CanKeepToWidth (plain_settings options.now) text.now → IfOk result (λ lines. ArePrintedWithin
         (plain_settings options.now) (DividesPlainly options.now (plain_settings options.now)) text.now
         (map line_view lines.items)) }

@@ -1,10 +1,14 @@
 //! What each call gives, as a row writes it.
+use crate::breaks::{at_blanks, at_breaks, cut, pieces};
+use crate::dictionaries::{by_bytes, by_name, by_patterns, by_text};
+use crate::display;
 use crate::faults::Fault;
-use crate::notation::{lines_written, push_text, push_word, text_written};
+use crate::hyphenated::{hyphenated, plain};
+use crate::notation::{lines_written, push_text, push_word, rows_written, text_written};
 use crate::paragraphs::{appended, laid_out};
 use crate::pieces::{broken, broken_apart, found, measured, points, split, stripped};
 use crate::settings::{number, options};
-use std::alloc::{AllocError, Global};
+use std::alloc::Global;
 use textwrap::fuzzing::fill_slow_path;
 use textwrap::{
     LineEnding, dedent, fill, fill_inplace, indent, refill, unfill, wrap, wrap_columns,
@@ -35,7 +39,26 @@ pub fn answer(alloc: Global, words: &[String]) -> Result<String, Fault> {
         "split" => split(alloc, arguments),
         "break" => broken(alloc, arguments),
         "apart" => broken_apart(alloc, arguments),
-        _ => Err(Fault::Malformed),
+        name => answer_beside(alloc, name, arguments),
+    }
+}
+
+/// What a call of the crates beside `textwrap` gives on its arguments, if this is its name.
+fn answer_beside(alloc: Global, name: &str, arguments: &[String]) -> Result<String, Fault> {
+    match name {
+        "cuts" => cut(alloc, arguments),
+        "atblanks" => at_blanks(alloc, arguments),
+        "atbreaks" => at_breaks(alloc, arguments),
+        "pieces" => pieces(alloc, arguments),
+        "hyphens" => by_text(alloc, arguments),
+        "bytehyphens" => by_bytes(alloc, arguments),
+        "patterns" => by_patterns(alloc, arguments),
+        "wordpoints" => by_name(alloc, arguments, false),
+        "softpoints" => by_name(alloc, arguments, true),
+        "hyphenated" => hyphenated(alloc, arguments, false),
+        "rehyphenated" => hyphenated(alloc, arguments, true),
+        "plain" => plain(alloc, arguments),
+        _ => display::answer(alloc, name, arguments),
     }
 }
 
@@ -94,15 +117,6 @@ fn in_columns(alloc: Global, arguments: &[String]) -> Result<String, Fault> {
     );
     let rows = wrap_columns(alloc, text, columns, options, left, middle, right)?;
     Ok(rows_written(alloc, &rows)?)
-}
-
-/// The rows of a table.
-fn rows_written(alloc: Global, rows: &[String]) -> Result<String, AllocError> {
-    let mut row = String::new(alloc);
-    for text in rows {
-        push_text(&mut row, "", text.as_str())?;
-    }
-    Ok(row)
 }
 
 /// `unfill TEXT`: the text, then the width, the two indents and the line ending of the options.

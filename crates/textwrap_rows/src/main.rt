@@ -11,13 +11,18 @@
 use rows::Outcome;
 use std::io;
 
+mod breaks;
 mod calls;
+mod dictionaries;
+mod display;
 mod faults;
+mod hyphenated;
 mod notation;
 mod paragraphs;
 mod pieces;
 mod rows;
 mod settings;
+mod tables;
 
 fn main(rt: HostRuntime) -> io::Result<()> {
     let alloc = rt.alloc();

@@ -1,6 +1,6 @@
 //! How rows are written: in words, which stand bare or, if they are texts, between quotes. There a
-//! backslash and one of the names of `ESCAPES` stand for a character that would not be seen, as in
-//! Rust. No text has a quote.
+//! backslash and one of the names of `ESCAPES` stand for a quote or a character that would not be seen,
+//! as in Rust.
 use crate::faults::Fault;
 use std::alloc::{AllocError, Global};
 use std::borrow::CowStr;
@@ -10,17 +10,25 @@ const ESCAPES: &[(char, &str)] = &[
     ('\n', "n"),
     ('\r', "r"),
     ('\t', "t"),
+    ('"', "x22"),
     ('\\', "\\"),
     ('\x07', "x07"),
+    ('\x0b', "x0b"),
     ('\x1b', "x1b"),
+    ('\u{9b}', "u{9b}"),
     ('\u{a0}', "u{a0}"),
     ('\u{ad}', "u{ad}"),
     ('\u{301}', "u{301}"),
+    ('\u{308}', "u{308}"),
     ('\u{17d8}', "u{17d8}"),
     ('\u{2002}', "u{2002}"),
     ('\u{2003}', "u{2003}"),
+    ('\u{200b}', "u{200b}"),
     ('\u{200d}', "u{200d}"),
+    ('\u{2010}', "u{2010}"),
     ('\u{2011}', "u{2011}"),
+    ('\u{3000}', "u{3000}"),
+    ('\u{feff}', "u{feff}"),
 ];
 
 /// The words of a call, in order, texts without their quotes.
@@ -135,4 +143,30 @@ pub fn lines_written(alloc: Global, lines: &[CowStr<'_>]) -> Result<String, Allo
         push_text(&mut row, mark, line.as_str())?;
     }
     Ok(row)
+}
+
+/// The rows of a table, or `none`.
+pub fn rows_written(alloc: Global, rows: &[String]) -> Result<String, AllocError> {
+    let mut row = String::new(alloc);
+    for text in rows {
+        push_text(&mut row, "", text.as_str())?;
+    }
+    or_none(row)
+}
+
+/// What is written, or `none` if that is nothing.
+pub fn or_none(mut row: String) -> Result<String, AllocError> {
+    if row.is_empty() {
+        row.push_str("none")?;
+    }
+    Ok(row)
+}
+
+/// Numbers, or `none`.
+pub fn numbers_written(alloc: Global, numbers: &[usize]) -> Result<String, AllocError> {
+    let mut row = String::new(alloc);
+    for number in numbers {
+        push_word(&mut row, &format!(in alloc; "{number}")?)?;
+    }
+    or_none(row)
 }

@@ -1,7 +1,7 @@
 //! What the calls on words give. A word or piece is written as its text with its blanks, with `!` before
 //! it if it is not the word of that text; `none` stands for no word, piece or point.
 use crate::faults::Fault;
-use crate::notation::{push_text, push_word, text_written};
+use crate::notation::{numbers_written, or_none, push_text, text_written};
 use crate::settings::number;
 use std::alloc::{AllocError, Global};
 use textwrap::word_splitters::split_words;
@@ -22,14 +22,6 @@ fn push_piece(alloc: Global, row: &mut String, piece: &Word<'_>) -> Result<(), A
     let text = format!(in alloc; "{}{}", piece.word, piece.whitespace)?;
     let is_word = *piece == Word::from(text.as_str());
     push_text(row, if is_word { "" } else { "!" }, &text)
-}
-
-/// What is written, or `none` if that is nothing.
-fn or_none(mut row: String) -> Result<String, AllocError> {
-    if row.is_empty() {
-        row.push_str("none")?;
-    }
-    Ok(row)
 }
 
 /// `width TEXT`: its columns.
@@ -74,11 +66,7 @@ pub fn points(alloc: Global, arguments: &[String]) -> Result<String, Fault> {
         return Err(Fault::Malformed);
     };
     let points = splitter(name.as_str())?.split_points(alloc, word.as_str())?;
-    let mut row = String::new(alloc);
-    for point in &points {
-        push_word(&mut row, &format!(in alloc; "{point}")?)?;
-    }
-    Ok(or_none(row)?)
+    Ok(numbers_written(alloc, &points)?)
 }
 
 /// The words of these texts, as they are.

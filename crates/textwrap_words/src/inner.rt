@@ -7,7 +7,7 @@ pub use crate::pieces::{BuiltInSplitter, Piece, Pieces, next_piece};
 use crate::word_separators::Words;
 pub use crate::word_separators::words::{given_cuts, words_between};
 pub use crate::word_splitters::pieces::push_split;
-pub use crate::words::breaking::stay_whole;
+pub use crate::words::breaking::{push_broken, stay_whole};
 pub use crate::wrap_algorithms::at_ends::lines_between;
 use std::alloc::Allocator;
 

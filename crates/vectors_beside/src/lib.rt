@@ -1,5 +1,6 @@
-//! Callers that show how the library is used, and the tests of the crates beside `textwrap`: of lines
-//! for display, of texts with marks, of Unicode line breaking, of hyphenation, and of these callers.
+//! Callers that show how the library is used, and the tests of the crates beside `textwrap` that are no
+//! rows of `textwrap_rows`: of lines for display, of texts with marks, of Unicode line breaking, of
+//! hyphenation, and of these callers.
 #![tactic(auto)]
 
 #[cfg(test)]

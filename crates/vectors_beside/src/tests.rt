@@ -1,7 +1,6 @@
 //! In tables by what they are about. Each row has the rule that it shows.
 mod balance;
 mod breaks;
-mod cut_pieces;
 mod display;
 mod hyphenated;
 mod hyphens;

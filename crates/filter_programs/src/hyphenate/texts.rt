@@ -1,5 +1,5 @@
 //! What texts become by a dictionary of hyphenation.
-ghost use Rattle.std.specs.Prelude.{◌≡◌, ◌++◌, IfOk, OnOk, string_bytes};
+ghost use Rattle.std.specs.Prelude.{◌≡◌, ◌++◌, IfOk, OnOk, string_bytes, true};
 ghost use Rattle.textwrap_words.specs.Cuts.{AreInnerCuts};
 ghost use Rattle.textwrap_layout.specs.Options.{settings_at};
 ghost use Rattle.textwrap_hyphens.specs.Table.{held};
@@ -10,9 +10,12 @@ ghost use Rattle.filter_programs.specs.HyphenateTexts.{separator_by};
 
 use std::alloc::{AllocError, Global};
 use text_filters::filter::{Filter, Made};
+use textwrap::LineEnding;
+use textwrap::wrap_algorithms::Penalties;
 use textwrap_hyphens::points::points;
 use textwrap_hyphens::table::PatternTable;
 use textwrap_plain::{BuiltInAlgorithm, PlainOptions, PlainSeparator, PlainSplitter, fill};
+use textwrap_unicode::Numbers;
 
 /// What a text is hyphenated by.
 ///
@@ -84,25 +87,31 @@ fn filled(
 
 /// The options that fill a text so.
 fn filling_options<'p>(how: Filling, patterns: &PatternTable<'p>) -> PlainOptions<'p>
-    ensures settings { plain_settings result ≡ settings_at how.width }
+    ensures settings { plain_settings result
+        ≡ record (settings_at how.width) { room_for_hyphens = true } }
     ensures separator { result.word_separator ≡ separator_by how.breaks }
     ensures splitter { result.word_splitter ≡ PlainSplitter.Dictionary patterns.now }
     ensures algorithm { plain_algorithm result ≡ algorithm_by how.least_cost }
 {
-    let defaults = PlainOptions::new(how.width);
     PlainOptions {
+        width: how.width,
+        line_ending: LineEnding::LF,
+        initial_indent: "",
+        subsequent_indent: "",
+        break_words: true,
         word_separator: if how.breaks {
-            defaults.word_separator
+            PlainSeparator::AtBreaks(Numbers::ByPairs)
         } else {
             PlainSeparator::AtBlanks
         },
         word_splitter: PlainSplitter::Dictionary(*patterns),
         wrap_algorithm: if how.least_cost {
-            defaults.wrap_algorithm
+            BuiltInAlgorithm::OptimalFit(Penalties::new())
         } else {
             BuiltInAlgorithm::FirstFit
         },
-        ..defaults
+        preserve_trailing_space: false,
+        even_paragraphs: false,
     }
 }
 

@@ -24,6 +24,8 @@ use Rattle.textwrap_words.proofs.Word.Words.{no_blanks}
 use Rattle.textwrap_text.proofs.Lists.Parts.{all-right, all-left}
 use Rattle.textwrap_layout.proofs.Paragraph.Pieces.{pieces_of_words-measured, pieces_of-no_penalty}
 use Rattle.textwrap_layout.proofs.Paragraph.Pieces.{split_words-measured, broken_words-ends}
+use Rattle.textwrap_layout.proofs.Paragraph.Pieces.{split_words-no_penalty}
+use Rattle.textwrap_layout.proofs.Paragraph.Room.{fitting-plain}
 use Rattle.textwrap_layout.proofs.Paragraph.Pieces.{last_piece-append, last_space-append}
 use Rattle.textwrap_layout.proofs.Paragraph.Pieces.{split_word-ends, flat_map-space, pieces_of-tile}
 use Rattle.textwrap_layout.proofs.Paragraph.Pieces.{words_of-texts}
@@ -276,11 +278,13 @@ pub pieces_of-space : (settings : Settings) (splitter : Splitter)
 pieces_of-space settings splitter paragraph utf8 unindented =
     let split = split_pieces_of splitter paragraph in
     let limit = later_width settings in
+    let texts = words_of-texts paragraph utf8 in
     let ends = broken_words-ends limit split
-    (split_words-measured settings splitter paragraph (words_of paragraph) utf8
-    (words_of-texts paragraph utf8)) in
+    (split_words-measured settings splitter paragraph (words_of paragraph) utf8 texts) in
     let space = flat_map-space (broken_word limit) split ends in
-    search (rules, arith, space, split_pieces_of-space splitter paragraph)
+    let plain = fitting-plain settings split
+    (split_words-no_penalty settings splitter paragraph (words_of paragraph) utf8 texts) in
+    search (rules, arith, space, plain, split_pieces_of-space splitter paragraph)
 
 pub covered-space : (ws : List WordText) → covered ws ++ last_space ws ≡ tiled ws
 covered-space [] = refl

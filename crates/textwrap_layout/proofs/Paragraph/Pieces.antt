@@ -9,9 +9,10 @@ use Rattle.textwrap_layout.proofs.Common.{AreWordsCut}
 use Rattle.textwrap_layout.proofs.Common.{IsNarrowWord-measured, AreSplit-computed, pieces_of_words}
 use Rattle.textwrap_layout.proofs.Common.{ArePlacedLines, algorithm_view, ends_in_hyphen, Algorithm}
 use Rattle.textwrap_layout.proofs.Common.{IsDividedInto, settings_view, splitter_view, AreTextLines}
-use Rattle.textwrap_layout.proofs.Common.{HasNoPenalty, IsNarrowWord, broken_words, front_pieces}
+use Rattle.textwrap_layout.proofs.Common.{HasNoPenalty, IsNarrowWord, fitting_pieces}
+use Rattle.textwrap_layout.proofs.Common.{front_pieces}
 use Rattle.textwrap_layout.proofs.Common.{tiled-append, words_unique, IsDividedBy, MaySeparate}
-use Rattle.textwrap_layout.proofs.Common.{broken_word, later_width, pieces_with, split_words, Whole}
+use Rattle.textwrap_layout.proofs.Common.{broken_word, pieces_with, split_words, Whole}
 use Rattle.textwrap_layout.proofs.Common.{AreWordsOf, HasMethods, IsMeasured, AreTexts}
 use Rattle.textwrap_layout.proofs.Common.{empty_word, last_piece, last_space, split_from, ArePieces}
 use Rattle.textwrap_layout.proofs.Common.{split_word, ArePoints, DividesAs, DividesBy, MayDivide}
@@ -20,8 +21,8 @@ use Rattle.textwrap_layout.proofs.Common.{HasParts, IsFilled, MaySplit, Settings
 use Rattle.textwrap_layout.proofs.Common.{WordText, sizes_of, words_of, Options, word_of, piece}
 use Rattle.textwrap_layout.proofs.Common.{tiled, Line}
 use Rattle.textwrap_text.proofs.Lists.Parts.{all-left, Begins, flat}
-use Rattle.textwrap_words.proofs.Word.BrokenPieces.{broken_words-no_penalty, broken_words-measured}
-use Rattle.textwrap_words.proofs.Word.BrokenPieces.{tiled-broken_words, broken_texts-some}
+use Rattle.textwrap_words.proofs.Word.BrokenPieces.{broken_words-no_penalty, broken_texts-some}
+use Rattle.textwrap_layout.proofs.Paragraph.Room.{fitting-measured, fitting-plain, fitting-tile}
 use Rattle.textwrap_words.proofs.Word.Words.{text_width-nil, EndsInBlanks}
 use Rattle.textwrap_words.proofs.Word.Words.{no_blanks}
 use Rattle.textwrap_words.proofs.Word.Pieces.{AreSplit-no_penalty, ArePoints-hyphens, AreSplitWords}
@@ -60,18 +61,16 @@ module _ (settings : Settings) (Words : List ℕ → List WordText → Type 0)
     (cuts : (text points : List ℕ) → IsUtf8 text → Points text points → AreCuts text points) where
   broken-tile : (paragraph : List ℕ) (split : List WordText) → IsUtf8 paragraph
       → AreSplitWords Words Points texts cuts paragraph split
-      → tiled (broken_words (later_width settings) split) ≡ paragraph
+      → tiled (fitting_pieces settings split) ≡ paragraph
   broken-tile paragraph split utf8 are =
-      let measured = split-measured Words Points texts cuts paragraph split utf8 are in
-      tiled-broken_words (later_width settings) split
-      (All-weaker IsMeasured (λ w. IsUtf8 w.word) (λ w m. m.utf8) split measured)
-      (search (rules, wide-some)) ∙ split-tile Words Points texts cuts paragraph split utf8 are
+      fitting-tile settings split (split-measured Words Points texts cuts paragraph split utf8 are)
+      ∙ split-tile Words Points texts cuts paragraph split utf8 are
 
   pub pieces-tile : (paragraph : List ℕ) (pieces : List WordText) → IsUtf8 paragraph
       → ArePieces settings Words Points paragraph pieces → tiled pieces ≡ paragraph
   pieces-tile paragraph pieces utf8 (words, split, words_are, split_are, is) =
       let are : AreSplitWords Words Points texts cuts paragraph split = (words, words_are, split_are) in
-      let broken = broken_words (later_width settings) split in
+      let broken = fitting_pieces settings split in
       ap tiled is ∙ (elim settings.break_words as (λ b. tiled
       (cond b (front_pieces settings ++ broken) split) ≡ paragraph) [
         | true ↦ search (rules, arith, tiled-append, tiled-front, broken-tile)
@@ -81,11 +80,11 @@ module _ (settings : Settings) (Words : List ℕ → List WordText → Type 0)
   pub pieces-measured : (paragraph : List ℕ) (pieces : List WordText) → IsUtf8 paragraph
       → ArePieces settings Words Points paragraph pieces → All IsMeasured pieces
   pieces-measured paragraph pieces utf8 (words, split, words_are, split_are, is) =
-      let broken = broken_words (later_width settings) split in
+      let broken = fitting_pieces settings split in
       let measured = split-measured Words Points texts cuts paragraph split utf8 (words, words_are, split_are) in
       subst (All IsMeasured) (sym is) (elim settings.break_words as (λ b. All IsMeasured
       (cond b (front_pieces settings ++ broken) split)) [
-        | true ↦ search (rules, arith, All-append, front-measured, broken_words-measured)
+        | true ↦ search (rules, arith, All-append, front-measured, fitting-measured)
         | false ↦ measured
       ])
 
@@ -113,7 +112,14 @@ module _ (settings : Settings) (Words : List ℕ → List WordText → Type 0)
     pub pieces-no_penalty : (paragraph : List ℕ) (pieces : List WordText) → IsUtf8 paragraph
         → ArePieces settings Words Points paragraph pieces → All HasNoPenalty pieces
     pieces-no_penalty paragraph pieces utf8 (words, split, words_are, split_are, is) =
-        grind (arith, AreSplit-no_penalty, All-append, front-no_penalty, broken_words-no_penalty)
+        grind (
+          arith,
+          AreSplit-no_penalty,
+          All-append,
+          front-no_penalty,
+          fitting-plain,
+          broken_words-no_penalty,
+        )
 
     pub pieces-bounded : (paragraph : List ℕ) (pieces : List WordText) → IsUtf8 paragraph
         → ArePieces settings Words Points paragraph pieces → All IsNarrowWord pieces

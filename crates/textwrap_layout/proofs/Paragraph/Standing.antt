@@ -2,12 +2,16 @@
 use Rattle.textwrap_text.proofs.Common.{IsCharBoundary, length-append, append_assoc, IsUtf8-drop, ℕ}
 use Rattle.textwrap_text.proofs.Common.{slice_range, drop-drop, All-head, All-tail, drop_at, IsUtf8}
 use Rattle.textwrap_text.proofs.Common.{take_at, le-ltb, length, rules, arith, subst, List, drop}
+use Rattle.textwrap_text.proofs.Common.{All-weaker, cond, false, true}
 use Rattle.textwrap_text.proofs.Common.{refl, take, ◌++◌, All, sym, ◌+◌, ◌-◌, ◌<◌, ◌∙◌, ◌∷◌, ◌≡◌}
 use Rattle.textwrap_text.proofs.Common.{◌≤◌, [], ap}
 use Rattle.textwrap_layout.proofs.Common.{IsCharBoundary-from_rest, IsNarrowWord-measured, AreTexts}
 use Rattle.textwrap_layout.proofs.Common.{broken_pieces_of, pieces_of_words, IsNarrowWord, Settings}
 use Rattle.textwrap_layout.proofs.Common.{broken_words, break_limit, split_words, IsMeasured, tiled}
 use Rattle.textwrap_layout.proofs.Common.{text_limit, Splitter, WordText, front_of, tile_of}
+use Rattle.textwrap_layout.proofs.Common.{HasNoPenalty, fitting_pieces, front_pieces, later_width}
+use Rattle.textwrap_layout.proofs.Common.{limit_at}
+use Rattle.textwrap_layout.proofs.Paragraph.Room.{fitting-plain}
 use Rattle.textwrap_text.proofs.Texts.{StartsWith-boundary}
 use Rattle.textwrap_layout.proofs.Paragraph.LeftOff.{blanks-utf8}
 use Rattle.textwrap_layout.proofs.Paragraph.Pieces.{split_words-no_penalty, split_words-measured}
@@ -70,7 +74,15 @@ pub limited-words : (settings : Settings) (split : List WordText) → All IsNarr
     → length (tiled split) < text_limit
     → front_of settings ++ broken_words (break_limit settings) split
     ≡ broken_pieces_of settings split
-limited-words settings split bounded short = search (rules, arith, unbroken)
+limited-words settings split bounded short =
+    let plain = fitting-plain settings split
+    (All-weaker IsNarrowWord HasNoPenalty (λ w narrow. narrow.penalty) split bounded) in
+    elim settings.break_words as (λ b. cond b (front_pieces settings) [] ++ broken_words
+    (limit_at b (later_width settings)) split
+    ≡ cond b (front_pieces settings ++ fitting_pieces settings split) split) [
+      | true ↦ ap (λ ws. front_pieces settings ++ ws) (sym plain)
+      | false ↦ unbroken _ split bounded (omega (arith, short))
+    ]
 
 pub limited-pieces : (settings : Settings) (splitter : Splitter) (paragraph : List ℕ)
     (words : List WordText) → IsUtf8 paragraph → AreTexts paragraph words

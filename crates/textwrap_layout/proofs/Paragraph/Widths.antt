@@ -1,6 +1,6 @@
 -- The widths of the lines of a division: lines that pass their width, and overflow.
-use Rattle.textwrap_text.proofs.Common.{starts_with_of_append, nil_from_length, All-append, All-nil}
-use Rattle.textwrap_text.proofs.Common.{StartsWith, map-append, text_width, cond_both, All-cons, Ok}
+use Rattle.textwrap_text.proofs.Common.{starts_with_of_append, nil_from_length, All-append}
+use Rattle.textwrap_text.proofs.Common.{StartsWith, map-append, text_width, cond_both, Ok}
 use Rattle.textwrap_text.proofs.Common.{All-head, IsErrAnd, eqb-true, flat_map, take_all, take_at}
 use Rattle.textwrap_text.proofs.Common.{IsUtf8, Result, length, arith, false, rules, subst, Bool, ℕ}
 use Rattle.textwrap_text.proofs.Common.{List, None, Some, cond, refl, take, true, zero, ◌++◌, ◌==◌}
@@ -9,7 +9,7 @@ use Rattle.textwrap_text.proofs.Common.{◌≤◌, [], ap}
 use Rattle.textwrap_layout.proofs.Common.{AreWordsCut}
 use Rattle.textwrap_layout.proofs.Common.{OnlyCharactersPass, IsOneCharacter, algorithm_view, Sizes}
 use Rattle.textwrap_layout.proofs.Common.{ends_in_hyphen, IsDividedInto, IsDividedBy}
-use Rattle.textwrap_layout.proofs.Common.{splitter_view, HasNoPenalty, IsNarrowWord, broken_words}
+use Rattle.textwrap_layout.proofs.Common.{splitter_view, IsNarrowWord, fitting_pieces, AreSplit}
 use Rattle.textwrap_layout.proofs.Common.{closed_width, front_pieces, tiled-append, MayOverflow}
 use Rattle.textwrap_layout.proofs.Common.{later_width, total_width, Overflowed, AllFit}
 use Rattle.textwrap_layout.proofs.Common.{empty_word, line_width, ArePieces, ByOptimalFit, LineParts}
@@ -30,12 +30,12 @@ use Rattle.textwrap_words.specs.WrapAlgorithms.{OverflowsBy}
 use Rattle.textwrap_base.specs.declared.errors.WrapError.{WrapError}
 use Rattle.textwrap_base.specs.declared.errors.WrapError.TheVariants.{Overflow, Memory}
 use Rattle.textwrap_layout.specs.Fuzzing.{AppendsLines}
-use Rattle.textwrap_layout.proofs.Paragraph.Pieces.{AreWordsCut-texts, pieces-no_penalty}
-use Rattle.textwrap_layout.proofs.Paragraph.Pieces.{pieces-bounded}
+use Rattle.textwrap_layout.proofs.Paragraph.Pieces.{AreWordsCut-texts, pieces-bounded}
 use Rattle.textwrap_words.proofs.Word.Parts.{MaySplit-hyphens, MaySplit-cuts}
-use Rattle.textwrap_words.proofs.Word.BrokenPieces.{broken_words-tight, IsTight}
+use Rattle.textwrap_layout.proofs.Paragraph.Room.{ClosesIn, fitting-closes, fitting-closes_plain}
+use Rattle.textwrap_layout.proofs.Paragraph.Room.{front-closes}
 use Rattle.textwrap_base.proofs.Division.Map.{IsDivision-whole}
-use Rattle.textwrap_words.proofs.Word.Pieces.{split-measured}
+use Rattle.textwrap_words.proofs.Word.Pieces.{AreSplit-no_penalty, split-measured}
 use Rattle.textwrap_words.specs.declared.wrap_algorithms.WrapAlgorithm as algorithms
 use Rattle.textwrap_words.specs.declared.word_splitters.WordSplitter as splitters
 
@@ -177,24 +177,21 @@ two_fit : (width : ℕ) (w v : WordText) (ws : List WordText) → Fits sizes_of 
 two_fit width w v ws fits past = search (rules, take_all)
 
 line_passes : (limit width : ℕ) (line : List WordText) → Fits sizes_of width line → limit ≤ width
-    → All (IsTight limit) line → All HasNoPenalty line → width < closed_width sizes_of line
-    → IsOneCharacter line
-line_passes limit width [] fits room tight none past = absurd (omega arith)
-line_passes limit width (w ∷ []) fits room tight none past = search (rules, All-head)
-line_passes limit width (w ∷ v ∷ ws) fits room tight none past = search (rules, two_fit)
+    → All (ClosesIn limit) line → width < closed_width sizes_of line → IsOneCharacter line
+line_passes limit width [] fits room close past = absurd (omega arith)
+line_passes limit width (w ∷ []) fits room close past =
+    (w, refl, All-head (ClosesIn limit) w [] close (omega (arith, past, room)))
+line_passes limit width (w ∷ v ∷ ws) fits room close past = search (rules, two_fit)
 
 pub lines_pass : (limit : ℕ) (widths : List ℕ) (number : ℕ) (lines : List (List WordText))
     → AllFit sizes_of widths number lines → ((k : ℕ) → number ≤ k → limit ≤ line_width widths k)
-    → All (IsTight limit) (flat lines) → All HasNoPenalty (flat lines)
-    → OnlyCharactersPass widths number lines
-lines_pass limit widths number [] fit room tight none = tt
-lines_pass limit widths number (line ∷ lines) fit room tight none = (
+    → All (ClosesIn limit) (flat lines) → OnlyCharactersPass widths number lines
+lines_pass limit widths number [] fit room close = tt
+lines_pass limit widths number (line ∷ lines) fit room close = (
   line_passes limit (line_width widths number) line fit.0 (room number (omega arith))
-      (all-left (IsTight limit) line (flat lines) tight)
-      (all-left HasNoPenalty line (flat lines) none),
+      (all-left (ClosesIn limit) line (flat lines) close),
   lines_pass limit widths (number + 1) lines fit.1 (λ k from. room k (omega (arith, from)))
-      (all-right (IsTight limit) line (flat lines) tight)
-      (all-right HasNoPenalty line (flat lines) none),
+      (all-right (ClosesIn limit) line (flat lines) close),
 )
 
 pub later_is : (first later k : ℕ) → 1 ≤ k → line_width (first ∷ later ∷ []) k ≡ later
@@ -209,72 +206,96 @@ first_passes width (w ∷ v ∷ ws) rest others is fits past = two_fit width w v
 
 pub front_passes : (first later : ℕ) (lines : List (List WordText)) (others : List WordText)
     → flat lines ≡ empty_word ∷ others → AllFit sizes_of (first ∷ later ∷ []) 0 lines
-    → All (IsTight later) (flat lines) → All HasNoPenalty (flat lines)
-    → OnlyCharactersPass (first ∷ later ∷ []) 0 lines
-front_passes first later [] others is fit tight none = tt
-front_passes first later (line ∷ lines) others is fit tight none = (
+    → All (ClosesIn later) (flat lines) → OnlyCharactersPass (first ∷ later ∷ []) 0 lines
+front_passes first later [] others is fit close = tt
+front_passes first later (line ∷ lines) others is fit close = (
   λ past. absurd (search (rules, first_passes)),
   lines_pass later (first ∷ later ∷ []) 1 lines fit.1
       (λ k from. let same = later_is first later k from in omega (arith, same))
-      (all-right (IsTight later) line (flat lines) tight)
-      (all-right HasNoPenalty line (flat lines) none),
+      (all-right (ClosesIn later) line (flat lines) close),
 )
 
 -- ---- the lines of a paragraph
 
-front-tight : (limit : ℕ) (b : Bool) → All (IsTight limit) (cond b [] (empty_word ∷ []))
-front-tight limit true = All-nil (IsTight limit)
-front-tight limit false = grind (arith, All-cons, All-nil)
-
 module _ (settings : Settings) (Words : List ℕ → List WordText → Type 0)
-    (Points : List ℕ → List ℕ → Type 0)
-    (texts : (line : List ℕ) (words : List WordText) → IsUtf8 line → Words line words
-    → AreTexts line words)
-    (cuts : (text points : List ℕ) → IsUtf8 text → Points text points → AreCuts text points)
-    (hyphens : (text points : List ℕ) → Points text points
-    → All (λ p. ends_in_hyphen (take p text) ≡ true) points) where
-  pub long_lines : (is_later : Bool) (paragraph : List ℕ) (division : List (List WordText))
-      → IsUtf8 paragraph → settings.break_words ≡ true
-      → IsDividedInto settings Words Points (IsDividedBy ByFirstFit sizes_of) is_later paragraph
-      division
-      → OnlyCharactersPass (widths_of settings is_later) 0 division
-  long_lines is_later paragraph division utf8 breaks (pieces, are, greedy) =
-      by_front (length settings.initial_indent == 0) refl
-    where
-      split : List WordText
-      split = are.1
+    (Points : List ℕ → List ℕ → Type 0) where
+  -- each piece keeps to a later line that ends with it, or has one character that takes columns
+  abbrev pub PiecesClose : Type 0
+  PiecesClose = (paragraph : List ℕ) (pieces : List WordText) → IsUtf8 paragraph
+      → ArePieces settings Words Points paragraph pieces → All (ClosesIn (later_width settings)) pieces
 
-      broken : List WordText
-      broken = broken_words (later_width settings) split
+  -- where words are broken
+  module _ (breaks : settings.break_words ≡ true) where
+    pieces_are : (paragraph : List ℕ) (pieces : List WordText)
+        → (are : ArePieces settings Words Points paragraph pieces)
+        → pieces ≡ front_pieces settings ++ fitting_pieces settings are.1
+    pieces_are paragraph pieces (words, split, words_are, split_are, is) =
+        let broken = front_pieces settings ++ fitting_pieces settings split in
+        is ∙ ap (λ b. cond b broken split) breaks
 
-      pieces_are : pieces ≡ front_pieces settings ++ broken_words (later_width settings) split
-      pieces_are = search (rules, arith)
+    broken-close : (paragraph : List ℕ) (pieces : List WordText)
+        → (are : ArePieces settings Words Points paragraph pieces)
+        → All (ClosesIn (later_width settings)) (fitting_pieces settings are.1)
+        → All (ClosesIn (later_width settings)) pieces
+    broken-close paragraph pieces are close =
+        let Closes = ClosesIn (later_width settings) in
+        subst (All Closes) (sym (pieces_are paragraph pieces are))
+        (All-append Closes (front_pieces settings) (fitting_pieces settings are.1)
+        (front-closes (later_width settings) (length settings.initial_indent == 0)) close)
 
-      whole : flat division ≡ pieces
-      whole = IsDivision-whole pieces division greedy.admissible.division
+    -- by first fit
+    pub long_lines : PiecesClose → (is_later : Bool) (paragraph : List ℕ)
+        (division : List (List WordText)) → IsUtf8 paragraph
+        → IsDividedInto settings Words Points (IsDividedBy ByFirstFit sizes_of) is_later paragraph
+        division
+        → OnlyCharactersPass (widths_of settings is_later) 0 division
+    long_lines close is_later paragraph division utf8 (pieces, are, greedy) =
+        by_front (length settings.initial_indent == 0) refl
+      where
+        whole : flat division ≡ pieces
+        whole = IsDivision-whole pieces division greedy.admissible.division
 
-      tight : All (IsTight (later_width settings)) (flat division)
-      tight =
-          subst (All (IsTight (later_width settings))) (sym (whole ∙ pieces_are))
-          (All-append (IsTight (later_width settings)) (front_pieces settings) broken
-          (front-tight (later_width settings) (length settings.initial_indent == 0))
-          (broken_words-tight (later_width settings) split
-          (split-measured Words Points texts cuts paragraph split utf8
-          (are.0, are.2, are.3))))
+        each : All (ClosesIn (later_width settings)) (flat division)
+        each = subst (All (ClosesIn (later_width settings))) (sym whole) (close paragraph pieces utf8 are)
 
-      none : All HasNoPenalty (flat division)
-      none = search (rules, arith, whole, pieces-no_penalty)
+        fronted : pieces ≡ front_pieces settings ++ fitting_pieces settings are.1
+        fronted = pieces_are paragraph pieces are
 
-      room : text_width settings.initial_indent ≡ 0 → (k : ℕ) → 0 ≤ k
-          → later_width settings ≤ line_width (widths_of settings is_later) k
-      room narrow zero from = search (rules, cond_both)
-      room narrow (suc k) from = search (rules, arith, later_is)
+        room : text_width settings.initial_indent ≡ 0 → (k : ℕ) → 0 ≤ k
+            → later_width settings ≤ line_width (widths_of settings is_later) k
+        room narrow zero from = search (rules, cond_both)
+        room narrow (suc k) from = search (rules, arith, later_is)
 
-      by_front : (b : Bool) → (length settings.initial_indent == 0) ≡ b
-          → OnlyCharactersPass (widths_of settings is_later) 0 division
-      by_front true unindented =
-          let empty = nil_from_length settings.initial_indent
-          (eqb-true (length settings.initial_indent) 0 unindented) in
-          let narrow : text_width settings.initial_indent ≡ 0 = ap text_width empty
-          ∙ text_width-nil in search (rules, arith, lines_pass, room, tight, none)
-      by_front false indented = search (rules, arith, front_passes, tight, none)
+        by_front : (b : Bool) → (length settings.initial_indent == 0) ≡ b
+            → OnlyCharactersPass (widths_of settings is_later) 0 division
+        by_front true unindented =
+            let empty = nil_from_length settings.initial_indent
+            (eqb-true (length settings.initial_indent) 0 unindented) in
+            let narrow : text_width settings.initial_indent ≡ 0 = ap text_width empty
+            ∙ text_width-nil in search (rules, arith, lines_pass, room, each)
+        by_front false indented = search (rules, arith, front_passes, each, fronted, whole)
+
+    module _ (texts : (line : List ℕ) (words : List WordText) → IsUtf8 line → Words line words
+        → AreTexts line words)
+        (cuts : (text points : List ℕ) → IsUtf8 text → Points text points → AreCuts text points)
+      where
+        -- where points stand behind hyphens of the word alone, no piece has a penalty
+        pub close-plain : ((text points : List ℕ) → Points text points
+            → All (λ p. ends_in_hyphen (take p text) ≡ true) points) → PiecesClose
+        close-plain hyphens paragraph pieces utf8 (words, split, words_are, split_are, is) =
+            broken-close paragraph pieces (words, split, words_are, split_are, is)
+            (fitting-closes_plain settings split
+            (split-measured Words Points texts cuts paragraph split utf8 (words, words_are, split_are))
+            (AreSplit-no_penalty Points hyphens words split (texts paragraph words utf8 words_are).plain
+            split_are))
+
+        -- where penalties are to have room, and later lines have it
+        pub close-room : settings.room_for_hyphens ≡ true
+            → ((paragraph : List ℕ) (words split : List WordText) → IsUtf8 paragraph → Words paragraph words
+            → AreSplit Points words split → All (λ w. length w.penalty ≤ later_width settings) split)
+            → PiecesClose
+        close-room asked narrow paragraph pieces utf8 (words, split, words_are, split_are, is) =
+            broken-close paragraph pieces (words, split, words_are, split_are, is)
+            (fitting-closes settings asked split
+            (split-measured Words Points texts cuts paragraph split utf8 (words, words_are, split_are))
+            (narrow paragraph words split utf8 words_are split_are))

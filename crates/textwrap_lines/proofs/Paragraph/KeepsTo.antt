@@ -20,7 +20,7 @@ use Rattle.textwrap_layout.specs.Paragraph.{indent_before}
 use Rattle.textwrap_layout.proofs.Paragraph.LeftOff.{closed-pieces_of, last_piece-no_penalty}
 use Rattle.textwrap_layout.proofs.Paragraph.LeftOff.{narrow_words, whole_unindented, word_of-blanks}
 use Rattle.textwrap_layout.proofs.Paragraph.LeftOff.{same_line}
-use Rattle.textwrap_layout.proofs.Paragraph.Widths.{later_is, long_lines}
+use Rattle.textwrap_layout.proofs.Paragraph.Widths.{PiecesClose, later_is, long_lines}
 use Rattle.textwrap_layout.proofs.Paragraph.Pieces.{ArePieces-computed, pieces_of-no_penalty}
 use Rattle.textwrap_layout.proofs.Paragraph.Pieces.{divided-as, pieces-no_penalty}
 use Rattle.textwrap_base.proofs.Cost.Chosen.{IsDividedBy-one_line}
@@ -182,12 +182,8 @@ module _ (settings : Settings) (Words : List ℕ → List WordText → Type 0)
         (pieces-no_penalty settings Words Points texts cuts hyphens paragraph pieces utf8 are)))
         (is_whole settings is_later paragraph) laid_out))
 
-  -- by first fit, where words are split after hyphens alone and those too wide are broken
-  module _ (texts : (line : List ℕ) (words : List WordText) → IsUtf8 line → Words line words
-      → AreTexts line words)
-      (cuts : (text points : List ℕ) → IsUtf8 text → Points text points → AreCuts text points)
-      (hyphens : (text points : List ℕ) → Points text points
-      → All (λ p. ends_in_hyphen (take p text) ≡ true) points)
+  -- by first fit, where words that are too wide are broken
+  module _ (close : PiecesClose settings Words Points)
       (greedy : (widths : List ℕ) (pieces : List WordText) (division : List (List WordText))
       → Lines widths pieces division → IsDividedBy ByFirstFit sizes_of widths pieces division)
       (breaks : settings.break_words ≡ true) where
@@ -195,7 +191,7 @@ module _ (settings : Settings) (Words : List ℕ → List WordText → Type 0)
         → IsUtf8 paragraph → Divides is_later paragraph division
         → OnlyCharactersPass (widths_of settings is_later) 0 division
     characters-pass is_later paragraph division utf8 (pieces, are, divided) =
-        long_lines settings Words Points texts cuts hyphens is_later paragraph division utf8 breaks
+        long_lines settings Words Points breaks close is_later paragraph division utf8
         (pieces, are, greedy (widths_of settings is_later) pieces division divided)
 
     pub paragraph-keeps : (is_later : Bool) (paragraph : List ℕ) (parts : List LineParts)

@@ -11,7 +11,7 @@ use Rattle.textwrap_lines.proofs.Common.{line_from, widths_of, All-cons, All-hea
 use Rattle.textwrap_lines.proofs.Common.{AreTexts, Settings, Splitter, WordText, all-left, is_whole}
 use Rattle.textwrap_lines.proofs.Common.{parts_of, sizes_of, All-nil, AreCuts, covered, word_of}
 use Rattle.textwrap_lines.proofs.Common.{IsUtf8, false, rules, subst, tiled, Bool, cond, flat, Line}
-use Rattle.textwrap_lines.proofs.Common.{List, refl, take, true, ◌++◌, All, inl, inr, sym, ◌+◌, ◌∙◌}
+use Rattle.textwrap_lines.proofs.Common.{List, take, true, ◌++◌, All, inl, inr, sym, ◌+◌, ◌∙◌}
 use Rattle.textwrap_lines.proofs.Common.{◌∷◌, ◌≡◌, ◌≢◌}
 use Rattle.textwrap_text.proofs.Common.{chars-nil, eqb-true, text_width, ◌⊎◌}
 use Rattle.textwrap_text.specs.Units.{escape}
@@ -21,7 +21,11 @@ use Rattle.textwrap_words.proofs.Word.Words.{text_width-nil, word_of-measured}
 use Rattle.textwrap_words.proofs.Word.Texts.{AreBlanks}
 use Rattle.textwrap_layout.proofs.Common.{CutsNoSequence, HasWholeSequences, IsPrintedWithin}
 use Rattle.textwrap_layout.proofs.Common.{HasNoEscape}
-use Rattle.textwrap_layout.proofs.Paragraph.LeftOff.{assembled-parts, blanks-utf8, bytes-assembled}
+use Rattle.textwrap_layout.proofs.Paragraph.{LeftOff.blanks-utf8, Widths.PiecesClose}
+use Rattle.textwrap_layout.proofs.Paragraph.Widths.{close-plain}
+use Rattle.textwrap_layout.proofs.Common.{ArePieces, last_piece}
+use Rattle.textwrap_text.proofs.Common.{length, ◌==◌, ◌&&◌}
+use Rattle.textwrap_lines.proofs.Common.{ArePoints, AreWordsOf}
 use Rattle.textwrap_layout.proofs.Text.Paragraphs.{each_part, paragraphs_of-each, text_width-append}
 use Rattle.textwrap_layout.proofs.Text.Paragraphs.{units-plain}
 use Rattle.textwrap_base.proofs.Division.Map.{IsDividedBy-whole}
@@ -39,26 +43,52 @@ pub blanks-whole : (bytes : List ℕ) → AreBlanks bytes → HasWholeSequences 
 blanks-whole bytes blanks =
     grind (arith, blanks-printable, chars-IsAscii, printable-ascii, units-plain, All-weaker)
 
-covered-width : (ws : List WordText) → All IsMeasured ws → All HasNoPenalty ws
-    → All (λ w. HasWholeSequences w.word) ws → text_width (covered ws) ≡ closed_width sizes_of ws
-covered-width [] measured none whole = text_width-nil
-covered-width (w ∷ []) measured none whole = grind (arith, All-head)
-covered-width (w ∷ v ∷ ws) measured none whole =
-    let here = All-head IsMeasured w (v ∷ ws) measured in
-    let rest = covered (v ∷ ws) in
+-- each byte of the penalty takes a column
+abbrev pub PrintsPenalty : WordText → Type 0
+PrintsPenalty w = text_width w.penalty ≡ length w.penalty
+
+pub prints-plain : (ws : List WordText) → All HasNoPenalty ws → All PrintsPenalty ws
+prints-plain ws none =
+    All-weaker HasNoPenalty PrintsPenalty (λ w n. rw n text_width-nil) ws none
+
+-- what pieces cover, and the penalty behind it
+covered-width : (w : WordText) (ws : List WordText) → All IsMeasured (w ∷ ws)
+    → All PrintsPenalty (w ∷ ws) → All (λ w. HasWholeSequences w.word) (w ∷ ws)
+    → text_width (covered (w ∷ ws) ++ (last_piece w ws).penalty) ≡ closed_width sizes_of (w ∷ ws)
+covered-width w [] measured prints whole =
+    let here = All-head IsMeasured w [] measured in
     omega (
       arith,
       here.width,
+      text_width-append w.word w.penalty here.utf8
+          (All-head (λ w. HasWholeSequences w.word) w [] whole),
+      All-head PrintsPenalty w [] prints,
+    )
+covered-width w (v ∷ ws) measured prints whole =
+    let here = All-head IsMeasured w (v ∷ ws) measured in
+    let covers = covered (v ∷ ws) in
+    let penalty = (last_piece v ws).penalty in
+    let rest = covers ++ penalty in
+    omega (
+      arith,
+      here.width,
+      ap text_width (append_assoc (w.word ++ w.whitespace) covers penalty),
       ap text_width (append_assoc w.word w.whitespace rest),
       text_width-append w.word (w.whitespace ++ rest) here.utf8
           (All-head (λ w. HasWholeSequences w.word) w (v ∷ ws) whole),
       text_width-append w.whitespace rest (blanks-utf8 w.whitespace here.ending.blanks)
           (blanks-whole w.whitespace here.ending.blanks),
       printable-width w.whitespace (blanks-printable w.whitespace here.ending.blanks),
-      covered-width (v ∷ ws) (All-tail IsMeasured w (v ∷ ws) measured)
-          (All-tail HasNoPenalty w (v ∷ ws) none)
+      covered-width v ws (All-tail IsMeasured w (v ∷ ws) measured)
+          (All-tail PrintsPenalty w (v ∷ ws) prints)
           (All-tail (λ w. HasWholeSequences w.word) w (v ∷ ws) whole),
     )
+
+bytes-built : (indent slice penalty : List ℕ)
+    → line_bytes (assembled_line indent slice penalty) ≡ indent ++ (slice ++ penalty)
+bytes-built [] slice [] = sym (append-nil slice)
+bytes-built [] slice (c ∷ penalty) = grind arith
+bytes-built (c ∷ indent) slice penalty = grind (arith, append_assoc)
 
 -- a line is as wide as its indent and what its pieces close at
 abbrev pub PrintsAsMeasured : LineParts → Type 0
@@ -71,27 +101,37 @@ module _ (settings : Settings) (trims : settings.preserve_trailing_space ≡ fal
   indent-utf8 true = subsequent
   indent-utf8 false = initial
 
-  line-printed : (is_later : Bool) (line : List WordText) → All IsMeasured line
-      → All HasNoPenalty line → PrintsAsMeasured (parts_of settings is_later line)
-  line-printed is_later [] measured none cuts = omega arith
-  line-printed is_later (w ∷ ws) measured none cuts =
+  pub bytes-trimmed : (is_later : Bool) (w : WordText) (ws : List WordText)
+      → line_bytes (line_from (parts_of settings is_later (w ∷ ws)))
+      ≡ indent_of settings is_later ++ (covered (w ∷ ws) ++ (last_piece w ws).penalty)
+  bytes-trimmed is_later w ws =
       let indent = indent_of settings is_later in
       let slice = covered (w ∷ ws) in
-      ap (λ l. text_width (line_bytes l)) (sym (assembled-parts settings is_later w ws none)
-      ∙ ap (λ b. assembled_line indent (cond b (tiled (w ∷ ws)) slice) []) trims)
-      ∙ ap text_width (bytes-assembled indent slice)
-      ∙ text_width-append indent slice (indent-utf8 is_later) cuts.0
-      ∙ ap (λ n. text_width indent + n) (covered-width (w ∷ ws) measured none cuts.1)
+      let penalty = (last_piece w ws).penalty in
+      ap (λ b. line_bytes (assembled_line indent
+      (cond (b && (length penalty == 0)) (tiled (w ∷ ws)) slice) penalty)) trims
+      ∙ bytes-built indent slice penalty
+
+  line-printed : (is_later : Bool) (line : List WordText) → All IsMeasured line
+      → All PrintsPenalty line → PrintsAsMeasured (parts_of settings is_later line)
+  line-printed is_later [] measured prints cuts = omega arith
+  line-printed is_later (w ∷ ws) measured prints cuts =
+      let indent = indent_of settings is_later in
+      let slice = covered (w ∷ ws) in
+      let penalty = (last_piece w ws).penalty in
+      ap text_width (bytes-trimmed is_later w ws)
+      ∙ text_width-append indent (slice ++ penalty) (indent-utf8 is_later) cuts.0
+      ∙ ap (λ n. text_width indent + n) (covered-width w ws measured prints cuts.1)
 
   pub lines-printed : (is_later : Bool) (division : List (List WordText))
-      → All IsMeasured (flat division) → All HasNoPenalty (flat division)
+      → All IsMeasured (flat division) → All PrintsPenalty (flat division)
       → All PrintsAsMeasured (parts_from settings is_later division)
-  lines-printed is_later [] measured none = All-nil PrintsAsMeasured
-  lines-printed is_later (line ∷ lines) measured none =
+  lines-printed is_later [] measured prints = All-nil PrintsAsMeasured
+  lines-printed is_later (line ∷ lines) measured prints =
       All-cons PrintsAsMeasured (parts_of settings is_later line) (parts_from settings true lines)
       (search (rules, arith, line-printed, all-left))
       (lines-printed true lines (all-right IsMeasured line (flat lines) measured)
-      (all-right HasNoPenalty line (flat lines) none))
+      (all-right PrintsPenalty line (flat lines) prints))
 
 -- ---- where neither text nor indents have escape sequences
 
@@ -127,12 +167,26 @@ module _ (settings : Settings) (initial : HasNoEscape settings.initial_indent)
       (line-whole is_later line (all-left (λ w. HasWholeSequences w.word) line (flat lines) whole))
       (lines-whole true lines (all-right (λ w. HasWholeSequences w.word) line (flat lines) whole))
 
--- ---- the lines of a text, by first fit, where words may be split after hyphens alone
+-- ---- the lines of a text, by first fit
+
+-- where points stand behind hyphens of the word alone
+pub print-plain : (settings : Settings) (Words : List ℕ → List WordText → Type 0)
+    (Points : List ℕ → List ℕ → Type 0)
+    (texts : (line : List ℕ) (words : List WordText) → IsUtf8 line → Words line words
+    → AreTexts line words)
+    (cuts : (text points : List ℕ) → IsUtf8 text → Points text points → AreCuts text points)
+    (hyphens : (text points : List ℕ) → Points text points
+    → All (λ p. ends_in_hyphen (take p text) ≡ true) points)
+    (paragraph : List ℕ) (pieces : List WordText) → IsUtf8 paragraph
+    → ArePieces settings Words Points paragraph pieces → All PrintsPenalty pieces
+print-plain settings Words Points texts cuts hyphens paragraph pieces utf8 are =
+    prints-plain pieces
+    (pieces-no_penalty settings Words Points texts cuts hyphens paragraph pieces utf8 are)
 
 -- the pieces of a paragraph
 record AreItsPieces (paragraph : List ℕ) (pieces : List WordText) : Type 0 where
   measured : All IsMeasured pieces
-  none : All HasNoPenalty pieces
+  prints : All PrintsPenalty pieces
   tile : tiled pieces ≡ paragraph
 
 module _ (settings : Settings) (Words : List ℕ → List WordText → Type 0)
@@ -141,8 +195,9 @@ module _ (settings : Settings) (Words : List ℕ → List WordText → Type 0)
     (texts : (line : List ℕ) (words : List WordText) → IsUtf8 line → Words line words
     → AreTexts line words)
     (cuts : (text points : List ℕ) → IsUtf8 text → Points text points → AreCuts text points)
-    (hyphens : (text points : List ℕ) → Points text points
-    → All (λ p. ends_in_hyphen (take p text) ≡ true) points)
+    (close : settings.break_words ≡ true → PiecesClose settings Words Points)
+    (print : (paragraph : List ℕ) (pieces : List WordText) → IsUtf8 paragraph
+    → ArePieces settings Words Points paragraph pieces → All PrintsPenalty pieces)
     (greedy : (widths : List ℕ) (pieces : List WordText) (division : List (List WordText))
     → Lines widths pieces division → IsDividedBy ByFirstFit sizes_of widths pieces division) where
   abbrev Divides : Bool → List ℕ → List (List WordText) → Type 0
@@ -164,13 +219,13 @@ module _ (settings : Settings) (Words : List ℕ → List WordText → Type 0)
       (record {
         measured = All-cons IsMeasured (word_of paragraph) [] (word_of-measured paragraph utf8)
             (All-nil IsMeasured);
-        none = All-cons HasNoPenalty (word_of paragraph) [] refl (All-nil HasNoPenalty);
+        prints = All-cons PrintsPenalty (word_of paragraph) [] text_width-nil (All-nil PrintsPenalty);
         tile = tiled-word_of paragraph;
       }) (λ (pieces, are, divided). subst (AreItsPieces paragraph)
       (sym (division-whole (widths_of settings is_later) pieces division divided))
       (record {
         measured = pieces-measured settings Words Points texts cuts paragraph pieces utf8 are;
-        none = pieces-no_penalty settings Words Points texts cuts hyphens paragraph pieces utf8 are;
+        prints = print paragraph pieces utf8 are;
         tile = pieces-tile settings Words Points texts cuts paragraph pieces utf8 are;
       })) (is_whole settings is_later paragraph) laid_out
 
@@ -198,7 +253,7 @@ module _ (settings : Settings) (Words : List ℕ → List WordText → Type 0)
         let pieces = division-pieces is_later paragraph division utf8 laid_out in
         let printed = subst (All PrintsAsMeasured) (sym is)
         (search (rules, arith, lines-printed)) in
-        let keeps = paragraph-even settings Words Points Lines texts cuts hyphens greedy can.breaks
+        let keeps = paragraph-even settings Words Points Lines (close can.breaks) greedy can.breaks
         is_later own paragraph parts utf8 (division, laid_out, is) in search (rules, arith, within)
 
     -- one paragraph, or even ones
@@ -243,4 +298,9 @@ pub ArePrintedWithin-from : (settings : Settings) (splitter : Splitter) (text : 
     → AreTextLines settings (DividesAs splitter ByFirstFit settings) text lines
     → ArePrintedWithin settings (DividesAs splitter ByFirstFit settings) text lines
 ArePrintedWithin-from settings splitter =
-    search (rules, arith, ArePrintedWithin-by, AreTexts-words, ArePoints-cuts, ArePoints-hyphens)
+    ArePrintedWithin-by settings AreWordsOf (ArePoints splitter) (IsDividedBy ByFirstFit sizes_of)
+    AreTexts-words (ArePoints-cuts splitter)
+    (λ breaks. close-plain settings AreWordsOf (ArePoints splitter) breaks AreTexts-words
+    (ArePoints-cuts splitter) (ArePoints-hyphens splitter))
+    (print-plain settings AreWordsOf (ArePoints splitter) AreTexts-words (ArePoints-cuts splitter)
+    (ArePoints-hyphens splitter)) (λ widths pieces division divided. divided)

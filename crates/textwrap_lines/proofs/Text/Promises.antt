@@ -16,6 +16,7 @@ use Rattle.textwrap_layout.specs.declared.options.Options.{Options}
 use Rattle.textwrap_text.proofs.Lists.Parts.{Begins}
 use Rattle.textwrap_words.proofs.Word.Pieces.{ArePoints-cuts, ArePoints-hyphens}
 use Rattle.textwrap_layout.proofs.Paragraph.Pieces.{divided-begin, divided-blanks}
+use Rattle.textwrap_layout.proofs.Paragraph.Widths.{PiecesClose, close-plain}
 use Rattle.textwrap_layout.proofs.Text.Paragraphs.{parts_past-some}
 use Rattle.textwrap_lines.proofs.Text.Groups.{groups-indented, groups-some, LosesOnlyBlanks-from}
 use Rattle.textwrap_lines.proofs.Text.Groups.{groups-all, groups-map, groups-tile}
@@ -23,7 +24,7 @@ use Rattle.textwrap_lines.proofs.Paragraph.KeepsTo.{paragraph-indented, paragrap
 use Rattle.textwrap_lines.proofs.Paragraph.KeepsTo.{first_width-own, HasNoHyphen, paragraph-keeps}
 use Rattle.textwrap_lines.proofs.Paragraph.KeepsTo.{AreParts, paragraph-even, paragraph-some}
 use Rattle.textwrap_lines.proofs.Paragraph.KeepsTo.{Divides}
-use Rattle.textwrap_lines.proofs.Text.Printed.{ArePrintedWithin-by}
+use Rattle.textwrap_lines.proofs.Text.Printed.{ArePrintedWithin-by, print-plain}
 use Rattle.textwrap_words.specs.declared.wrap_algorithms.WrapAlgorithm.TheVariants.{FirstFit}
 use Rattle.textwrap_base.proofs.Division.Map.{IsDividedBy-some, IsDividedBy-whole}
 use Rattle.textwrap_words.proofs.Word.Parts.{MaySeparate-texts, MaySplit-cuts, MaySplit-hyphens}
@@ -90,27 +91,26 @@ module _ (settings : Settings) (Words : List ℕ → List WordText → Type 0)
                 (search (rules, arith, groups-map, paragraph-no_hyphen));
           };
           keeps = λ first built_in breaks. groups-map IsUtf8 (AreParts settings Words Points Lines) (KeepToWidths settings)
-              (paragraph-keeps settings Words Points Lines texts cuts (hyphens built_in)
-              (greedy first) breaks) false paragraphs are.groups all are.defined;
+              (paragraph-keeps settings Words Points Lines
+              (close-plain settings Words Points breaks texts cuts (hyphens built_in)) (greedy first)
+              breaks) false paragraphs are.groups all are.defined;
         }
 
-    -- where the splitter is built in and lines are divided by first fit
-    pub LinesKeepToWidth-by : ((text points : List ℕ) → Points text points
-        → All (λ p. ends_in_hyphen (take p text) ≡ true) points)
+    -- where lines are divided by first fit
+    pub LinesKeepToWidth-by : PiecesClose settings Words Points
         → ((widths : List ℕ) (pieces : List WordText) (division : List (List WordText))
         → Lines widths pieces division → IsDividedBy ByFirstFit sizes_of widths pieces division)
         → (text : List ℕ) (lines : List Line) → IsUtf8 text
         → settings.even_paragraphs ≡ true → settings.break_words ≡ true
         → AreTextLines settings (Divides settings Words Points Lines) text lines → LinesKeepToWidth settings (Divides settings Words Points Lines) text lines
-    LinesKeepToWidth-by hyphens greedy text lines utf8 even breaks are =
+    LinesKeepToWidth-by close greedy text lines utf8 even breaks are =
         let ending = settings.line_ending in
         let paragraphs = paragraphs_of ending text in (
           are,
           groups-all (KeepsToWidth settings.width) false paragraphs are.groups
               (groups-map IsUtf8 (AreParts settings Words Points Lines)
               (λ is_later paragraph parts. All (KeepsToWidth settings.width) parts)
-              (λ is_later. paragraph-even settings Words Points Lines texts cuts hyphens greedy
-              breaks is_later (first_width-own settings even is_later)) false paragraphs are.groups
+              (λ is_later. paragraph-even settings Words Points Lines close greedy breaks is_later (first_width-own settings even is_later)) false paragraphs are.groups
               (paragraphs_of-utf8 ending text utf8) are.defined),
         )
 
@@ -150,7 +150,8 @@ LinesKeepToWidth-from settings splitter text lines utf8 even breaks are =
     LinesKeepToWidth-by settings AreWordsOf (ArePoints splitter) (IsDividedBy ByFirstFit sizes_of)
     AreTexts-words (ArePoints-cuts splitter)
     (λ widths pieces division divided. ([], search (rules, arith, append-nil, IsDividedBy-whole)))
-    (ArePoints-hyphens splitter) (λ widths pieces division divided. divided)
+    (close-plain settings AreWordsOf (ArePoints splitter) breaks AreTexts-words
+    (ArePoints-cuts splitter) (ArePoints-hyphens splitter)) (λ widths pieces division divided. divided)
     text lines utf8 even breaks are
 
 module _ {E C : Type 0} {e : _} {c : _} (options : Options E C e c) where
@@ -183,7 +184,10 @@ module _ {E C : Type 0} {e : _} {c : _} (options : Options E C e c) where
       LinesKeepToWidth-by (settings_view options) (MaySeparate options.word_separator)
       (MaySplit options.word_splitter) (MayDivide algorithm (λ w. w))
       (MaySeparate-texts options.word_separator) (MaySplit-cuts options.word_splitter)
-      (MayDivide-begins algorithm (λ w. w)) (MaySplit-hyphens options.word_splitter built_in)
+      (MayDivide-begins algorithm (λ w. w))
+      (close-plain (settings_view options) (MaySeparate options.word_separator)
+      (MaySplit options.word_splitter) breaks (MaySeparate-texts options.word_separator)
+      (MaySplit-cuts options.word_splitter) (MaySplit-hyphens options.word_splitter built_in))
       (λ widths pieces division. MayDivide-greedy algorithm (λ w. w) widths pieces division
       (ap algorithm_view first)) text lines utf8 even breaks are
 
@@ -197,6 +201,11 @@ module _ {E C : Type 0} {e : _} {c : _} (options : Options E C e c) where
       ArePrintedWithin-by (settings_view options) (MaySeparate options.word_separator)
       (MaySplit options.word_splitter) (MayDivide algorithm (λ w. w))
       (MaySeparate-texts options.word_separator) (MaySplit-cuts options.word_splitter)
-      (MaySplit-hyphens options.word_splitter built_in)
+      (λ breaks. close-plain (settings_view options) (MaySeparate options.word_separator)
+      (MaySplit options.word_splitter) breaks (MaySeparate-texts options.word_separator)
+      (MaySplit-cuts options.word_splitter) (MaySplit-hyphens options.word_splitter built_in))
+      (print-plain (settings_view options) (MaySeparate options.word_separator)
+      (MaySplit options.word_splitter) (MaySeparate-texts options.word_separator)
+      (MaySplit-cuts options.word_splitter) (MaySplit-hyphens options.word_splitter built_in))
       (λ widths pieces division. MayDivide-greedy algorithm (λ w. w) widths pieces division
       (ap algorithm_view first)) text lines utf8 can are

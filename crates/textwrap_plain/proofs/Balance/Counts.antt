@@ -5,7 +5,7 @@ use Rattle.textwrap_base.proofs.{Common.IsDivision, Division.Map.IsDividedBy-who
 use Rattle.textwrap_hyphens.specs.{Splitting.is_split_point, Table.held}
 use Rattle.textwrap_layout.proofs.Common.{AreGroups, AreParagraphParts, AreTextLines, AreWordsCut}
 use Rattle.textwrap_layout.proofs.Common.{Line, LineParts, Settings, broken_pieces_of, covered_by}
-use Rattle.textwrap_layout.proofs.Common.{empty_word, front_pieces, is_whole, later_width}
+use Rattle.textwrap_layout.proofs.Common.{empty_word, fitting_pieces, front_pieces, is_whole, room_of}
 use Rattle.textwrap_layout.proofs.Common.{line_from, parts_from, widths_of}
 use Rattle.textwrap_layout.proofs.Paragraph.{LeftOff.laid_out-cases, Pieces.AreWordsCut-texts}
 use Rattle.textwrap_layout.proofs.{Paragraph.Pieces.pieces-tile, Text.Paragraphs.ending_bytes-some}
@@ -28,7 +28,7 @@ use Rattle.textwrap_text.proofs.Lists.Parts.{flat, length-slice, some_from_nonem
 use Rattle.textwrap_text.proofs.Units.Chunks.{AreChunks-chunks}
 use Rattle.textwrap_text.specs.Units.{taken_at, units_past}
 use Rattle.textwrap_words.proofs.Common.{Algorithm, ByFirstFit, ByOptimalFit, IsDividedBy, WordText}
-use Rattle.textwrap_words.proofs.Common.{broken_texts, broken_word, broken_words, pieces_with}
+use Rattle.textwrap_words.proofs.Common.{broken_texts, broken_word, pieces_with}
 use Rattle.textwrap_words.proofs.Common.{sizes_of, split_pieces, tile_of, tiled, word_of}
 use Rattle.textwrap_words.proofs.Word.Breaking.{AreBroken-exists}
 use Rattle.textwrap_words.proofs.Word.Pieces.{AreSplitWords, AreTexts, split-measured, split-tile}
@@ -277,13 +277,13 @@ module _ (words : List ℕ → List WordText)
       (words paragraph, refl, split-computed points (words paragraph)) in
       let measured = split-measured Words (AreAt points) texts cuts paragraph split utf8 made in
       let total = ap length (split-tile Words (AreAt points) texts cuts paragraph split utf8 made) in
-      let limit = later_width settings in
-      let broken : length (broken_words limit split) ≤ length (tiled split) =
-      count-each (λ w. IsMeasured w × CoversSome w) tile_of (broken_word limit)
-      (λ w. count-word limit w (nat_lt limit w.width)) split
+      let room = room_of settings in
+      let broken : length (fitting_pieces settings split) ≤ length (tiled split) =
+      count-each (λ w. IsMeasured w × CoversSome w) tile_of (λ w. broken_word (room w) w)
+      (λ w. count-word (room w) w (nat_lt (room w) w.width)) split
       (λ k d lt. (measured k d lt, cover k d lt)) in
       elim settings.break_words as (λ b. length
-      (cond b (front_pieces settings ++ broken_words limit split) split) ≤ length paragraph + 1) [
+      (cond b (front_pieces settings ++ fitting_pieces settings split) split) ≤ length paragraph + 1) [
         | true ↦ grind (arith, length-append, count-front)
         | false ↦ omega (arith, count-some CoversSome tile_of (λ w some. some) split cover, total)
       ]

@@ -2,12 +2,13 @@
 use Rattle.std.proofs.Math.Nat.{le-max_right}
 use Rattle.textwrap_base.proofs.Common.{AllFit, IsGreedy, Sizes, closed_width, line_width}
 use Rattle.textwrap_base.proofs.Division.Greedy.{greedy_fewest, line_width-later}
-use Rattle.textwrap_layout.proofs.Common.{IsDivision, broken_pieces_of, front_pieces}
+use Rattle.textwrap_layout.proofs.Common.{IsDivision, broken_pieces_of, fitting_pieces, front_pieces}
+use Rattle.textwrap_layout.proofs.Common.{room_of}
 use Rattle.textwrap_layout.specs.Paragraph.{IsLaidOut}
 use Rattle.textwrap_lines.proofs.Common.{All, All-cons, All-head, All-nil, All-tail, All-weaker}
 use Rattle.textwrap_lines.proofs.Common.{AreGroups, AreParagraphParts, Bool, ByFirstFit, Line}
 use Rattle.textwrap_lines.proofs.Common.{LineParts, List, Settings, WordText, [], all-left}
-use Rattle.textwrap_lines.proofs.Common.{all-right, and_parts, ap, arith, broken_words, cases_Bool}
+use Rattle.textwrap_lines.proofs.Common.{all-right, and_parts, ap, arith, cases_Bool}
 use Rattle.textwrap_lines.proofs.Common.{cond, false, first_width, flat, flat_map, indent_of, inl}
 use Rattle.textwrap_lines.proofs.Common.{inr, is_whole, laid_out-cases, later_width, le-ltb, length}
 use Rattle.textwrap_lines.proofs.Common.{length-append, length-map, line_from, lt-ltb, ltb-true}
@@ -44,14 +45,24 @@ module _ {X : Type 0} (sizes : X → Sizes) (widths others : List ℕ)
     AllFit-wider (number + 1) lines rest,
   )
 
--- ---- words that keep to the limit stay whole
+-- ---- words that keep to a later line stay whole, with their penalties
 
-whole-words : (limit : ℕ) (ws : List WordText) → All (λ w. w.width ≤ limit) ws
-    → broken_words limit ws ≡ ws
-whole-words limit [] all = refl
-whole-words limit (w ∷ ws) all =
-    rw (le-ltb limit w.width (All-head (λ w. w.width ≤ limit) w ws all))
-    (ap (λ l. w ∷ l) (whole-words limit ws (All-tail (λ w. w.width ≤ limit) w ws all)))
+abbrev ClosesWithin : ℕ → WordText → Type 0
+ClosesWithin limit w = closed_width sizes_of (w ∷ []) ≤ limit
+
+whole-words : (settings : Settings) (ws : List WordText)
+    → All (ClosesWithin (later_width settings)) ws → fitting_pieces settings ws ≡ ws
+whole-words settings [] all = refl
+whole-words settings (w ∷ ws) all =
+    let later = later_width settings in
+    let closes = All-head (ClosesWithin later) w ws all in
+    let room : w.width ≤ room_of settings w = elim settings.room_for_hyphens
+    as (λ b. w.width ≤ cond b (later - length w.penalty) later) [
+      | true ↦ omega (arith, closes)
+      | false ↦ omega (arith, closes)
+    ] in
+    rw (le-ltb (room_of settings w) w.width room)
+    (ap (λ l. w ∷ l) (whole-words settings ws (All-tail (ClosesWithin later) w ws all)))
 
 division-some : {X : Type 0} (xs : List X) (lines : List (List X)) → IsDivision xs lines
     → 0 < length lines
@@ -71,7 +82,7 @@ module _ (settings : Settings) (words : List ℕ → List WordText) (points : Li
   -- the pieces of a paragraph keep to the width of the later lines
   abbrev AreNarrow : ℕ → List ℕ → Type 0
   AreNarrow width paragraph =
-      All (λ w. w.width ≤ later_width (at_width settings width))
+      All (ClosesWithin (later_width (at_width settings width)))
       (split_by_points points (words paragraph))
 
   -- its pieces, where none is broken
@@ -86,7 +97,7 @@ module _ (settings : Settings) (words : List ℕ → List WordText) (points : Li
   whole-pieces width paragraph narrow =
       let split = split_by_points points (words paragraph) in
       ap (λ ws. cond settings.break_words (front_pieces settings ++ ws) split)
-      (whole-words (later_width (at_width settings width)) split narrow)
+      (whole-words (at_width settings width) split narrow)
 
   -- they are divided so, where the paragraph is no line as a whole
   divided-greedy : (width : ℕ) (is_later : Bool) (paragraph : List ℕ)
@@ -117,8 +128,8 @@ module _ (settings : Settings) (words : List ℕ → List WordText) (points : Li
     division-fewer is_later paragraph division others narrow divided other =
         let greedy = divided-greedy v is_later paragraph division narrow divided in
         let wider : AreNarrow w paragraph = All-weaker
-        (λ p. p.width ≤ later_width (at_width settings v))
-        (λ p. p.width ≤ later_width (at_width settings w)) (λ p keeps. omega (arith, keeps, order))
+        (ClosesWithin (later_width (at_width settings v)))
+        (ClosesWithin (later_width (at_width settings w))) (λ p keeps. omega (arith, keeps, order))
         (split_by_points points (words paragraph)) narrow in
         greedy_fewest sizes_of (widths_of (at_width settings w) is_later) (whole paragraph) others
         division (divided-greedy w is_later paragraph others wider other) (record {
@@ -250,11 +261,11 @@ module _ (settings : Settings) (words : List ℕ → List WordText) (points : Li
   room-narrow : (v : ℕ) → HasRoom settings words points text v
       → All (AreNarrow settings words points v) (paragraphs_of settings.line_ending text)
   room-narrow v room =
-      all-each (λ p. p.width ≤ later_width (at_width settings v))
+      all-each (ClosesWithin (later_width (at_width settings v)))
       (λ paragraph. split_by_points points (words paragraph))
       (paragraphs_of settings.line_ending text)
       (All-weaker (λ p. wider_indent settings + closed_width sizes_of (p ∷ []) ≤ v)
-      (λ p. p.width ≤ later_width (at_width settings v))
+      (ClosesWithin (later_width (at_width settings v)))
       (λ p keeps. omega (
         arith,
         keeps,

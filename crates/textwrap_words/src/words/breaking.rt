@@ -140,7 +140,10 @@ pub fn stay_whole(words: &[Word<'_>], line_width: usize) -> bool
 }
 
 /// Appends a word, or its pieces where it is wider than the line.
-fn push_broken<'a, A: Allocator>(
+///
+/// # Errors
+/// [`AllocError`] where memory runs out.
+pub fn push_broken<'a, A: Allocator>(
     pieces: &mut Vec<Word<'a>, A>,
     word: Word<'a>,
     line_width: usize,

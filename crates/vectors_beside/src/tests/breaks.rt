@@ -1,8 +1,6 @@
 //! The cases are texts with the mark `÷` wherever a line may or must end, as in the official file.
 mod differing;
 mod official;
-mod pairs;
-mod wrapping;
 
 use super::plain::{assert_count, assert_holds};
 use Numbers::{ByExpression, ByPairs};
@@ -11,7 +9,7 @@ use official::{BEGINNINGS, OTHERS, SECONDS};
 use std::alloc::{AllocError, Global};
 use std::collections::BTreeSet;
 use std::process::Abort;
-use textwrap_unicode::{LineBreak, LineBreaks, Numbers, line_breaks, line_breaks_by};
+use textwrap_unicode::{LineBreak, LineBreaks, Numbers, line_breaks, line_breaks_by, unicode_cuts};
 
 /// How many distinct cases the official file has. Its 29 further lines repeat some of these.
 const DISTINCT_CASES: usize = 7625;
@@ -187,4 +185,13 @@ fn cases_beyond_the_official(rt: HostRuntime) {
     for &(_, numbers, case) in BEYOND_OFFICIAL {
         assert_breaks(&rt, case, numbers);
     }
+}
+
+/// A line of 50,000 words of three letters, with the blank after each.
+#[test]
+fn a_long_line_is_cut_at_each_blank(rt: HostRuntime) {
+    let line = "foo ".repeat(rt.alloc(), 50_000).expect(&rt, "line");
+    let cuts = unicode_cuts(rt.alloc(), &line).expect(&rt, "cuts");
+    assert_count(&rt, "cuts", cuts.len(), 49_999);
+    assert_holds(&rt, "the last", cuts.last() == Some(&199_996));
 }

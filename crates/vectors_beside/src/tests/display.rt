@@ -1,22 +1,19 @@
-//! What lines for display become. Each row has the rule that it shows.
+//! Long lines for display, and what the tests of refused memory make of lines. What short lines become
+//! is told by the rows of `textwrap_rows`.
 mod attributes;
-mod documented;
 mod filling;
 mod fitting;
 mod shortening;
 mod styles;
 mod tables;
-mod tabs;
 mod widening;
 
-use super::plain::assert_line;
 use Change::{Aligned, Cut, Expanded, Justified, Shortened};
 pub use filling::is_filled;
 pub use fitting::is_fitted;
 pub use shortening::are_shortened;
 use std::alloc::{AllocError, Allocator};
 use std::borrow::CowStr;
-use std::process::Abort;
 pub use styles::are_carried;
 pub use tables::is_table;
 use textwrap_display::{Alignment, Shortening, align, expand_tabs, justify, shorten, shorten_by};
@@ -36,9 +33,6 @@ pub enum Change<'p> {
     Expanded,
 }
 
-/// The rule, the call, the line, the columns, and the line that it becomes.
-type LineRow<'a> = (&'a str, Change<'a>, &'a str, usize, &'a str);
-
 /// What the call makes of a line at so many columns.
 pub fn changed<'l, A: Allocator>(
     alloc: A,
@@ -56,21 +50,5 @@ pub fn changed<'l, A: Allocator>(
         Aligned(alignment) => align(alloc, line, width, alignment),
         Justified => justify(alloc, line, width),
         Expanded => expand_tabs(alloc, line, width),
-    }
-}
-
-/// Asserts what a line becomes, and that it is copied only if it changes.
-fn assert_changed(
-    rt: &(impl Abort + AllocGlobal),
-    (rule, change, line, width, wanted): LineRow<'_>,
-) {
-    let found = changed(rt.alloc(), change, line, width).expect(rt, rule);
-    assert_line(rt, rule, line, &found, wanted);
-}
-
-/// Asserts this of each row.
-fn assert_all_changed(rt: &(impl Abort + AllocGlobal), rows: &[LineRow<'_>]) {
-    for &row in rows {
-        assert_changed(rt, row);
     }
 }

@@ -29,130 +29,6 @@ const REFUSED: &[(&str, &str, &[usize], usize)] = &[
     ("a word without letters", "-", &[], 1),
 ];
 
-/// A word, and its points by both lists of patterns, with the exceptions and at least 2 letters
-/// before a point and 3 behind it. Each row has the rule that it shows.
-#[rattlefmt::skip]
-const WORDS: [(&str, &str, &[usize]); 22] = [
-    ("Liang's example: hy-phen-ation", "hyphenation", &[2, 6]),
-    ("letters are lower-cased one by one", "HYPHENation", &[2, 6]),
-    ("each run of letters is a word for itself", "(hyphenation),", &[3, 7]),
-    ("each run of letters is a word for itself", "hyphenation/hyphenation", &[2, 6, 14, 18]),
-    ("a word with a hyphen is left whole", "hyphenation-hyphenation", &[]),
-    ("that of Unicode too", "hyphenation\u{2010}", &[]),
-    ("soft hyphens are left out", "hy\u{ad}phenation", &[4, 8]),
-    ("a point stands behind a soft hyphen", "hyphen\u{ad}ation", &[2, 8]),
-    ("escape sequences are no letters", "hy\u{1b}[1mphenation", &[6, 10]),
-    ("an exception has its points whatever the patterns say", "table", &[1, 4]),
-    ("also in capital letters", "Table", &[1, 4]),
-    ("and without a point", "phenation", &[]),
-    ("an exception is the whole run", "tables", &[]),
-    ("at least so many letters stand before a point", "ab\u{e4}\u{df}", &[]),
-    ("\u{df} stays as it is", "ab\u{c4}\u{df}ebc", &[4, 6]),
-    ("a letter whose lower case is not one character stays as it is", "ab\u{130}ibc", &[4]),
-    ("patterns have apostrophes, in either form, but no point stands beside one", "abd\u{2019}abc", &[2]),
-    ("an apostrophe counts for no letter", "abd'a", &[]),
-    ("nor does a mark", "ab\u{e4}\u{df}e\u{301}", &[]),
-    ("an apostrophe at the end of a run is none", "'hyphenation'", &[3, 7]),
-    ("no point stands before a combining mark", "abe\u{301}abc", &[]),
-    ("an empty word has no points", "", &[]),
-];
-
-/// A word, and its points where soft hyphens are points. Each row has the rule that it shows.
-#[rattlefmt::skip]
-const SOFT: &[(&str, &str, &[usize])] = &[
-    ("a soft hyphen is a point", "hyphena\u{ad}tion", &[9]),
-    ("each is, whatever the minima", "h\u{ad}yphenatio\u{ad}n", &[3, 14]),
-    ("in a word with a hyphen too", "re-hyphen\u{ad}ation", &[11]),
-    ("a word without one has those of the patterns", "hyphenation", &[2, 6]),
-    ("so has one where it stands at an end", "\u{ad}hyphenation\u{ad}", &[4, 8]),
-    ("and one where no letter stands directly behind it", "hyphen\u{ad}\u{1b}[1mation", &[2, 12]),
-];
-
-/// A text that is read as a dictionary, a word, and its points by that. Each row has the rule that it
-/// shows.
-#[rattlefmt::skip]
-const TEXTS: &[(&str, &str, &str, &[usize])] = &[
-    ("a list has one pattern a line", "hy3ph\nhe2n\nhena4\nhen5at\n1na\nn2at\n1tio\n2io\no2n\n", "hyphenation", &[2, 6]),
-    ("2 letters stay before a point and 3 behind it", "a1b1c1d1e1f", "abcdef", &[2, 3]),
-    ("a word with a hyphen and no digit is an exception", "1b\nta-b-le", "table", &[2, 3]),
-    ("of exceptions with the same letters the first counts", "ta-ble\nno-table\ntab-le\nt-able", "table", &[2]),
-    ("in capital letters too", "tab-le\nTa-Ble", "table", &[3]),
-    ("each word behind \\hyphenation{ is one", "1b\n}\n \\hyphenation{\n# none\nab-cdb\nabcbdef", "abcbdef", &[]),
-    ("up to a line of }, also the first", "}\n1b\n\\hyphenation{\nab-cdb\n}\nabcbdef", "abcbdef", &[3]),
-    ("one with a digit is a pattern", "1b\nta-1ble", "table", &[2]),
-    ("blanks on the sides of a line are left out, and so is a carriage return", " 1b\t\r\n\r\n", "table", &[2]),
-    ("lines that begin with # or a percent sign are comments", "# a1b\n1b\n%a1ble\n #", "table", &[2]),
-    ("a dictionary of libhyphen begins with its charset", "UTF-8\n1\u{e4}", "ab\u{e4}bc", &[2]),
-    ("letters are folded as those of words are", "UTF-8\n1\u{c4}\n", "ab\u{e4}bcd", &[2]),
-    ("it says how many letters stay on both sides", "UTF-8\nLEFTHYPHENMIN 1\nRIGHTHYPHENMIN 10\na1b\nb1c", "abcdefghijkl", &[1, 2]),
-    ("the last number counts", "LEFTHYPHENMIN 1\nRIGHTHYPHENMIN1\nLEFTHYPHENMIN\t2\na1b\nb1c\n", "abc", &[2]),
-    ("groups of TeX hold patterns and exceptions", "% title\n\\patterns{ % none\n1b 1d\n}\n\\hyphenation{\nta-ble\n}", "abdef", &[2]),
-    ("both count", "\\patterns{1b\t1l}\n\\hyphenation{ ta-ble no-table}", "notable", &[2]),
-    ("an exception of TeX may have no hyphen", "\\patterns{1b}\n\\hyphenation{table}", "table", &[]),
-    ("a word of a group of patterns is a pattern", "\\patterns{1b\nta-ble}", "table", &[2]),
-    ("what stands outside of groups is skipped", "\\message{1l}\n\\lefthyphenmin=1\n\\patterns{1b}1l\n1l", "table", &[2]),
-    ("groups may stand behind others", "\\bgroup\\patterns{1b}\n\\patterns{1d}\n\\egroup", "abcdef", &[3]),
-    ("2 letters stay behind a point where the first line is a charset", "UTF-8\na1b1c1d1e1f", "abcdef", &[2, 3, 4]),
-    ("in any case and form", "utf_8\na1b1c1d1e1f", "abcdef", &[2, 3, 4]),
-    ("whatever a text of UTF-8 names", "ISO-8859-16\n\u{e4}1\u{df}", "ab\u{e4}\u{df}ab", &[4]),
-    ("a name in another line is a pattern", "%\u{e4}\n\\patterns{utf8a1b}", "utf8ab", &[]),
-    ("a byte order mark is left out", "\u{feff}a1b1c1d", "abcd", &[]),
-    ("and no part of the charset", "\u{feff}UTF-8\na1b1c1d", "abcd", &[2]),
-    ("nor of TeX", "\u{feff}\\patterns{b1c}", "abcde", &[2]),
-    ("a header says how many letters stay", "% hyphenmins:\n%   typesetting:\n%     left:  1 # or 2\n%     right: 1\n% texlive:\n%     right: 3\n\\patterns{1b1c1d}", "abcd", &[1, 2, 3]),
-    ("below typesetting alone", "% left: 1\n%  generation:\n%   right: 1\n\\patterns{1b1c1d}", "abcdef", &[2, 3]),
-    ("and no other line between", "% typesetting:\n%\n%   left: 1\n\\patterns{1b1c1d}", "abcdef", &[2, 3]),
-    ("numbers for compounds say nothing of words", "UTF-8\nCOMPOUNDLEFTHYPHENMIN 5\nCOMPOUNDRIGHTHYPHENMIN 5\na1b1c1d", "abcd", &[2]),
-    ("there is no point beside an apostrophe in any case", "NOHYPHEN ',\u{2019}, -\nb1c'1d", "abc'dab", &[2]),
-    ("patterns before a second group join compounds", "UTF-8\ns1a\nNEXTLEVEL\nu1s", "haususabend", &[3, 5, 6]),
-    ("those of the second are of the parts, each between dots", "UTF-8\ns1a\nNEXTLEVEL\nu1s\nsu1s.\n.a1b\n.h1a", "haususabend", &[3, 5, 6, 7]),
-    ("no pattern is of two parts", "UTF-8\ns1a\nNEXTLEVEL\nusa1b\nusab2e\nb1e", "hausabend", &[4, 6]),
-    ("enough letters stand between a joint and a point", "UTF-8\nCOMPOUNDLEFTHYPHENMIN 3\nCOMPOUNDRIGHTHYPHENMIN 2\ns1a\nNEXTLEVEL\na1u1s\na1b1e", "hausabend", &[2, 4]),
-    ("but in the word as many as ever", "UTF-8\nCOMPOUNDLEFTHYPHENMIN 3\nCOMPOUNDRIGHTHYPHENMIN 2\ns1a\nNEXTLEVEL\nh1a1u\ne1n1d", "hausabend", &[2, 4, 7]),
-    ("also before the first joint and behind the last", "UTF-8\nh1a1u1s1a\nNEXTLEVEL\nb1c", "hausa", &[2, 3]),
-    ("a part may have one letter", "UTF-8\na1a1a1a\nNEXTLEVEL\na1b", "aaabaaaab", &[3, 5, 6, 7]),
-    ("an apostrophe may join", "UTF-8\n1'1\n1\u{2019}1\nNEXTLEVEL\n.a1b\nb1c", "ll'abcd", &[4, 5]),
-    ("an exception is one of the whole", "UTF-8\ns1a\nhau-sabend\nNEXTLEVEL\nb1e", "hausabend", &[3]),
-    ("a second group may stand behind none", "NEXTLEVEL\nb1c", "abcdef", &[2]),
-    ("no point is where letters would change", "UTF-8\nc1k/k=k\nu1c", "zucker", &[2]),
-    ("nor by other patterns of that level", "UTF-8\nc1k\nc1k/k=k", "zucker", &[]),
-    ("but by greater ones", "UTF-8\nc1k/k=k\nc3k", "zucker", &[3]),
-    ("from which letter on, and how many change", "UTF-8\na1bb1c1d/bb=,2,2", "abbcdef", &[4]),
-    ("what stands behind a third comma says nothing", "UTF-8\na1bb1c1d/bb=,2,2,14", "abbcdef", &[4]),
-    ("a dot counts for none", "UTF-8\nLEFTHYPHENMIN 1\n.a1bb1c1d/bb=,3,1", "abbcdef", &[1, 4]),
-    ("in TeX too", "\\patterns{c1k/k=k\nc2k u1c}", "zucker", &[2]),
-];
-
-/// Bytes that are read as a dictionary, a word, and its points by that. Each row has the rule that it
-/// shows.
-#[rattlefmt::skip]
-const BYTES: &[(&str, &[u8], &str, &[usize])] = &[
-    ("UTF-8 is read as a text", b"ISO8859-1\n\xc3\xa41\xc3\x9f", "ab\u{e4}\u{df}ab", &[4]),
-    ("ISO 8859-1", b"ISO8859-1\n\xe41\xdf", "ab\u{e4}\u{df}ab", &[4]),
-    ("ISO 8859-2, with a carriage return", b"ISO8859-2\r\n\xb31\xbf\r\n", "ab\u{142}\u{17c}ab", &[4]),
-    ("ISO 8859-4", b"iso-8859-4\n\xb31\xf3", "ab\u{157}\u{137}ab", &[4]),
-    ("ISO 8859-5", b"ISO8859-5\n\xd01\xef", "ab\u{430}\u{44f}ab", &[4]),
-    ("ISO 8859-7", b"ISO8859-7\n\xe11\xfe", "ab\u{3b1}\u{3ce}ab", &[4]),
-    ("ISO 8859-13", b"ISO8859-13\n\xe01\xfe", "ab\u{105}\u{17e}ab", &[4]),
-    ("ISO 8859-15", b"ISO8859-15\n\xa81\xb8", "ab\u{161}\u{17e}ab", &[4]),
-    ("KOI8-R", b"KOI8-R\n\xc11\xd1", "ab\u{430}\u{44f}ab", &[4]),
-    ("KOI8-U", b"KOI8-U\n\xa61\xad", "ab\u{456}\u{491}ab", &[4]),
-    ("CP1251", b"microsoft-cp1251\n\xe01\xb4", "ab\u{430}\u{491}ab", &[4]),
-    ("and by its other names", b"Windows-1251\n\xe01\xff", "ab\u{430}\u{44f}ab", &[4]),
-];
-
-/// Bytes that are no dictionary, their first line that is wrong, and what is wrong there.
-#[rattlefmt::skip]
-const WRONG_BYTES: &[(&[u8], usize, Fault)] = &[
-    (b"a1\xe4", 1, Fault::Charset),
-    (b"UTF-8\n1\xe4", 1, Fault::Charset),
-    (b"ISCII-DEVANAGARI\n1\xe4", 1, Fault::Charset),
-    (b"ISO8859-1", 1, Fault::Empty),
-    (b"ISO8859-1\n\n\xe4 1b", 3, Fault::Sign),
-    (b"ISO8859-1\n\x9b1b", 2, Fault::Sign),
-    (b"ISO8859-7\na1b\n\xae1b", 3, Fault::Sign),
-];
-
 /// Patterns in no order, so that memory is needed to sort them.
 const UNORDERED: &str = "\\patterns{ m1a z1a c1a y1a b1a x1a e1a w1a d1a v1a g1a u1a f1a t1a i1a\n\
      s1a h1a r1a k1a q1a j1a p1a l1a o1a n1a a1a }\n\\hyphenation{ ta-ble\tno-table }";
@@ -166,64 +42,6 @@ const READ: &[((&str, &str, &str, &[usize]), usize)] = &[
     (("a charset", "iso 8859-1\nhe2n\nb1c", "abcd", &[2]), 36),
     (("letters that change", "a1bb1c1d/bb=,2,2", "abbcdefg", &[4]), 38),
     (("two groups", "UTF-8\nb1c\nNEXTLEVEL\nc1d\nb2c", "abcdef", &[2, 3]), 54),
-];
-
-/// A text that is no dictionary, its first line that is wrong, and what is wrong there.
-#[rattlefmt::skip]
-const FAULTS: &[(&str, usize, Fault)] = &[
-    ("", 1, Fault::Empty),
-    ("UTF-8", 1, Fault::Empty),
-    ("KOI8-R\n\n# a1b\n", 3, Fault::Empty),
-    ("%\n\\patterns{\n}\n", 3, Fault::Empty),
-    ("% the patterns\n\\input hyph-no.tex\n\\hyphenation{ta-ble}", 2, Fault::Input),
-    ("\\hyphenation{ta-ble}\n\\input{hyph-no}", 2, Fault::Input),
-    ("UTF-8\nFIRSTLEVEL\na1b", 2, Fault::Word),
-    ("UTF-8\na1b\nCOMPOUNDLEFTHYPHENMIN", 3, Fault::Number),
-    ("UTF-8\nCOMPOUNDRIGHTHYPHENMIN two\na/b", 2, Fault::Number),
-    ("UTF-8\na1b\nNEXTLEVEL\nb1c\nNEXTLEVEL\nb1d", 5, Fault::NextLevel),
-    ("UTF-8\na1b\nNEXTLEVEL\n", 3, Fault::Empty),
-    ("UTF-8\n\nNOHYPHEN ',-,a", 3, Fault::NoHyphen),
-    ("% typesetting:\n%   left: none\n\\patterns{a1b}", 2, Fault::Number),
-    ("% typesetting:\n%   left: 1\n", 2, Fault::NoGroup),
-    ("UTF-8\nLEFTHYPHENMIN", 2, Fault::Number),
-    ("LEFTHYPHENMIN 100", 1, Fault::Number),
-    ("RIGHTHYPHENMIN two", 1, Fault::Number),
-    ("UTF-8\nc1k/kk", 2, Fault::Replacement),
-    ("c1k/k=k,1", 1, Fault::Replacement),
-    ("c1k/k=k,1,100", 1, Fault::Replacement),
-    ("c1k/k=k,1,,1", 1, Fault::Replacement),
-    ("ta-ble/t=b", 1, Fault::Replacement),
-    ("\\patterns{1b}\n\\hyphenation{c1k/k=k}", 2, Fault::Replacement),
-    ("c1k/k = k", 1, Fault::Sign),
-    ("a1b c1d", 1, Fault::Sign),
-    ("a1b\na1b % why", 2, Fault::Sign),
-    ("\\patterns{\\'e1b}", 1, Fault::Sign),
-    ("\\patterns{a1b}\\hyphenation{ta-ble}", 1, Fault::Sign),
-    ("-table", 1, Fault::Hyphens),
-    ("ta--ble", 1, Fault::Hyphens),
-    ("1b\n\\hyphenation{\nta1ble-", 3, Fault::Hyphens),
-    ("1b\n\\hyphenation{\nc1k/k=k", 3, Fault::Replacement),
-    ("1b\n\\hyphenation{\ntable}", 3, Fault::Sign),
-    ("%\n\\patterns{}\n\\hyphenation{\ntable-\n}", 4, Fault::Hyphens),
-    ("% a\n\\patterns\n{a1b}", 2, Fault::Brace),
-    ("% hy3ph\n", 1, Fault::NoGroup),
-    ("% hy3ph\n\n", 2, Fault::NoGroup),
-    ("\\patterns{\na1b", 2, Fault::Unclosed),
-    ("\\patterns{a1b}\n\\hyphenation{", 2, Fault::Unclosed),
-];
-
-/// Patterns, a word, and its points by them, with at least 2 letters before a point and 3 behind it.
-/// Each row has the rule that it shows.
-#[rattlefmt::skip]
-const SAME_LETTERS: &[(&str, &[&str], &str, &[usize])] = &[
-    ("patterns stand in any order", &["o2n", "2io", "1tio", "n2at", "1na", "hen5at", "hena4", "he2n", "hy3ph"], "hyphenation", &[2, 6]),
-    ("and as often as one likes", &["1bl", "2le", "1bl", "1bl"], "tablets", &[2]),
-    ("of two with the same letters the greater level counts", &["1bl", "2bl"], "tablets", &[]),
-    ("wherever it stands", &["2bl", "1bl"], "tablets", &[]),
-    ("of three too", &["2bl", "3bl", "1bl"], "tablets", &[2]),
-    ("at each place by itself", &["1b2l", "2b1l"], "tablets", &[]),
-    ("so a place may have that of the one and a place that of the other", &["1b2l", "2b3l"], "tablets", &[3]),
-    ("a pattern that begins as another one is another one", &["1bl", "2ble", "1b1le"], "tablets", &[3]),
 ];
 
 /// The letters of the patterns that are counted.
@@ -286,50 +104,6 @@ fn has_points<A: Allocator + Copy, B: Allocator + Copy>(
     wanted: &[usize],
 ) -> Found {
     Ok(points(alloc, word, &patterns.table())?.as_slice() == wanted)
-}
-
-#[test]
-fn words_have_their_points(rt: HostRuntime) -> Result<(), AllocError> {
-    let patterns = dictionary(rt.alloc())?;
-    for (rule, word, wanted) in WORDS {
-        assert_found(&rt, rule, has_points(rt.alloc(), word, &patterns, wanted));
-    }
-    Ok(())
-}
-
-/// Whether a word has these points where soft hyphens are points.
-fn has_soft_points(alloc: Global, word: &str, patterns: &Patterns, wanted: &[usize]) -> Found {
-    let table = patterns.table().soft_hyphens(true);
-    Ok(points(alloc, word, &table)?.as_slice() == wanted)
-}
-
-#[test]
-fn soft_hyphens_are_points_if_asked(rt: HostRuntime) -> Result<(), AllocError> {
-    let patterns = dictionary(rt.alloc())?;
-    for (rule, word, wanted) in SOFT {
-        let found = has_soft_points(rt.alloc(), word, &patterns, wanted);
-        assert_found(&rt, rule, found);
-    }
-    Ok(())
-}
-
-#[test]
-fn no_patterns_give_no_points(rt: HostRuntime) -> Result<(), AllocError> {
-    let alloc = rt.alloc();
-    let patterns = Patterns::new(alloc, Vec::new(alloc), Vec::new(alloc), 2, 3)?;
-    let found = has_points(alloc, "hyphenation", &patterns, &[]);
-    assert_found(&rt, "there are no patterns", found);
-    Ok(())
-}
-
-#[test]
-fn parts_are_hyphenated_if_asked(rt: HostRuntime) -> Result<(), AllocError> {
-    let alloc = rt.alloc();
-    let patterns = dictionary(alloc)?.in_parts(true);
-    let rule = "the parts of a word with a hyphen are asked for";
-    let found = has_points(alloc, "hyphenation-hyphenation", &patterns, &[2, 6, 14, 18]);
-    assert_found(&rt, rule, found);
-    Ok(())
 }
 
 /// Whether the letters of a word are looked up so often.
@@ -438,38 +212,11 @@ fn each_allocation_of_a_dictionary_may_be_refused(rt: HostRuntime) {
 }
 
 #[test]
-fn dictionaries_are_read(rt: HostRuntime) {
-    for (rule, text, word, wanted) in TEXTS {
-        assert_found(&rt, rule, has_points_by(rt.alloc(), text, word, wanted));
-    }
-}
-
-#[test]
 fn patterns_that_change_letters_are_counted(rt: HostRuntime) -> Result<(), ParseError> {
     let text = "1b\nc1k/k=k\nNEXTLEVEL\nd1d/d=d,1,2\nb1d";
     let patterns = Patterns::parse(rt.alloc(), text)?;
     assert_count(&rt, "in both groups", patterns.table().changed(), 2);
     Ok(())
-}
-
-/// Whether a word has these points by the dictionary that bytes say.
-fn has_points_in(alloc: Global, bytes: &[u8], word: &str, wanted: &[usize]) -> FoundByText {
-    let patterns = Patterns::parse_bytes(alloc, bytes)?;
-    Ok(has_points(alloc, word, &patterns, wanted)?)
-}
-
-#[test]
-fn dictionaries_are_read_in_their_charset(rt: HostRuntime) {
-    for (rule, bytes, word, wanted) in BYTES {
-        assert_found(&rt, rule, has_points_in(rt.alloc(), bytes, word, wanted));
-    }
-    for (bytes, line, fault) in WRONG_BYTES {
-        let refused = match Patterns::parse_bytes(rt.alloc(), bytes) {
-            Err(error) => is_for(&error, *line, *fault),
-            Ok(_) => false,
-        };
-        assert_holds(&rt, "bytes that are no dictionary", refused);
-    }
 }
 
 /// Whether a dictionary is refused for this fault of this line.
@@ -488,13 +235,6 @@ fn is_refused(alloc: Global, text: &str, line: usize, fault: Fault) -> bool {
     match Patterns::parse(alloc, text) {
         Err(error) => is_for(&error, line, fault),
         Ok(_) => false,
-    }
-}
-
-#[test]
-fn the_first_line_that_is_wrong_is_named(rt: HostRuntime) {
-    for (text, line, fault) in FAULTS {
-        assert_holds(&rt, text, is_refused(rt.alloc(), text, *line, *fault));
     }
 }
 
@@ -539,36 +279,6 @@ fn listed(alloc: Global, texts: &[&str]) -> Result<Patterns, AllocError> {
     let mut patterns = Vec::new(alloc);
     push_patterns(alloc, &mut patterns, texts)?;
     Patterns::new(alloc, patterns, Vec::new(alloc), 2, 3)
-}
-
-/// Whether a word has these points by some patterns.
-fn has_points_listed(alloc: Global, texts: &[&str], word: &str, wanted: &[usize]) -> Found {
-    let patterns = listed(alloc, texts)?;
-    has_points(alloc, word, &patterns, wanted)
-}
-
-/// The patterns, one a line.
-fn lines_of(alloc: Global, texts: &[&str]) -> Result<String, AllocError> {
-    let mut lines = String::new(alloc);
-    for text in texts {
-        lines.push_str(text)?;
-        lines.push('\n')?;
-    }
-    Ok(lines)
-}
-
-/// Whether it has them where the patterns are read.
-fn has_points_read(alloc: Global, texts: &[&str], word: &str, wanted: &[usize]) -> FoundByText {
-    has_points_by(alloc, &lines_of(alloc, texts)?, word, wanted)
-}
-
-#[test]
-fn the_greatest_levels_count(rt: HostRuntime) {
-    let alloc = rt.alloc();
-    for (rule, texts, word, wanted) in SAME_LETTERS {
-        assert_found(&rt, rule, has_points_listed(alloc, texts, word, wanted));
-        assert_found(&rt, rule, has_points_read(alloc, texts, word, wanted));
-    }
 }
 
 /// The word of this number, with something before its last letter and behind it.

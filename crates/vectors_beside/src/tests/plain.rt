@@ -5,7 +5,7 @@ use std::alloc::{AllocError, Allocator, Global};
 use std::borrow::CowStr;
 use std::process::Abort;
 use textwrap::{Options, WrapAlgorithm, WrapError, wrap};
-use textwrap_display::{carry_styles, fill_justified, shorten_lines};
+use textwrap_display::{carry_styles, fill_justified};
 
 /// Options with this width, these indents and this algorithm, and else as by default.
 pub fn plain_options<'a>(
@@ -47,17 +47,6 @@ pub fn plain_fill_justified<A: Allocator + Copy>(
     fill_justified(alloc, text, options)
 }
 
-/// `shorten_lines`.
-pub fn plain_shorten_lines<'l, A: Allocator + Copy>(
-    alloc: A,
-    lines: &'l [CowStr<'_, A>],
-    most: usize,
-    width: usize,
-    placeholder: &str,
-) -> Result<Vec<CowStr<'l, A>, A>, AllocError> {
-    shorten_lines(alloc, lines, most, width, placeholder)
-}
-
 /// Asserts what a test has found to hold.
 pub fn assert_holds(rt: &impl Abort, rule: &str, holds: bool) {
     assert!(rt; holds, "{rule}");
@@ -95,30 +84,6 @@ pub fn assert_gives_texts(
 ) {
     let given = given.expect(rt, rule);
     assert!(rt; are_texts(&given, wanted), "{rule}: {given:?}");
-}
-
-/// Asserts that a line became this text: a line that changed is one of its own, and a line that
-/// stays is not copied.
-pub fn assert_line(rt: &impl Abort, rule: &str, line: &str, found: &CowStr<'_>, wanted: &str) {
-    assert_text(rt, rule, found.as_str(), wanted);
-    let is_kept = matches!(found, CowStr::Borrowed(_));
-    assert_holds(rt, rule, is_kept == (line == wanted));
-}
-
-/// Asserts the same of each of some lines, and that there are no others.
-pub fn assert_lines(
-    rt: &impl Abort,
-    rule: &str,
-    lines: &[CowStr<'_>],
-    found: &[CowStr<'_>],
-    wanted: &[&str],
-) {
-    assert_count(rt, rule, found.len(), wanted.len());
-    for (i, found) in found.iter().enumerate() {
-        if let (Some(line), Some(wanted)) = (lines.get(i), wanted.get(i)) {
-            assert_line(rt, rule, line.as_str(), found, wanted);
-        }
-    }
 }
 
 /// Whether texts of their own are these.

@@ -237,11 +237,13 @@ const AT_6: TextwrapOptions<'_> = TextwrapOptions {
 const FILLED: &[TextRow<'_>] = &[
     ((TextCall::Fill(AT_11), b"the hyphenation"), (DONE, 17, b"the hyphen-\nation__")),
     ((TextCall::Fill(AT_6), b"hyphenation"), (DONE, 15, b"hy-\nphen-\nation__")),
-    ((TextCall::Fill(TextwrapOptions { dictionary: FAR, ..AT_6 }), b"hyphenation"), (DONE, 13, b"hyphen-\nation__")),
+    ((TextCall::Fill(TextwrapOptions { dictionary: FAR, width: 7, ..AT_6 }), b"hyphenation"), (DONE, 13, b"hyphen-\nation__")),
+    // A part whose hyphen has no room is broken.
+    ((TextCall::Fill(TextwrapOptions { dictionary: FAR, ..AT_6 }), b"hyphenation"), (DONE, 12, b"hyphe\nnation__")),
     ((TextCall::Fill(AT_11), b"the re-hyphenation"), (DONE, 19, b"the re-\nhyphenation__")),
     ((TextCall::Fill(TextwrapOptions { dictionary: IN_PARTS, ..AT_6 }), b"re-hyphenation"), (DONE, 18, b"re-hy-\nphen-\nation__")),
     // At blanks this is one word.
-    ((TextCall::Fill(AT_6), b"\xe4\xbd\xa0\xe5\xa5\xbdhyphenation"), (DONE, 21, b"\xe4\xbd\xa0\xe5\xa5\xbdhy-\nphen-\nation__")),
+    ((TextCall::Fill(TextwrapOptions { width: 7, ..AT_6 }), b"\xe4\xbd\xa0\xe5\xa5\xbdhyphenation"), (DONE, 21, b"\xe4\xbd\xa0\xe5\xa5\xbdhy-\nphen-\nation__")),
     ((TextCall::Fill(AT_BREAKS), b"\xe4\xbd\xa0\xe5\xa5\xbdhyphenation"), (DONE, 22, b"\xe4\xbd\xa0\xe5\xa5\xbd\nhy-\nphen-\nation__")),
     // By pairs no line ends between `%` and `(`; by the expression it may, as no digit stands there.
     ((TextCall::Fill(AT_BREAKS), b"ab%(cdef)"), (DONE, 10, b"ab%(cd\nef)__")),

@@ -1,6 +1,6 @@
 use Rattle.textwrap_layout.proofs.pieces.break_pieces.Goals as goal
 use Rattle.textwrap_text.proofs.Common.{cond, ◌++◌, map, sym, ◌∙◌, ◌∷◌, ◌≡◌, [], ap}
-use Rattle.textwrap_layout.proofs.Common.{frame_settings, broken_words, front_pieces, later_width}
+use Rattle.textwrap_layout.proofs.Common.{fitting_pieces, frame_settings, front_pieces}
 use Rattle.textwrap_layout.proofs.Common.{empty_word, word_view}
 use Rattle.textwrap_layout.proofs.Paragraph.Pieces.{word_of-nil}
 
@@ -11,9 +11,8 @@ pub returns : goal.returns
 returns g c =
     let settings = frame_settings c.args.frame.now in
     let split = map word_view c.args.split.items in
-    let pieces = broken_words (later_width settings) split in
-    let broken : map word_view c.in_ok-broken.broken.items ≡ pieces =
-    c.in_ok-broken.ensures ∙ ap (λ n. broken_words n split) c.args.frame.now.later in
+    let pieces = fitting_pieces settings split in
+    let broken : map word_view c.in_ok-broken.broken.items ≡ pieces = c.in_ok-broken.ensures in
     let whole : map word_view c.if-not-is_empty.broken.items ≡ front_pieces settings ++ pieces =
     elim c.if-not-is_empty.branch [
       | goal.then-not-is_empty+in_ok-insert w ↦

@@ -7,7 +7,8 @@ use Rattle.textwrap_lines.proofs.Common.{Bool, length, MaySplit, nat_lt, rules, 
 use Rattle.textwrap_lines.proofs.Common.{[], ap, List, refl, ◌++◌, ◌∙◌}
 use Rattle.textwrap_layout.proofs.Common.{MayOverflow}
 use Rattle.textwrap_words.proofs.Word.Divisions.{MayDivide-greedy}
-use Rattle.textwrap_layout.proofs.Paragraph.Widths.{appends-none, appends-own, long_lines}
+use Rattle.textwrap_layout.proofs.Paragraph.Widths.{appends-none, appends-own, close-plain}
+use Rattle.textwrap_layout.proofs.Paragraph.Widths.{long_lines}
 use Rattle.textwrap_text.proofs.Numbers.{not_empty}
 use Rattle.textwrap_words.proofs.Word.Parts.{MaySeparate-texts, MaySplit-cuts, MaySplit-hyphens}
 
@@ -52,9 +53,11 @@ returns-clause-overlong g c =
       (pieces, are, divided),
       added ∙ ap (λ ps. map line_view c.args.lines.now.items ++ map line_from ps) is,
       long_lines settings (MaySeparate options.word_separator) (MaySplit options.word_splitter)
-          (MaySeparate-texts options.word_separator) (MaySplit-cuts options.word_splitter)
-          (MaySplit-hyphens options.word_splitter built_in) is_later c.args.line.now division
-          c.utf8.line breaks (pieces, are, greedy),
+          breaks
+          (close-plain settings (MaySeparate options.word_separator) (MaySplit options.word_splitter)
+          breaks (MaySeparate-texts options.word_separator) (MaySplit-cuts options.word_splitter)
+          (MaySplit-hyphens options.word_splitter built_in)) is_later c.args.line.now division
+          c.utf8.line (pieces, are, greedy),
     )
 
 pub returns-in_err-push_divided-clause-no_overflow : goal.returns-in_err-push_divided-clause-no_overflow

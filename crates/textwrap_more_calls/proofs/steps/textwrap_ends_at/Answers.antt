@@ -2,11 +2,12 @@ use Rattle.textwrap_more_calls.proofs.steps.textwrap_ends_at.Goals as goal
 use Rattle.std.specs.Prelude.{IsSomeAnd}
 use Rattle.textwrap_base.proofs.{Common.total_width, Cost.Measures.total_width-same}
 use Rattle.textwrap_calls.proofs.Common.{List, says_yes, sizes_of, widths_of, word_view, WordText}
-use Rattle.textwrap_calls.proofs.Common.{[], ap, map, sym, ℕ, ◌∙◌, ◌∷◌, ◌≡◌}
-use Rattle.textwrap_calls.proofs.Common.{options_algorithm, pieces_at, options_settings}
+use Rattle.textwrap_calls.proofs.Common.{[], ap, false, map, sym, ℕ, ◌∙◌, ◌∷◌, ◌≡◌}
+use Rattle.textwrap_calls.proofs.Common.{options_algorithm, pieces_at, step_settings}
 use Rattle.textwrap_calls.proofs.Common.{settings_view, subst}
 use Rattle.textwrap_layout.proofs.Paragraph.Widths.{sizes-word_view}
-use Rattle.textwrap_layout.proofs.{Common.{first_width, layout_view}, Paragraph.Pieces.division-as}
+use Rattle.textwrap_layout.proofs.{Common.{Settings, first_width, layout_view}, Paragraph.Pieces.division-as}
+use Rattle.textwrap_layout.specs.declared.layout.Layout.{Layout}
 use Rattle.textwrap_more_calls.proofs.Common.{ends_of, WritesText-answer}
 use Rattle.textwrap_more_calls.proofs.EndLemmas.{ends_from-map, OverflowsBy-map}
 use Rattle.textwrap_more_calls.proofs.steps.textwrap_ends_at.Goals.{After-wrap}
@@ -16,25 +17,27 @@ use Rattle.textwrap_words.{proofs.Word.Divisions.MayDivide-map, specs.WrapAlgori
 
 -- the pieces and the widths by the numbers of C, and the widths as they were found
 abbrev all : After-wrap → List WordText
-all c = pieces_at (options_settings c.args.options.now) c.args.cuts.now c.args.points.now c.args.paragraph.now
+all c = pieces_at (step_settings c.args.options.now) c.args.cuts.now c.args.points.now c.args.paragraph.now
 
 abbrev widths : After-wrap → List ℕ
-widths c = widths_of (options_settings c.args.options.now) (says_yes c.args.is_later)
+widths c = widths_of (step_settings c.args.options.now) (says_yes c.args.is_later)
 
 abbrev found : After-wrap → List ℕ
 found c = c.line_widths-first_width.result.0 ∷ c.line_widths-first_width.result.1 ∷ []
 
 settings-are : (c : After-wrap) → settings_view c.with_layout-layout.result
-    ≡ options_settings c.args.options.now
+    ≡ step_settings c.args.options.now
 settings-are c =
-    c.with_layout-layout.ensures ∙ ap layout_view c.layout.ensures ∙ c.in-Ok.ensures.read.settings
+    c.with_layout-layout.ensures
+    ∙ ap (λ (l : Layout). record (layout_view l) { room_for_hyphens = false }) c.layout.ensures
+    ∙ ap (λ (s : Settings). record s { room_for_hyphens = false }) c.in-Ok.ensures.read.settings
 
 pieces-are : (c : After-wrap) → map word_view c.deref.result.now ≡ all c
 pieces-are c =
     ap (map word_view) c.deref.ensures.value ∙ c.in-Ok-find_pieces.ensures.pieces
     ∙ ap (λ s. pieces_at s c.args.cuts.now c.args.points.now c.in-Ok-from_utf8.paragraph.now)
     (settings-are c)
-    ∙ ap (pieces_at (options_settings c.args.options.now) c.args.cuts.now c.args.points.now)
+    ∙ ap (pieces_at (step_settings c.args.options.now) c.args.cuts.now c.args.points.now)
     c.in-Ok-from_utf8.ensures.0
 
 widths-are : (c : After-wrap) → found c ≡ widths c

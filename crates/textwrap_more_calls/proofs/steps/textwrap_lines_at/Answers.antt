@@ -1,6 +1,6 @@
 use Rattle.textwrap_more_calls.proofs.steps.textwrap_lines_at.Goals as goal
 use Rattle.textwrap_calls.proofs.Common.{AreEnds, lines_of, List, refl, says_yes, subst, Tiles}
-use Rattle.textwrap_calls.proofs.Common.{ArePlacesOf, parts_from, pieces_at, Settings, options_settings}
+use Rattle.textwrap_calls.proofs.Common.{ArePlacesOf, parts_from, pieces_at, Settings, step_settings}
 use Rattle.textwrap_calls.proofs.Common.{[], ℕ}
 use Rattle.textwrap_calls.proofs.Common.{further-cut_lines, HasPlaces, lines_between, settings_view}
 use Rattle.textwrap_more_calls.{proofs.Common.WritesLines-reported, specs.Steps.AreLineSteps}
@@ -8,7 +8,7 @@ use Rattle.textwrap_more_calls.{proofs.StepLemmas.steps-shown, specs.Steps.step_
 
 pub returns-in-Ok-push_step_lines-clause-lines : goal.returns-in-Ok-push_step_lines-clause-lines
 returns-in-Ok-push_step_lines-clause-lines c =
-    let settings = options_settings c.args.options.now in
+    let settings = step_settings c.args.options.now in
     let read = settings_view c.in-Ok.options in
     let text = c.in-Ok-from_utf8.paragraph.now in
     let cuts = c.args.cuts.now in

@@ -1,6 +1,6 @@
 use Rattle.textwrap_more_calls.proofs.text_steps.textwrap_fill_at.Goals as goal
 use Rattle.textwrap_calls.proofs.Common.{[], ap, Line, lines_of, List, ◌∙◌}
-use Rattle.textwrap_calls.proofs.Common.{append-nil, options_settings, settings_view, ShowLines, subst}
+use Rattle.textwrap_calls.proofs.Common.{append-nil, step_settings, settings_view, ShowLines, subst}
 use Rattle.textwrap_more_calls.proofs.Common.{text_step_cuts, WritesText-answer}
 use Rattle.textwrap_more_calls.proofs.text_steps.textwrap_fill_at.Goals.{After-as_bytes}
 use Rattle.textwrap_more_calls.specs.TextSteps.{filled_at}
@@ -25,5 +25,5 @@ returns-in-Ok-join_lines-clause-filled c =
     WritesText-answer (c.deref.ensures.value ∙ c.in-Ok-join_lines.ensures (lines here) (shown here)
     ∙ ap (λ s. filled_at s c.args.steps.now c.in-Ok-from_utf8.text.now)
     c.in-Ok.ensures.read
-    ∙ ap (filled_at (options_settings c.args.options.now) c.args.steps.now) c.in-Ok-from_utf8.ensures.0)
+    ∙ ap (filled_at (step_settings c.args.options.now) c.args.steps.now) c.in-Ok-from_utf8.ensures.0)
     c.put.ensures.text

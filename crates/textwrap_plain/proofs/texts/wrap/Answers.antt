@@ -1,11 +1,13 @@
 use Rattle.textwrap_plain.proofs.texts.wrap.Goals as goal
 use Rattle.std.{proofs.lemmas.Result.IfOk-weaker, specs.Prelude.IfOk}
-use Rattle.textwrap_layout.proofs.Common.{AreTextLines, line_view}
+use Rattle.textwrap_layout.proofs.Common.{AreTextLines, later_width, line_view}
 use Rattle.textwrap_plain.proofs.Words.{AddOnlyHyphens-at, ArePrintedWithin-at, AreTheText-at}
 use Rattle.textwrap_plain.proofs.Words.{IsWrapped-at, LinesKeepButHyphens-at, LinesKeepToWidth-at}
 use Rattle.textwrap_plain.proofs.texts.wrap.Goals.{After-wrap_by}
-use Rattle.textwrap_plain.specs.Options.{DividesPlainly, plain_algorithm, plain_settings}
-use Rattle.textwrap_text.proofs.Common.{map}
+use Rattle.textwrap_plain.specs.Options.{DividesPlainly, HasRoomForHyphen, plain_algorithm}
+use Rattle.textwrap_plain.specs.{Options.plain_settings, Options.plain_splitter}
+use Rattle.textwrap_plain.specs.declared.options.PlainOptions.{PlainOptions}
+use Rattle.textwrap_text.proofs.Common.{None, arith, map, refl, ◌<◌, ◌≡◌}
 
 lines : (c : After-wrap_by) → IfOk c.wrap_by.result (λ lines.
     AreTextLines (plain_settings c.args.options.now)
@@ -15,6 +17,10 @@ lines c =
     let o = c.parts.ensures in
     rw (c.layout.ensures, o.words, o.splitter, o.algorithm) at c.wrap_by.ensures.lines
 
+later-room : (o : PlainOptions) → HasRoomForHyphen o → plain_splitter o ≡ None
+    → 0 < later_width (plain_settings o)
+later-room o room dictionary = omega (arith, room dictionary)
+
 pub returns-clause-lines : goal.returns-clause-lines
 returns-clause-lines c =
     let o = c.args.options.now in
@@ -22,17 +28,18 @@ returns-clause-lines c =
     IsWrapped-at o.word_separator c.utf8.text o.word_splitter) (lines c)
 
 pub returns-clause-even : goal.returns-clause-even
-returns-clause-even c = λ built_in even first breaks.
+returns-clause-even c = λ room even first breaks.
     let o = c.args.options.now in
     IfOk-weaker c.wrap_by.result _ _ (λ found.
-    LinesKeepToWidth-at o.word_separator c.utf8.text first o.word_splitter built_in even breaks)
-    (lines c)
+    LinesKeepToWidth-at o.word_separator c.utf8.text first o.word_splitter refl (later-room o room) even
+    breaks) (lines c)
 
 pub returns-clause-printed : goal.returns-clause-printed
-returns-clause-printed c = λ built_in first can.
+returns-clause-printed c = λ room first can.
     let o = c.args.options.now in
     IfOk-weaker c.wrap_by.result _ _ (λ found.
-    ArePrintedWithin-at o.word_separator c.utf8.text first o.word_splitter built_in can) (lines c)
+    ArePrintedWithin-at o.word_separator c.utf8.text first o.word_splitter refl (later-room o room) can)
+    (lines c)
 
 pub returns-clause-hyphens : goal.returns-clause-hyphens
 returns-clause-hyphens c = λ dictionary.

@@ -1,6 +1,6 @@
 //! Texts in the columns of a table.
-use super::super::plain::{assert_count, assert_gives_texts, assert_holds, assert_text};
-use Alignment::{Centre, Left, Right};
+use super::super::plain::{assert_count, assert_gives_texts, assert_text};
+use Alignment::{Left, Right};
 use std::alloc::{Allocator, Global};
 use std::process::Abort;
 use textwrap::{Options, WrapAlgorithm, WrapError};
@@ -12,25 +12,6 @@ const BARS: Gaps<'static> = Gaps {
     middle: "|",
     right: "|",
 };
-
-/// The rule, the widths and alignments of the columns, the texts, and the rows between bars.
-#[rattlefmt::skip]
-const TABLES: &[(&str, &[(usize, Alignment)], &[&str], &[&str])] = &[
-    ("a line stands in its column as that says", &[(4, Left), (4, Right), (5, Centre)], &["ab", "cd", "ef"], &["|ab  |  cd| ef  |"]),
-    ("numbers stand at the right", &[(7, Left), (6, Right)], &["apples", "12", "pears", "1,204", "figs", "7"],
-        &["|apples |    12|", "|pears  | 1,204|", "|figs   |     7|"]),
-    ("a row of cells is as high as its left one", &[(5, Left), (4, Left)], &["one two three", "four"], &["|one  |four|", "|two  |    |", "|three|    |"]),
-    ("or as its right one", &[(4, Left), (5, Right)], &["four", "one two three"], &["|four|  one|", "|    |  two|", "|    |three|"]),
-    ("or as one between others", &[(1, Left), (3, Centre), (1, Left)], &["a", "one two", "b", "c", "d", "e"], &["|a|one|b|", "| |two| |", "|c| d |e|"]),
-    ("a cell that is missing has no lines", &[(2, Left), (2, Right), (3, Centre)], &["a", "b", "c", "d e"], &["|a | b| c |", "|d |  |   |", "|e |  |   |"]),
-    ("an empty text has one empty line", &[(3, Left), (3, Right)], &["", "", "one two", ""], &["|   |   |", "|one|   |", "|two|   |"]),
-    ("each paragraph of a text begins a line", &[(4, Left), (4, Left)], &["a\nb", "c"], &["|a   |c   |", "|b   |    |"]),
-    ("wide characters take two columns", &[(5, Left), (5, Right), (6, Centre)], &["日本語", "日本", "日"], &["|日本 | 日本|  日  |", "|語   |     |      |"]),
-    ("escape sequences take none", &[(4, Right)], &["\x1b[1mab\x1b[m"], &["|  \x1b[1mab\x1b[m|"]),
-    ("a character that is wider than its column is not cut", &[(1, Left), (0, Right)], &["あ", "ab"], &["|あ|a|", "| |b|"]),
-    ("no texts have no rows", &[(3, Left)], &[], &[]),
-    ("nor have no columns", &[], &["a", "b"], &[]),
-];
 
 /// The rows of the texts in columns of these widths and alignments, by first fit.
 fn rows_of<A: Allocator + Copy>(
@@ -55,41 +36,6 @@ fn plain_table<A: Allocator + Copy>(
     gaps: &Gaps<'_>,
 ) -> Result<Vec<String<A>, A>, WrapError> {
     table(alloc, texts, columns, gaps)
-}
-
-#[test]
-fn texts_stand_in_their_columns(rt: HostRuntime) {
-    for &(rule, shapes, texts, wanted) in TABLES {
-        assert_gives_texts(&rt, rule, rows_of(rt.alloc(), shapes, texts, &BARS), wanted);
-    }
-}
-
-const HELP_GAPS: Gaps<'static> = Gaps {
-    left: "  ",
-    middle: "  ",
-    right: "",
-};
-
-const HELP_SHAPES: &[(usize, Alignment)] = &[(13, Left), (24, Left)];
-
-/// The flags of a program and what they mean.
-#[rattlefmt::skip]
-const HELP: &[&str] = &[
-    "-h, --help", "Print this help and exit.", "-w, --width N",
-    "Wrap at N columns, where the default is that of the terminal.", "-q", "Say nothing.",
-];
-
-#[rattlefmt::skip]
-const HELP_ROWS: &[&str] = &[
-    "  -h, --help     Print this help and     ", "                 exit.                   ",
-    "  -w, --width N  Wrap at N columns, where", "                 the default is that of  ",
-    "                 the terminal.           ", "  -q             Say nothing.            ",
-];
-
-#[test]
-fn a_help_text_has_two_columns(rt: HostRuntime) {
-    let rows = rows_of(rt.alloc(), HELP_SHAPES, HELP, &HELP_GAPS);
-    assert_gives_texts(&rt, "help", rows, HELP_ROWS);
 }
 
 /// The rows of three texts in columns with options of their own.
@@ -164,28 +110,6 @@ fn many_columns_are_made(rt: HostRuntime) {
     let texts = vec![in rt.alloc(); "a"; 400].expect(&rt, "texts");
     let rows = rows_of(rt.alloc(), &shapes, &texts, &BARS);
     assert_gives_texts(&rt, "200 columns", rows, &[ROW_OF_200, ROW_OF_200]);
-}
-
-/// Columns that fit no memory, alone or together.
-const TOO_WIDE: &[[(usize, Alignment); 2]] = &[
-    [(1 << 63, Left), (1, Left)],
-    [(1, Left), (usize::MAX, Right)],
-    [(usize::MAX, Right), (usize::MAX, Centre)],
-    [(1 << 63, Centre), (1 << 63, Left)],
-];
-
-/// Whether a table of two texts is out of memory.
-fn is_refused(alloc: Global, shapes: &[(usize, Alignment)]) -> bool {
-    let refused = rows_of(alloc, shapes, &["a", "b"], &BARS);
-    matches!(refused, Err(WrapError::Memory(_)))
-}
-
-/// These are refused before a blank is written.
-#[test]
-fn limits_are_told(rt: HostRuntime) {
-    for shapes in TOO_WIDE {
-        assert_holds(&rt, "out of memory", is_refused(rt.alloc(), shapes));
-    }
 }
 
 const REFUSED_SHAPES: &[(usize, Alignment)] = &[(3, Left), (3, Right)];

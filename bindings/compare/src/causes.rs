@@ -11,7 +11,7 @@ pub enum Mend {
     /// The least cost is found in whole numbers, and of divisions that cost the same the one whose
     /// last line starts earliest is taken.
     WholeCosts,
-    /// With `even_paragraphs`, the first lines of later paragraphs have the width of the other
+    /// Where paragraphs are even, the first lines of later paragraphs have the width of the other
     /// lines.
     EvenParagraphs,
     /// `fill` joins the lines of `wrap` also where one line is the whole text.

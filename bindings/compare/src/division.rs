@@ -19,7 +19,7 @@ pub struct Rule {
     pub whole_costs: Option<Ties>,
     /// How many paragraphs are divided whose first line has a width of its own. All later ones have
     /// even lines.
-    pub uneven_paragraphs: usize,
+    pub own_first_lines: usize,
 }
 
 /// What was found out while words were divided.
@@ -67,7 +67,7 @@ fn rule() -> Rule {
 fn count_paragraph() {
     STATE.with_borrow_mut(|state| {
         if let Some(rule) = &mut state.rule {
-            rule.uneven_paragraphs = rule.uneven_paragraphs.saturating_sub(1);
+            rule.own_first_lines = rule.own_first_lines.saturating_sub(1);
         }
     });
 }
@@ -78,7 +78,7 @@ fn divide<'a, 'b>(words: &'b [Word<'a>], line_widths: &'b [usize]) -> Vec<&'b [W
     let &[first, later] = line_widths else {
         panic!("the original gives a first width and a later one, and not {line_widths:?}")
     };
-    let is_even = rule.uneven_paragraphs == 0;
+    let is_even = rule.own_first_lines == 0;
     let widths = if is_even { [later, later] } else { [first, later] };
     let lines = match (rule.algorithm, rule.whole_costs) {
         (Algorithm::InPairs, _) => in_pairs(words, &widths),

@@ -60,14 +60,14 @@ impl<'d> Original<'d> {
         // A paragraph that is kept whole is not divided, so the algorithm does not see it.
         let first = text.split(options.line_ending.as_str()).next().unwrap_or_default();
         let is_kept_whole = first.len() < options.width && options.initial_indent.is_empty();
-        let uneven_paragraphs = match (is_even, is_kept_whole) {
+        let own_first_lines = match (is_even, is_kept_whole) {
             (false, _) => usize::MAX,
             (true, false) => 1,
             (true, true) => 0,
         };
         let algorithm = self.drawn.algorithm;
         let whole_costs = whole_costs.then_some(self.ties);
-        options.wrap_algorithm(division::by(Rule { algorithm, whole_costs, uneven_paragraphs }))
+        options.wrap_algorithm(division::by(Rule { algorithm, whole_costs, own_first_lines }))
     }
 
     fn lines<'t>(&self, text: &'t str, options: Options<'_>) -> Vec<Cow<'t, str>> {

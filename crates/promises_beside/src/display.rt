@@ -1,5 +1,5 @@
 //! Lines for display.
-ghost use Rattle.std.specs.Prelude.{◌≡◌, ◌≢◌, ◌<◌, [], None, Some, false, map, string_bytes, IfOk};
+ghost use Rattle.std.specs.Prelude.{◌≡◌, ◌<◌, [], false, map, string_bytes, IfOk};
 ghost use Rattle.textwrap_plain.specs.Balance.{AreBalanced, IsBalanced};
 ghost use Rattle.textwrap_display.specs.Fitting.{fitting_widths};
 ghost use Rattle.textwrap_display.specs.JustifiedText.{IsJustifiedText};
@@ -9,12 +9,10 @@ ghost use Rattle.textwrap_display.specs.Shortening.{IsShortened, texts_of};
 ghost use Rattle.textwrap_display.specs.Styles.{carried_lines};
 ghost use Rattle.textwrap_display.specs.Tables.{AreTableRows, gaps_view, texts_in};
 ghost use Rattle.textwrap_display.specs.Tabs.{expanded};
-ghost use Rattle.textwrap_layout.specs.Options.{settings_view};
-ghost use Rattle.textwrap_layout.specs.Paragraph.{line_view, DividesBy};
+ghost use Rattle.textwrap_layout.specs.Options.{layout_view};
+ghost use Rattle.textwrap_layout.specs.Paragraph.{line_view, DividesWith};
+ghost use Rattle.textwrap_plain.specs.Options.{points_by};
 ghost use Rattle.textwrap_text.specs.Units.{text_width};
-ghost use Rattle.textwrap_words.specs.Words.{words_of};
-ghost use Rattle.textwrap_words.specs.WordSplitters.{Splitter, points_of, splitter_view};
-ghost use Rattle.textwrap_words.specs.declared.word_separators.WordSeparator.TheVariants.{AsciiSpace};
 
 use std::alloc::{AllocError, Global};
 use std::borrow::CowStr;
@@ -23,7 +21,11 @@ use textwrap_display::{
     Column, Gaps, Need, carry_styles, expand_tabs, fill_justified, fitting_widths, justify,
     needs_of, shorten, table,
 };
-use textwrap_plain::balancing::{balanced_width, wrap_balanced};
+use textwrap_layout::layout::Layout;
+use textwrap_layout::parts::Parts;
+use textwrap_layout::printable_cuts::PrintableCuts;
+use textwrap_plain::balancing::{Balance, balanced_width, wrap_balanced};
+use textwrap_plain::parts::PlainParts;
 
 /// As `justify`.
 pub fn justified_line<'t>(
@@ -38,11 +40,17 @@ pub fn justified_line<'t>(
 }
 
 /// As `fill_justified`.
-pub fn justified_text(alloc: Global, text: &str, options: Options<'_>) -> Result<String, WrapError>
-    ensures filled { IfOk result (λ filled. IsJustifiedText (settings_view options.entry)
-        (DividesBy options.entry) text.now (string_bytes filled)) }
+pub fn justified_text<P: Parts<Global>>(
+    alloc: Global,
+    text: &str,
+    layout: Layout<'_>,
+    parts: &P,
+) -> Result<String, WrapError>
+    ensures filled { IfOk result (λ filled. IsJustifiedText (layout_view layout.entry)
+        (DividesWith (P.may parts.now) (layout_view layout.entry)) text.now
+        (string_bytes filled)) }
 {
-    let filled = fill_justified(alloc, text, options)?;
+    let filled = fill_justified(alloc, text, layout, parts)?;
     Ok(filled)
 }
 
@@ -112,29 +120,31 @@ pub fn widths_by_content(
 }
 
 /// As `balanced_width`.
-pub fn width_of_balanced(alloc: Global, text: &str, options: &Options<'_>) -> usize
-    requires separator { options.now.word_separator ≡ AsciiSpace }
-    requires splitter { splitter_view options.now.word_splitter ≢ None }
-    ensures balanced { (splitter : Splitter) → splitter_view options.now.word_splitter ≡ Some splitter
-        → IsBalanced (settings_view options.now) words_of (points_of splitter) text.now result }
+pub fn width_of_balanced<W: PrintableCuts + Copy>(
+    alloc: Global,
+    text: &str,
+    layout: Layout<'_>,
+    parts: &PlainParts<'_, W>,
+) -> Result<Balance, WrapError>
+    ensures balanced { IfOk result (λ balance. IsBalanced (layout_view layout.entry)
+        (W.words parts.now.words) (points_by parts.now.splitter) text.now balance.width) }
 {
-    balanced_width(alloc, text, options)
+    let balance = balanced_width(alloc, text, layout, parts)?;
+    Ok(balance)
 }
 
 /// As `wrap_balanced`.
-pub fn balanced_lines<'t>(
+pub fn balanced_lines<'t, W: PrintableCuts + Copy>(
     alloc: Global,
     text: &'t str,
-    options: &Options<'_>,
+    layout: Layout<'_>,
+    parts: &PlainParts<'_, W>,
 ) -> Result<Vec<CowStr<'t>>, WrapError>
-    requires separator { options.now.word_separator ≡ AsciiSpace }
-    requires splitter { splitter_view options.now.word_splitter ≢ None }
-    ensures lines { IfOk result (λ lines. (splitter : Splitter)
-        → splitter_view options.now.word_splitter ≡ Some splitter → AreBalanced
-        (settings_view options.now) words_of (points_of splitter) text.now
+    ensures lines { IfOk result (λ lines. AreBalanced (layout_view layout.entry)
+        (W.words parts.now.words) (points_by parts.now.splitter) text.now
         (map line_view lines.items)) }
 {
-    let lines = wrap_balanced(alloc, text, options)?;
+    let lines = wrap_balanced(alloc, text, layout, parts)?;
     Ok(lines)
 }
 

@@ -17,10 +17,9 @@ use crate::status::{DONE, NOT_UTF8, OUT_OF_MEMORY, UNKNOWN_OPTIONS};
 use crate::texts::{TextwrapText, are_utf8, lines_of};
 use simdutf8::basic::from_utf8;
 use std::alloc::{AllocError, Global};
-use textwrap::inner::{Table, table_rows};
+use textwrap::inner::{Table, table_rows, wrap_columns_by};
 use textwrap_display::Gaps;
 use textwrap_lines::placed::PlacedLines;
-use textwrap_plain::wrap_columns;
 
 /// What stands around the cells of a row, in UTF-8.
 #[repr(C)]
@@ -76,7 +75,9 @@ pub fn textwrap_wrap_columns(
     ) else {
         return NOT_UTF8;
     };
-    let Ok(found) = wrap_columns(alloc, text, columns, &options, left, middle, right) else {
+    let (layout, parts) = (options.layout(), options.parts(alloc));
+    let Ok(found) = wrap_columns_by(alloc, text, columns, layout, &parts, left, middle, right)
+    else {
         return OUT_OF_MEMORY;
     };
     let Ok(placed) = place_rows(alloc, found) else {

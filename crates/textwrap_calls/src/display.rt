@@ -16,8 +16,9 @@ use crate::room::put;
 use crate::status::{NOT_UTF8, OUT_OF_MEMORY, UNKNOWN_OPTIONS};
 use simdutf8::basic::from_utf8;
 use std::alloc::Global;
-use textwrap_display::{Alignment, Shortening, align, expand_tabs, justify, shorten, shorten_by};
-use textwrap_plain::fill_justified;
+use textwrap_display::{
+    Alignment, Shortening, align, expand_tabs, fill_justified, justify, shorten, shorten_by,
+};
 
 /// Writes the line with blanks up to the width, as `textwrap_fill` writes a filled text. The
 /// alignment is 0 for the left, 1 for the right and 2 for the middle; any other is
@@ -109,7 +110,7 @@ pub fn textwrap_fill_justified(
     let Ok(text) = from_utf8(text) else {
         return NOT_UTF8;
     };
-    match fill_justified(alloc, text, &options) {
+    match fill_justified(alloc, text, options.layout(), &options.parts(alloc)) {
         Ok(filled) => put(filled.as_bytes(), room, len),
         Err(_) => OUT_OF_MEMORY,
     }

@@ -92,20 +92,23 @@ pub fn read_options<'a>(given: &TextwrapOptions<'a>) -> Result<PlainOptions<'a>,
         return Err(NOT_UTF8);
     };
     Ok(PlainOptions {
-        width: given.width,
-        line_ending: if given.crlf == 0 {
-            LineEnding::LF
-        } else {
-            LineEnding::CRLF
+        layout: Layout {
+            width: given.width,
+            line_ending: if given.crlf == 0 {
+                LineEnding::LF
+            } else {
+                LineEnding::CRLF
+            },
+            initial_indent,
+            subsequent_indent,
+            break_words: given.break_words != 0,
+            preserve_trailing_space: given.preserve_trailing_space != 0,
+            even_paragraphs: given.even_paragraphs != 0,
+            room_for_hyphens: false,
         },
-        initial_indent,
-        subsequent_indent,
-        break_words: given.break_words != 0,
         word_separator: read_separator(given),
         word_splitter: read_splitter(given),
         wrap_algorithm: read_algorithm(given),
-        preserve_trailing_space: given.preserve_trailing_space != 0,
-        even_paragraphs: given.even_paragraphs != 0,
     })
 }
 

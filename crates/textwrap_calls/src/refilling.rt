@@ -16,9 +16,8 @@ use crate::room::{put, report};
 use crate::status::{DONE, NOT_UTF8, OUT_OF_MEMORY};
 use simdutf8::basic::from_utf8;
 use std::alloc::Global;
-use textwrap::inner::unfill_into;
+use textwrap::inner::{refill_by, unfill_into};
 use textwrap::{LineEnding, Options};
-use textwrap_plain::refill;
 
 /// Fills a filled text again, with the indents that it has, and writes it as `textwrap_fill` does.
 /// The indents of the options are not used.
@@ -97,7 +96,7 @@ fn refill_text(
         Ok(options) => options,
         Err(status) => return status,
     };
-    match refill(alloc, text, &options) {
+    match refill_by(alloc, text, options.layout(), &options.parts(alloc)) {
         Ok(refilled) => put(refilled.as_bytes(), room, len),
         Err(_) => OUT_OF_MEMORY,
     }

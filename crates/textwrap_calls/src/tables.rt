@@ -20,9 +20,9 @@ use simdutf8::basic::from_utf8;
 use std::alloc::{AllocError, Global};
 use std::borrow::CowStr;
 use textwrap::{Options, WrapError};
-use textwrap_display::{Column, Gaps, table_of_lines};
+use textwrap_display::{Column, Gaps, table, table_of_lines};
 use textwrap_lines::placed::PlacedLines;
-use textwrap_plain::{PlainColumn, table};
+use textwrap_plain::PlainColumn;
 
 /// A column of a table.
 #[repr(C)]

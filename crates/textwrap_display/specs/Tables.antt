@@ -10,7 +10,7 @@ use Rattle.std.specs.declared.borrow.CowStr.{CowStr}
 use Rattle.textwrap.specs.Rows.{row_text}
 use Rattle.textwrap_layout.specs.Options.{HasParts, Settings, settings_view}
 use Rattle.textwrap_layout.specs.Paragraph.{DividesAs, DividesBy, Line, line_bytes}
-use Rattle.textwrap_layout.specs.Text.{AreTextLines, SomeMayPass64Bits}
+use Rattle.textwrap_layout.specs.Text.{AreTextLines}
 use Rattle.textwrap_words.specs.WordSplitters.{Splitter}
 use Rattle.textwrap_words.specs.WrapAlgorithms.{Algorithm}
 use Rattle.textwrap_display.specs.Alignment.{aligned}
@@ -116,11 +116,6 @@ AreTableRows = IsTableBy ColumnMakes shape_of
 -- no text passes in its column, where a relation says which may
 abbrev pub NonePasses : {X : Type 0} → (X → List ℕ → Type 0) → List X → List (List ℕ) → Type 0
 NonePasses MayPass columns texts = All (λ p. ¬ MayPass p.0 p.1) (zip columns texts)
-
--- no text may have, in its column, a paragraph whose pieces pass 64 bits together
-abbrev pub AllFit64Bits : {E C : Type 0} {e : _} {c : _} → List (Column E C e c) → List (List ℕ)
-    → Type 0
-AllFit64Bits = NonePasses (λ column. SomeMayPass64Bits column.options)
 
 -- ---- the same by built-in parts
 

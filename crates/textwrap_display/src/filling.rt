@@ -4,58 +4,37 @@ ghost use Rattle.std.specs.Prelude.{if◌then◌else◌, IfOk, OnOk};
 ghost use Rattle.textwrap_display.specs.JustifiedText.{IsJustifiedText, joined_on};
 ghost use Rattle.textwrap_display.specs.JustifiedText.{justified_after, justified_after_indents};
 ghost use Rattle.textwrap_text.specs.LineEnding.{ending_bytes};
-ghost use Rattle.textwrap_layout.specs.Options.{Settings, layout_view, settings_view, HasParts};
-ghost use Rattle.textwrap_layout.specs.Options.{MayOverflow};
-ghost use Rattle.textwrap_layout.specs.Paragraph.{line_view, DividesAs, DividesBy, DividesWith};
+ghost use Rattle.textwrap_layout.specs.Options.{layout_view};
+ghost use Rattle.textwrap_layout.specs.Paragraph.{line_view, DividesWith};
 ghost use Rattle.textwrap_layout.specs.Paragraph.{MayPass64BitsWith};
-ghost use Rattle.textwrap_layout.specs.Text.{HasParagraphThat, SomeMayPass64Bits};
-ghost use Rattle.textwrap_words.specs.WordSplitters.{Splitter};
-ghost use Rattle.textwrap_words.specs.WrapAlgorithms.{Algorithm};
+ghost use Rattle.textwrap_layout.specs.Text.{HasParagraphThat};
 ghost use Rattle.textwrap_base.specs.Errors.{OnlyMemoryRunsOut};
 
 use crate::justifying::push_justified;
 use std::alloc::{AllocError, Allocator};
 use std::borrow::CowStr;
 use textwrap::words::display_width;
-use textwrap::{LineEnding, Options, WrapError};
+use textwrap::{LineEnding, WrapError};
 use textwrap_layout::layout::{Layout, next_indent};
 use textwrap_layout::parts::Parts;
 use textwrap_lines::inner::wrap_paragraph;
 use textwrap_lines::parts::split_paragraph;
 use textwrap_styles::inner::indent_end;
 
-/// The text that [`fill`](textwrap::fill) gives, with its lines justified to the width of the
-/// options, as [`justify`](crate::justify) does: all but the last of each paragraph. The gaps of an
-/// indent stay as they are.
+/// The text that [`fill`](textwrap::fill) gives by this layout and these parts, with its lines justified
+/// to the width of the layout, as [`justify`](crate::justify) does: all but the last of each paragraph.
+/// The gaps of an indent stay as they are.
 ///
-/// At 10 columns `"one two three four"` becomes `"one    two"`, a line feed and `"three four"`.
+/// ```rust
+/// let options = Options::new(10);
+/// let filled = fill_justified(alloc, "one two three four", Layout::of(&options), &options)?;
+/// ```
 ///
-/// # Errors
-/// Those of [`wrap`](textwrap::wrap).
-pub fn fill_justified<A: Allocator + Copy>(
-    alloc: A,
-    text: &str,
-    options: Options<'_>,
-) -> Result<String<A>, WrapError>
-    ensures filled { IfOk result (λ filled. IsJustifiedText (settings_view options.entry)
-        (DividesBy options.entry) text.now (string_bytes filled)) }
-    // The same text, where all parts are built in and can be named.
-    ensures built_in { IfOk result (λ filled.
-        (settings : Settings) (splitter : Splitter) (algorithm : Algorithm)
-        → HasParts options.entry settings splitter algorithm → IsJustifiedText settings
-        (DividesAs splitter algorithm settings) text.now (string_bytes filled)) }
-    ensures only_memory { ¬ MayOverflow options.entry → OnlyMemoryRunsOut result }
-    // Overflow needs a paragraph whose pieces are together wider than 64 bits can say.
-    ensures no_overflow { ¬ SomeMayPass64Bits options.entry text.now → OnlyMemoryRunsOut result }
-{
-    fill_justified_by(alloc, text, Layout::of(&options), &options)
-}
-
-/// The same by this layout and any parts.
+/// The text is `"one    two"`, a line feed and `"three four"`.
 ///
 /// # Errors
 /// Those of [`wrap`](textwrap::wrap).
-pub fn fill_justified_by<A: Allocator + Copy, P: Parts<A>>(
+pub fn fill_justified<A: Allocator + Copy, P: Parts<A>>(
     alloc: A,
     text: &str,
     layout: Layout<'_>,

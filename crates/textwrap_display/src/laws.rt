@@ -5,6 +5,14 @@
 //! `aligned_lines_are_as_wide();`.
 #![tactic(auto, using(crate::proofs::ProvedLaws::laws))]
 
+ghost use Rattle.std.specs.Prelude.{ℕ, List};
+ghost use Rattle.textwrap_display.specs.JustifiedText.{IsJustifiedText};
+ghost use Rattle.textwrap_display.specs.Tables.{AreTableRows, ColumnParts, HaveParts, IsTableOf};
+ghost use Rattle.textwrap_display.specs.Tables.{RowGaps};
+ghost use Rattle.textwrap_layout.specs.Options.{HasParts, Settings, settings_view};
+ghost use Rattle.textwrap_layout.specs.Paragraph.{DividesAs, DividesBy};
+ghost use Rattle.textwrap_words.specs.WordSplitters.{Splitter};
+ghost use Rattle.textwrap_words.specs.WrapAlgorithms.{Algorithm};
 ghost use Rattle.textwrap_display.specs.Laws.{AlignedLinesAreAsWide, AlignedLinesKeepPens};
 ghost use Rattle.textwrap_display.specs.Laws.{ExpandedTextsStay, TableRowsKeepPens};
 ghost use Rattle.textwrap_display.specs.Laws.{FittingWidthsAddUp, FittingWidthsHoldLines};
@@ -18,6 +26,8 @@ ghost use Rattle.textwrap_display.specs.Laws.{ShortenedLinesKeepPens, ShortenedL
 ghost use Rattle.textwrap_display.specs.Laws.{TableRowsAreEven, TablesShowEachLineOnce};
 ghost use Rattle.textwrap_display.specs.Laws.{TabsCutTexts, TabsReachStops, TextsWithoutTabsStay};
 
+use crate::tables::Column;
+use textwrap::Options;
 pub use textwrap_styles::laws::{
     carried_lines_are_as_wide, carried_lines_are_short, carried_lines_end_plain,
     carried_lines_keep_pens, carried_lines_show_their_text, ends_are_known, numbers_are_known,
@@ -160,4 +170,19 @@ pub fn tabs_cut_texts()
 /// Each line is expanded as if it stood alone.
 pub fn lines_are_expanded_apart()
     ensures { LinesAreExpandedApart }
+{}
+
+/// By options whose parts are built in and can be named, a justified text is what these parts say.
+pub fn justified_texts_have_named_parts(options: &Options<'_>)
+    ensures { (settings : Settings) (splitter : Splitter) (algorithm : Algorithm)
+        → HasParts options.now settings splitter algorithm → (text filled : List ℕ)
+        → IsJustifiedText (settings_view options.now) (DividesBy options.now) text filled
+        → IsJustifiedText settings (DividesAs splitter algorithm settings) text filled }
+{}
+
+/// And so is a table whose columns have such options.
+pub fn tables_have_named_parts(columns: &[Column<'_>])
+    ensures { (parts : List ColumnParts) → HaveParts columns.now parts
+        → (gaps : RowGaps) (texts rows : List (List ℕ)) → AreTableRows columns.now gaps texts rows
+        → IsTableOf parts gaps texts rows }
 {}

@@ -1,13 +1,10 @@
 //! Texts in the columns of a table.
 ghost use Rattle.std.specs.Prelude.{◌≡◌, List, [], ◌++◌, All, length, map};
 ghost use Rattle.std.specs.Prelude.{slice_index_or, string_bytes, IfOk, OnOk};
-ghost use Rattle.textwrap_display.specs.Tables.{NonePasses, AllFit64Bits, AreCells, ColumnParts};
-ghost use Rattle.textwrap_display.specs.Tables.{HaveParts, groups_of};
-ghost use Rattle.textwrap_display.specs.Tables.{AreTableRows, IsTableBy, IsTableOf, cell_line};
+ghost use Rattle.textwrap_display.specs.Tables.{NonePasses, AreCells, IsTableBy, cell_line, groups_of};
 ghost use Rattle.textwrap_display.specs.Tables.{cell_texts};
 ghost use Rattle.textwrap_display.specs.Tables.{gaps_view, group_rows, height};
 ghost use Rattle.textwrap_display.specs.Tables.{rows_of_cells, shape_of, texts_in};
-ghost use Rattle.textwrap_layout.specs.Options.{MayOverflow};
 ghost use Rattle.textwrap_base.specs.Errors.{OnlyMemoryRunsOut};
 
 use crate::alignment::{Alignment, aligned_cell};
@@ -127,32 +124,7 @@ type Cell<'t, A> = Vec<CowStr<'t, A>, A>;
 /// # Errors
 /// Those of `wrap`. A row that is longer than 64 bits can say is out of memory too, and is refused
 /// before any of it is written.
-pub fn table<A: Allocator + Copy>(
-    alloc: A,
-    cells: &[&str],
-    columns: &[Column<'_>],
-    gaps: &Gaps<'_>,
-) -> Result<Vec<String<A>, A>, WrapError>
-    ensures rows { IfOk result (λ rows.
-        AreTableRows columns.now (gaps_view gaps.now) (texts_in cells.now)
-        (map string_bytes rows.items)) }
-    // The same rows, where all parts are built in and can be named.
-    ensures built_in { IfOk result (λ rows. (parts : List ColumnParts) → HaveParts columns.now parts
-        → IsTableOf parts (gaps_view gaps.now) (texts_in cells.now) (map string_bytes rows.items)) }
-    ensures only_memory { All (λ column. ¬ MayOverflow column.options) columns.now
-        → OnlyMemoryRunsOut result }
-    // Overflow needs a text with a paragraph whose pieces are together wider than 64 bits can say.
-    ensures no_overflow { All (AllFit64Bits columns.now) (groups_of (length columns.now) (texts_in cells.now))
-        → OnlyMemoryRunsOut result }
-{
-    table_by(alloc, cells, columns, gaps)
-}
-
-/// The same by any columns.
-///
-/// # Errors
-/// Those of [`table`].
-pub fn table_by<A: Allocator + Copy, C: AnyColumn<A>>(
+pub fn table<A: Allocator + Copy, C: AnyColumn<A>>(
     alloc: A,
     cells: &[&str],
     columns: &[C],

@@ -7,7 +7,7 @@ use crate::options::Options;
 use textwrap_text::line_ending::LineEnding;
 
 /// The options but for the algorithm, the separator and the splitter. It holds no function.
-#[derive(Clone, Copy)]
+#[derive(Clone, Copy, Debug)]
 pub struct Layout<'a> {
     /// The columns of a line, with its indent.
     pub width: usize,
@@ -27,6 +27,17 @@ pub struct Layout<'a> {
     /// Whether a piece behind which a hyphen may be printed is broken so that the hyphen has room, too.
     /// [`Options`] do not ask for it: there such a line passes its width by the hyphen.
     pub room_for_hyphens: bool,
+}
+
+impl Layout<'static> {
+    ghost use Rattle.textwrap_layout.specs.Options.{settings_at};
+
+    /// That of [`Options`] at a width in columns, and else as by default.
+    pub fn new(width: usize) -> Layout<'static>
+        ensures { layout_view result ≡ settings_at width }
+    {
+        Layout::of(&Options::new(width))
+    }
 }
 
 impl<'a> Layout<'a> {

@@ -1,8 +1,7 @@
 //! Filling: a wrapped text as one text.
-ghost use Rattle.std.specs.Prelude.{◌≡◌, ℕ, List, length, map, string_bytes};
-ghost use Rattle.std.specs.Prelude.{IfOk, IsOk};
+ghost use Rattle.std.specs.Prelude.{◌≡◌, map, string_bytes};
+ghost use Rattle.std.specs.Prelude.{IfOk};
 ghost use Rattle.textwrap_layout.specs.Paragraph.{DividesWith, MayPass64BitsWith};
-ghost use Rattle.textwrap_text.specs.LentText.{as_len, written_over};
 ghost use Rattle.textwrap_text.specs.LineEnding.{ending_bytes, join_with};
 ghost use Rattle.textwrap_layout.specs.Options.{Settings, settings_view, HasParts, MayOverflow};
 ghost use Rattle.textwrap_words.specs.WordSplitters.{Splitter};
@@ -13,14 +12,13 @@ ghost use Rattle.textwrap_layout.specs.Options.{layout_view};
 ghost use Rattle.textwrap_layout.specs.Text.{HasParagraphThat, SomeMayPass64Bits};
 ghost use Rattle.textwrap_base.specs.Errors.{OnlyMemoryRunsOut};
 
-use crate::wrapping::push_text;
+use crate::wrapping::{fill_to, push_text};
 use std::alloc::{AllocError, Allocator};
 use std::borrow::CowStr;
 use textwrap_layout::layout::Layout;
-use textwrap_layout::line_sinks::{JoinedLines, LentLines, ListedLines};
+use textwrap_layout::line_sinks::{JoinedLines, ListedLines};
 use textwrap_layout::options::Options;
 use textwrap_layout::parts::Parts;
-use textwrap_text::lent_text::LentText;
 use textwrap_text::line_ending::LineEnding;
 use textwrap_words::wrap_algorithms::WrapError;
 
@@ -72,42 +70,8 @@ pub fn fill_by<A: Allocator + Copy, P: Parts<A>>(
         line_ending: layout.line_ending,
         has_lines: false,
     };
-    push_text(alloc, text, layout, parts, parts.built_in(), &mut lines)?;
+    fill_to(alloc, text, layout, parts, &mut lines)?;
     Ok(lines.text)
-}
-
-/// Writes the text that [`fill`](crate::fill) makes into lent room, as much of it as there is room
-/// for, and returns how many bytes it has, or the greatest number if they are more. The rest of the
-/// room stays as it was. At 10 columns `foo bar baz` leaves `foo b` in room of 5 bytes, and 11 is
-/// returned.
-///
-/// # Errors
-/// Those of [`wrap`](crate::wrap).
-pub fn fill_into<A: Allocator + Copy, P: Parts<A>>(
-    alloc: A,
-    text: &str,
-    layout: Layout<'_>,
-    parts: &P,
-    room: &mut [u8],
-) -> Result<usize, WrapError>
-    ensures filled { IfOk result (λ len. (filled : List ℕ) × IsFilled (layout_view layout.entry)
-        (DividesWith (P.may parts.now) (layout_view layout.entry)) text.now filled
-        × (len ≡ as_len (length filled)) × (room.new ≡ written_over room.old filled)) }
-    // By first fit, words between blanks and a built-in splitter no memory is needed.
-    ensures done { P.is_direct parts.now → IsOk result }
-    ensures only_memory { ¬ P.may_overflow parts.now → OnlyMemoryRunsOut result }
-    ensures no_overflow { ¬ HasParagraphThat (MayPass64BitsWith (P.may parts.now)
-        (layout_view layout.entry)) (layout_view layout.entry).line_ending text.now
-        → OnlyMemoryRunsOut result }
-{
-    let mut filled = LentText::new(room);
-    let mut lines = LentLines {
-        text: &mut filled,
-        line_ending: layout.line_ending,
-        has_lines: false,
-    };
-    push_text(alloc, text, layout, parts, parts.built_in(), &mut lines)?;
-    Ok(filled.len())
 }
 
 /// The same text as [`fill`](crate::fill), always by lists of words, of pieces and of lines, but

@@ -6,10 +6,9 @@ ghost use Rattle.textwrap_words.specs.PiecesLeft.{standing_left};
 ghost use Rattle.textwrap_layout.specs.Options.{settings_view};
 ghost use Rattle.textwrap_layout.specs.Paragraph.{first_width, is_whole, later_width, pieces_of};
 
-pub use crate::filling::{fill_by, fill_into};
-pub use crate::placed::{place_into, place_lines_by};
+pub use crate::filling::fill_by;
 use crate::wrapping;
-pub use crate::wrapping::{wrap_by, wrap_paragraph};
+pub use crate::wrapping::{fill_to, wrap_by, wrap_paragraph};
 use textwrap_layout::frame::Frame;
 use textwrap_layout::layout::{Layout, next_indent};
 use textwrap_layout::options::Options;

@@ -127,12 +127,37 @@ pub fn wrap_by<'t, A: Allocator + Copy, P: Parts<A>>(
 {
     let mut list = Vec::new(alloc);
     let mut lines = ListedLines { lines: &mut list };
-    push_text(alloc, text, layout, parts, parts.built_in(), &mut lines)?;
+    fill_to(alloc, text, layout, parts, &mut lines)?;
     Ok(list)
 }
 
-/// Pushes the lines of a text to what has taken none: by lists of words and pieces, where no parts are
-/// given.
+/// Hands the lines that [`wrap_by`] returns, one after another, to what takes lines and has taken none.
+///
+/// # Errors
+/// Those of [`wrap`], and out of memory where it has none for a line.
+pub fn fill_to<'t, A: Allocator + Copy, S: LineSink<'t, A>, P: Parts<A>>(
+    alloc: A,
+    text: &'t str,
+    layout: Layout<'_>,
+    parts: &P,
+    lines: &mut S,
+) -> Result<(), WrapError>
+    requires none { S.holds lines.now lines.now 0 [] }
+    ensures name { S.name lines.new ≡ S.name lines.old }
+    // By first fit, words between blanks and a built-in splitter no memory is needed.
+    ensures done { S.never_fails → P.is_direct parts.now → IsOk result }
+    ensures lines { OnOk result ((taken : List CutLine) × AreCutLines (layout_view layout.entry)
+        (DividesWith (P.may parts.now) (layout_view layout.entry)) text.now taken
+        × (end : ℕ) × S.holds lines.old lines.new end taken) }
+    ensures only_memory { ¬ P.may_overflow parts.now → OnlyMemoryRunsOut result }
+    ensures no_overflow { ¬ HasParagraphThat (MayPass64BitsWith (P.may parts.now)
+        (layout_view layout.entry)) (layout_view layout.entry).line_ending text.now
+        → OnlyMemoryRunsOut result }
+{
+    push_text(alloc, text, layout, parts, parts.built_in(), lines)
+}
+
+/// The same, by lists of words and pieces where no built-in parts are given.
 ///
 /// # Errors
 /// Those of [`wrap`].

@@ -1,6 +1,8 @@
 //! Balanced lines of a text, and the width that they have.
-ghost use Rattle.std.specs.Prelude.{◌≡◌, ◌≢◌, ◌≤◌, ◌⊎◌, false, true, List, length, IfErr, IfOk, IsUtf8};
+ghost use Rattle.std.specs.Prelude.{◌≡◌, ◌≢◌, ◌≤◌, ◌⊎◌, false, true, List, None, length, IfErr, IfOk, IsOk};
+ghost use Rattle.std.specs.Prelude.{IsUtf8};
 ghost use Rattle.textwrap.specs.Paragraph.{Line};
+ghost use Rattle.textwrap_base.specs.Errors.{OnlyMemoryRunsOut};
 ghost use Rattle.textwrap_calls.specs.Options.{AreKnown, AreTexts, TellsUnknown, TellsNotUtf8};
 ghost use Rattle.textwrap_calls.specs.Options.{have_dictionary};
 ghost use Rattle.textwrap_calls.specs.Status.{done, not_utf8, out_of_memory, too_small};
@@ -8,14 +10,19 @@ ghost use Rattle.textwrap_calls.specs.Status.{unknown_options};
 ghost use Rattle.textwrap_calls.specs.Wrapping.{WritesLongLines};
 ghost use Rattle.textwrap_more_calls.specs.Balancing.{AreBalancedBy, AreByFirstFit, IsBalancedBy};
 ghost use Rattle.textwrap_more_calls.specs.Balancing.{first_fit_at};
+ghost use Rattle.textwrap_plain.specs.Balance.{IsBalanced};
+ghost use Rattle.textwrap_plain.specs.Options.{plain_settings, plain_splitter, points_by, words_by};
+ghost use Rattle.textwrap_plain.specs.declared.options.PlainSeparator.TheVariants.{AtBlanks};
 
 use simdutf8::basic::from_utf8;
 use std::alloc::Global;
+use textwrap::WrapError;
 use textwrap_calls::options::{TextwrapOptions, read_options};
 use textwrap_calls::reported::TextwrapLine;
 use textwrap_calls::status::{DONE, NOT_UTF8, OUT_OF_MEMORY};
 use textwrap_calls::wrapping::textwrap_wrap_utf8;
-use textwrap_plain::balanced_width;
+use textwrap_plain::balancing::Balance;
+use textwrap_plain::{PlainOptions, PlainSeparator, balanced_width};
 
 /// Writes the balanced lines of a text as `textwrap_wrap` writes its lines: those of first fit at the
 /// width of `textwrap_balanced_width`. They are as many as by first fit at the width of the options. At
@@ -97,9 +104,28 @@ fn find_width(alloc: Global, text: &[u8], options: &TextwrapOptions<'_>) -> Resu
     let Ok(text) = from_utf8(text) else {
         return Err(NOT_UTF8);
     };
-    match balanced_width(alloc, text, &options) {
-        Ok(width) => Ok(width),
+    match find_balance(alloc, text, &options) {
+        Ok(balance) => Ok(balance.width),
         Err(_) => Err(OUT_OF_MEMORY),
+    }
+}
+
+/// The balanced width by the library's options. At blanks loops ask of no byte where words end.
+///
+/// # Errors
+/// [`WrapError::Memory`] where memory runs out.
+fn find_balance(alloc: Global, text: &str, options: &PlainOptions<'_>) -> Result<Balance, WrapError>
+    ensures balanced { IfOk result (λ balance. IsBalanced (plain_settings options.now)
+        (words_by options.now.word_separator) (points_by options.now.word_splitter) text.now
+        balance.width) }
+    ensures done { options.now.word_separator ≡ AtBlanks → plain_splitter options.now ≢ None
+        → IsOk result }
+    ensures only_memory { OnlyMemoryRunsOut result }
+{
+    let layout = options.layout();
+    match options.word_separator {
+        PlainSeparator::AtBlanks => balanced_width(alloc, text, layout, &options.direct_parts()),
+        PlainSeparator::AtBreaks(_) => balanced_width(alloc, text, layout, &options.parts(alloc)),
     }
 }
 

@@ -62,7 +62,7 @@ pub fn textwrap_paragraphs(
     let Ok(text) = from_utf8(text) else {
         return NOT_UTF8;
     };
-    match place_paragraphs(alloc, text, options.line_ending) {
+    match place_paragraphs(alloc, text, options.layout.line_ending) {
         Ok(found) => put(&found, paragraphs, count),
         Err(_) => OUT_OF_MEMORY,
     }

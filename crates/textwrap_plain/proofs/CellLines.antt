@@ -29,7 +29,8 @@ use Rattle.textwrap_lines.proofs.Common.{chars-IsAscii}
 use Rattle.textwrap_lines.proofs.PrintableTexts.Bytes.{printable-utf8}
 use Rattle.textwrap_text.proofs.Units.Reading.{printable-ascii}
 use Rattle.textwrap_words.specs.WordSplitters.{hyphen}
-use Rattle.textwrap_plain.proofs.Words.{close-at, hyphen-printable, hyphen-prints, lines-greedy}
+use Rattle.textwrap_plain.proofs.Pieces.{hyphen-printable, hyphen-prints}
+use Rattle.textwrap_plain.proofs.Words.{close-at, lines-greedy}
 use Rattle.textwrap_plain.proofs.Words.{pieces-at, texts-at}
 use Rattle.textwrap_plain.specs.CutSides.{points_by-cuts}
 use Rattle.textwrap_plain.specs.Laws.{CellsKeepToColumns, HasRoomBehind, MayKeepToColumn}
@@ -39,7 +40,7 @@ use Rattle.textwrap_plain.specs.Options.{port_splitter, words_by}
 use Rattle.textwrap_plain.specs.declared.options.PlainSplitter.{PlainSplitter}
 use Rattle.textwrap_plain.specs.declared.options.PlainSplitter.TheVariants.{BuiltIn, Dictionary}
 use Rattle.textwrap_plain.specs.Tables.{PlainMakes, plain_parts, plain_shape}
-use Rattle.textwrap_plain.specs.declared.display.PlainColumn.{PlainColumn}
+use Rattle.textwrap_plain.specs.declared.columns.PlainColumn.{PlainColumn}
 use Rattle.textwrap_styles.proofs.SequenceTexts.{nil-whole, whole_text-append}
 use Rattle.textwrap_styles.specs.Styled.{IsWholeText}
 use Rattle.textwrap_text.proofs.Common.{filter, nat_tests, sum_by-cons}
@@ -285,12 +286,12 @@ hyphen-mark w is =
 
 -- a cell's lines, where its column and its text are such
 cell-keeps : (column : PlainColumn) (text : List ℕ) (cell : List (List ℕ)) → MayKeepToColumn column text
-    → IsCell PlainMakes (plain_parts column, text) cell → All (Fits column.options.width) cell
+    → IsCell PlainMakes (plain_parts column, text) cell → All (Fits column.options.layout.width) cell
 cell-keeps column text cell may (lines, are, is) =
     let o = column.options in
     let Words : List ℕ → List WordText → Type 0 = λ line words. words ≡ words_by o.word_separator line in
     let Points : List ℕ → List ℕ → Type 0 = λ word points. points ≡ points_by o.word_splitter word in
-    subst (All (Fits o.width)) (sym is) (lines-fit (plain_settings o) (hyphen_columns o) text may.can
+    subst (All (Fits o.layout.width)) (sym is) (lines-fit (plain_settings o) (hyphen_columns o) text may.can
     may.initial may.subsequent Words Points (IsDividedBy (plain_algorithm o) sizes_of)
     (texts-at o.word_separator) (points_by-cuts o.word_splitter)
     (close-at o.word_separator (plain_settings o) o.word_splitter refl
@@ -299,9 +300,9 @@ cell-keeps column text cell may (lines, are, is) =
     (lines-greedy may.first_fit) lines may.utf8 may.escape are)
   where
     later-room : (splitter : PlainSplitter)
-        → text_width column.options.subsequent_indent.now + cond (is_dictionary splitter) 1 0
-        ≤ column.options.width → port_splitter splitter ≡ None
-        → 0 < column.options.width - text_width column.options.subsequent_indent.now
+        → text_width column.options.layout.subsequent_indent.now + cond (is_dictionary splitter) 1 0
+        ≤ column.options.layout.width → port_splitter splitter ≡ None
+        → 0 < column.options.layout.width - text_width column.options.layout.subsequent_indent.now
     later-room (BuiltIn splitter) fits none = cc
     later-room (Dictionary table) fits none = omega (arith, fits)
 

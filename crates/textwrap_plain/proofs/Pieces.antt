@@ -8,6 +8,10 @@ use Rattle.textwrap_layout.proofs.Common.{empty_word, fitting_pieces, front_piec
 use Rattle.textwrap_layout.proofs.{Common.room_of, Paragraph.Room.fitting-tight}
 use Rattle.textwrap_layout.proofs.Paragraph.Widths.{PiecesClose, close-room}
 use Rattle.textwrap_layout.proofs.Paragraph.Pieces.{AreWordsCut-texts, pieces-bounded, pieces-tile}
+use Rattle.textwrap_lines.proofs.Common.{IsPrintable, printable-width}
+use Rattle.textwrap_lines.proofs.Text.Printed.{PrintsPenalty}
+use Rattle.textwrap_text.specs.Units.{IsPrintableByte}
+use Rattle.textwrap_words.specs.WordSplitters.{hyphen}
 use Rattle.textwrap_plain.{proofs.Widths.pieces-wide, specs.Hyphenated.ArePointsBy}
 use Rattle.textwrap_plain.specs.{Options.points_by, declared.options.PlainSplitter.PlainSplitter}
 use Rattle.textwrap_plain.specs.declared.options.PlainSplitter.TheVariants.{BuiltIn, Dictionary}
@@ -38,6 +42,16 @@ broken_word-hyphens limit w has true =
     pieces_with-all HasHyphenAtMost (λ _. ⊤) w.whitespace w.penalty (λ _ _. inl refl) (λ _ _. has)
     (broken_texts limit w.word) (λ k d lt. tt)
 broken_word-hyphens limit w has false = All-cons HasHyphenAtMost w [] has (All-nil HasHyphenAtMost)
+
+-- ---- the hyphen behind a piece
+
+pub hyphen-printable : IsPrintable (hyphen ∷ [])
+hyphen-printable =
+    All-cons IsPrintableByte hyphen [] (omega arith, omega arith) (All-nil IsPrintableByte)
+
+-- a hyphen takes a column
+pub hyphen-prints : (w : WordText) → w.penalty ≡ hyphen ∷ [] → PrintsPenalty w
+hyphen-prints w is = rw is (printable-width (hyphen ∷ []) hyphen-printable)
 
 -- ---- the pieces of a paragraph
 

@@ -9,7 +9,7 @@ use Rattle.textwrap_layout.proofs.Paragraph.Widths.{PiecesClose, close-plain}
 use Rattle.textwrap_hyphens.proofs.SplitPieces.{HasHyphenAtMost}
 use Rattle.textwrap_lines.proofs.Text.Printed.{ArePrintedWithin-by, PrintsPenalty}
 use Rattle.textwrap_lines.proofs.Text.Promises.{IsWrapped-by, LinesKeepToWidth-by}
-use Rattle.textwrap_plain.proofs.Pieces.{hyphenated-close, hyphenated-hyphens}
+use Rattle.textwrap_plain.proofs.Pieces.{hyphen-prints, hyphenated-close, hyphenated-hyphens}
 use Rattle.textwrap_plain.proofs.Wrapping.{AddOnlyHyphens-by, LinesKeepButHyphens-by, hyphens-alone}
 use Rattle.textwrap_plain.specs.CutSides.{points_by-cuts, words_by-cut}
 use Rattle.textwrap_plain.specs.Hyphenated.{AddOnlyHyphens, AddsHyphenAtMost, AreTheText}
@@ -21,8 +21,6 @@ use Rattle.textwrap_plain.specs.declared.options.PlainSplitter.{PlainSplitter}
 use Rattle.textwrap_plain.specs.declared.options.PlainSplitter.TheVariants.{BuiltIn, Dictionary}
 use Rattle.textwrap_text.proofs.Common.{All, All-weaker, Bool, IsUtf8, List, None, Some, [], arith}
 use Rattle.textwrap_text.proofs.Common.{All-cons, All-nil, append-nil, false, ⊎_elim, ◌<◌, ◌∷◌}
-use Rattle.textwrap_lines.proofs.Common.{IsPrintable, printable-width}
-use Rattle.textwrap_text.specs.Units.{IsPrintableByte}
 use Rattle.textwrap_words.specs.WordSplitters.{hyphen}
 use Rattle.textwrap_text.proofs.Common.{refl, rules, subst, sym, take, true, ℕ, ◌≡◌, ◌≢◌}
 use Rattle.textwrap_text.proofs.Lists.Parts.{Begins, flat}
@@ -36,14 +34,6 @@ pub words_by-texts : (separator : PlainSeparator) (line : List ℕ) → IsUtf8 l
     → AreTexts line (words_by separator line)
 words_by-texts separator line utf8 =
     AreWordsCut-texts line (words_by separator line) utf8 (words_by-cut separator line utf8)
-
-pub hyphen-printable : IsPrintable (hyphen ∷ [])
-hyphen-printable =
-    All-cons IsPrintableByte hyphen [] (omega arith, omega arith) (All-nil IsPrintableByte)
-
--- a hyphen takes a column
-pub hyphen-prints : (w : WordText) → w.penalty ≡ hyphen ∷ [] → PrintsPenalty w
-hyphen-prints w is = rw is (printable-width (hyphen ∷ []) hyphen-printable)
 
 -- ---- what lines keep to that are divided by the words of options without functions
 

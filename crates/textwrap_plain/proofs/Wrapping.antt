@@ -6,23 +6,29 @@ use Rattle.textwrap_hyphens.specs.{Hyphenation.Hyphenation, Splitting.split_poin
 use Rattle.textwrap_hyphens.specs.declared.table.PatternTable.{PatternTable}
 use Rattle.textwrap_layout.proofs.Common.{AreParagraphParts, AreTextLines, IsDividedInto, IsWrapped}
 use Rattle.textwrap_layout.proofs.Common.{Line, LineParts, Settings, front_pieces, is_whole}
-use Rattle.textwrap_layout.proofs.Common.{fitting_pieces, settings_view, widths_of}
+use Rattle.textwrap_layout.proofs.Common.{ArePrintedWithin, CanKeepToWidth, LinesKeepToWidth}
+use Rattle.textwrap_layout.proofs.Common.{fitting_pieces, later_width, widths_of}
+use Rattle.textwrap_layout.proofs.Paragraph.Widths.{PiecesClose}
 use Rattle.textwrap_layout.proofs.Paragraph.{LeftOff.laid_out-cases, Pieces.division-as}
 use Rattle.textwrap_layout.specs.declared.options.Options.{Options}
 use Rattle.textwrap_lines.proofs.Common.{paragraphs_of, paragraphs_of-utf8}
 use Rattle.textwrap_lines.proofs.Paragraph.KeepsTo.{parts_from-pieces, whole_line-within}
 use Rattle.textwrap_lines.proofs.Text.{Groups.groups-all, Groups.groups-map, Promises.IsWrapped-by}
+use Rattle.textwrap_lines.proofs.Text.Printed.{ArePrintedWithin-by, PrintsPenalty}
+use Rattle.textwrap_lines.proofs.Text.Promises.{LinesKeepToWidth-by}
 use Rattle.textwrap_plain.proofs.Passing.{greedy_passes, parts_from-hyphens}
-use Rattle.textwrap_plain.proofs.Pieces.{hyphenated-hyphens, hyphenated-tight}
+use Rattle.textwrap_plain.proofs.Pieces.{hyphen-prints, hyphenated-close, hyphenated-hyphens}
+use Rattle.textwrap_plain.proofs.Pieces.{hyphenated-tight}
 use Rattle.textwrap_plain.specs.Hyphenated.{AddOnlyHyphens, AddsHyphenAtMost, ArePointsBy}
-use Rattle.textwrap_plain.specs.Hyphenated.{AreTheText, DividesAtPoints, DividesHyphenated}
+use Rattle.textwrap_plain.specs.Hyphenated.{AreTheText, DividesAtPoints}
 use Rattle.textwrap_plain.specs.Hyphenated.{DividesHyphenatedUnder, HasPartsBeside, KeepButHyphens}
 use Rattle.textwrap_plain.specs.Hyphenated.{LinesKeepButHyphens, OnlyHyphensPass}
 use Rattle.textwrap_plain.specs.Options.{DividesFrom, DividesPlainly, plain_algorithm}
 use Rattle.textwrap_plain.specs.declared.options.PlainOptions.{PlainOptions}
 use Rattle.textwrap_plain.specs.declared.options.PlainSeparator.TheVariants.{AtBlanks}
 use Rattle.textwrap_plain.specs.declared.options.PlainSplitter.TheVariants.{Dictionary}
-use Rattle.textwrap_text.proofs.Common.{All, All-cons, All-nil, Bool, IsUtf8, List, None, [], ap}
+use Rattle.textwrap_text.proofs.Common.{All, All-cons, All-nil, All-weaker, Bool, IsUtf8, List, None}
+use Rattle.textwrap_text.proofs.Common.{Some, [], ap, ⊎_elim, ◌<◌}
 use Rattle.textwrap_text.proofs.Common.{cond, false, inl, map, refl, subst, sym, true, ℕ, ◌++◌, ◌↔◌}
 use Rattle.textwrap_text.proofs.Common.{◌∙◌, ◌∷◌, ◌≡◌, ◌≢◌, ◌≤◌}
 use Rattle.textwrap_text.proofs.Lists.Parts.{Begins, all-left, flat}
@@ -31,6 +37,7 @@ use Rattle.textwrap_words.proofs.Common.{WordText, algorithm_view, sizes_of, wor
 use Rattle.textwrap_words.proofs.{Common.words_of, Word.Divisions.MayDivide-begins}
 use Rattle.textwrap_words.proofs.Word.Divisions.{MayDivide-greedy, MayDivide-some, MayDivide-whole}
 use Rattle.textwrap_words.proofs.Word.{Parts.MaySeparate-texts, Pieces.AreTexts, Words.words_unique}
+use Rattle.textwrap_words.proofs.Word.Words.{text_width-nil}
 use Rattle.textwrap_words.specs.declared.wrap_algorithms.WrapAlgorithm.TheVariants.{FirstFit}
 
 -- ---- what the lines keep to
@@ -123,54 +130,88 @@ module _ (settings : Settings) (Words : List ℕ → List WordText → Type 0)
 -- ---- by options that may hold functions
 
 module _ {E C : Type 0} {e : _} {c : _} (options : Options E C e c) (patterns : PatternTable)
-    (text : List ℕ) (lines : List Line) (utf8 : IsUtf8 text)
-    (are : AreTextLines (settings_view options) (DividesHyphenated options (held patterns)) text lines)
-  where
-    pub IsWrapped-hyphenated : IsWrapped (settings_view options) None
-        (algorithm_view options.wrap_algorithm) (DividesHyphenated options (held patterns)) text lines
+    (settings : Settings) (text : List ℕ) (lines : List Line) (utf8 : IsUtf8 text) where
+  abbrev Words : List ℕ → List WordText → Type 0
+  Words = MaySeparate options.word_separator
+
+  abbrev By : Bool → List ℕ → List (List WordText) → Type 0
+  By = DividesHyphenatedUnder options (held patterns) settings
+
+  begins : (widths : List ℕ) (pieces : List WordText) (division : List (List WordText))
+      → MayDivide options.wrap_algorithm (λ w. w) widths pieces division → Begins pieces (flat division)
+  begins = MayDivide-begins options.wrap_algorithm (λ w. w)
+
+  greedy : algorithm_view options.wrap_algorithm ≡ Some ByFirstFit → (widths : List ℕ)
+      (pieces : List WordText) (division : List (List WordText))
+      → MayDivide options.wrap_algorithm (λ w. w) widths pieces division
+      → IsDividedBy ByFirstFit sizes_of widths pieces division
+  greedy first widths pieces division =
+      MayDivide-greedy options.wrap_algorithm (λ w. w) widths pieces division first
+
+  module _ (are : AreTextLines settings By text lines) where
+    pub IsWrapped-hyphenated : IsWrapped settings None (algorithm_view options.wrap_algorithm) By text
+        lines
     IsWrapped-hyphenated =
         let algorithm = options.wrap_algorithm in
-        IsWrapped-by (settings_view options) (MaySeparate options.word_separator)
-        (ArePointsBy (held patterns)) (MayDivide algorithm (λ w. w))
-        (MaySeparate-texts options.word_separator) (held-cuts patterns)
-        (MayDivide-begins algorithm (λ w. w)) None (algorithm_view algorithm)
-        (λ built_in. absurd (built_in refl))
+        IsWrapped-by settings Words (ArePointsBy (held patterns)) (MayDivide algorithm (λ w. w))
+        (MaySeparate-texts options.word_separator) (held-cuts patterns) begins None
+        (algorithm_view algorithm) (λ built_in. absurd (built_in refl))
         (λ built_in widths pieces division. MayDivide-whole algorithm (λ w. w) widths pieces division
         built_in)
         (λ built_in widths pieces division. MayDivide-some algorithm (λ w. w) widths pieces division
         built_in)
-        (λ first widths pieces division. MayDivide-greedy algorithm (λ w. w) widths pieces division
-        first) text lines utf8 are
+        greedy text lines utf8 are
 
-    pub AddOnlyHyphens-hyphenated : AddOnlyHyphens (settings_view options)
-        (DividesHyphenated options (held patterns)) text lines
+    pub AddOnlyHyphens-hyphenated : AddOnlyHyphens settings By text lines
     AddOnlyHyphens-hyphenated =
-        AddOnlyHyphens-by (settings_view options) (MaySeparate options.word_separator)
-        (MaySeparate-texts options.word_separator) patterns (MayDivide options.wrap_algorithm (λ w. w))
-        (MayDivide-begins options.wrap_algorithm (λ w. w)) text lines utf8 are
+        AddOnlyHyphens-by settings Words (MaySeparate-texts options.word_separator) patterns
+        (MayDivide options.wrap_algorithm (λ w. w)) begins text lines utf8 are
 
     pub AreTheText-hyphenated : algorithm_view options.wrap_algorithm ≢ None
-        → AreTheText (settings_view options) text lines
+        → AreTheText settings text lines
     AreTheText-hyphenated built_in =
         let wrapped = IsWrapped-hyphenated in record {
           groups = wrapped.are.groups;
           given = wrapped.are.given;
           covered = wrapped.tile built_in;
-          hyphens = hyphens-alone (settings_view options) (MaySeparate options.word_separator)
-              (MaySeparate-texts options.word_separator) patterns (MayDivide options.wrap_algorithm (λ w. w))
-              (MayDivide-begins options.wrap_algorithm (λ w. w)) text lines utf8 wrapped.are;
+          hyphens = hyphens-alone settings Words (MaySeparate-texts options.word_separator) patterns
+              (MayDivide options.wrap_algorithm (λ w. w)) begins text lines utf8 wrapped.are;
           blanks = wrapped.loses.blanks;
         }
 
-    pub LinesKeepButHyphens-hyphenated : options.wrap_algorithm ≡ FirstFit
-        → options.break_words ≡ true → LinesKeepButHyphens (settings_view options)
-        (DividesHyphenated options (held patterns)) text lines
-    LinesKeepButHyphens-hyphenated first breaks =
-        LinesKeepButHyphens-by (settings_view options) (MaySeparate options.word_separator)
-        (MaySeparate-texts options.word_separator) patterns (MayDivide options.wrap_algorithm (λ w. w))
-        (MayDivide-begins options.wrap_algorithm (λ w. w))
-        (λ widths pieces division. MayDivide-greedy options.wrap_algorithm (λ w. w) widths pieces
-        division (ap algorithm_view first)) breaks text lines utf8 are
+    module _ (first : options.wrap_algorithm ≡ FirstFit) where
+      pub LinesKeepButHyphens-hyphenated : settings.break_words ≡ true
+          → LinesKeepButHyphens settings By text lines
+      LinesKeepButHyphens-hyphenated breaks =
+          LinesKeepButHyphens-by settings Words (MaySeparate-texts options.word_separator) patterns
+          (MayDivide options.wrap_algorithm (λ w. w)) begins (greedy (ap algorithm_view first)) breaks
+          text lines utf8 are
+
+      -- where hyphens have room
+      module _ (asked : settings.room_for_hyphens ≡ true) (room : 0 < later_width settings) where
+        close : settings.break_words ≡ true → PiecesClose settings Words (ArePointsBy (held patterns))
+        close =
+            hyphenated-close settings Words (MaySeparate-texts options.word_separator) patterns asked
+            room
+
+        pub LinesKeepToWidth-hyphenated : settings.even_paragraphs ≡ true
+            → settings.break_words ≡ true → LinesKeepToWidth settings By text lines
+        LinesKeepToWidth-hyphenated even breaks =
+            LinesKeepToWidth-by settings Words (ArePointsBy (held patterns))
+            (MayDivide options.wrap_algorithm (λ w. w)) (MaySeparate-texts options.word_separator)
+            (held-cuts patterns) begins (close breaks) (greedy (ap algorithm_view first)) text lines utf8
+            even breaks are
+
+        pub ArePrintedWithin-hyphenated : CanKeepToWidth settings text
+            → ArePrintedWithin settings By text lines
+        ArePrintedWithin-hyphenated can =
+            ArePrintedWithin-by settings Words (ArePointsBy (held patterns))
+            (MayDivide options.wrap_algorithm (λ w. w)) (MaySeparate-texts options.word_separator)
+            (held-cuts patterns) close
+            (λ paragraph pieces utf8 pieces_are. All-weaker HasHyphenAtMost PrintsPenalty
+            (λ w. ⊎_elim (λ none. rw none text_width-nil) (hyphen-prints w)) pieces
+            (hyphenated-hyphens settings Words (MaySeparate-texts options.word_separator) patterns
+            paragraph pieces utf8 pieces_are)) (greedy (ap algorithm_view first)) text lines utf8 can are
 
 -- ---- where words stand between blanks and the algorithm is built in
 

@@ -11,7 +11,7 @@ use Rattle.textwrap_words.specs.WordSeparators.{MaySeparate}
 use Rattle.textwrap_words.specs.WrapAlgorithms.{Algorithm, IsDividedBy, MayDivide, algorithm_view}
 use Rattle.textwrap_words.specs.Words.{AreWordsOf, WordText, sizes_of}
 use Rattle.textwrap_words.specs.declared.word_separators.WordSeparator.TheVariants.{AsciiSpace}
-use Rattle.textwrap_layout.specs.Options.{Settings, settings_view}
+use Rattle.textwrap_layout.specs.Options.{Settings}
 use Rattle.textwrap_layout.specs.Paragraph.{IsDividedInto, Line, LineParts, is_whole, line_from}
 use Rattle.textwrap_layout.specs.Paragraph.{widths_of}
 use Rattle.textwrap_layout.specs.Text.{AreGroups, AreTextLines, LeavesOffBlanks, covered_by}
@@ -26,10 +26,6 @@ abbrev pub DividesHyphenatedUnder : {E C : Type 0} {e : _} {c : _} → Options E
 DividesHyphenatedUnder o h settings =
     IsDividedInto settings (MaySeparate o.word_separator) (ArePointsBy h)
     (MayDivide o.wrap_algorithm (λ w. w))
-
-abbrev pub DividesHyphenated : {E C : Type 0} {e : _} {c : _} → Options E C e c → Hyphenation
-    → Bool → List ℕ → List (List WordText) → Type 0
-DividesHyphenated o h = DividesHyphenatedUnder o h (settings_view o)
 
 -- the same by words between blanks and this algorithm
 abbrev pub DividesAtPoints : Hyphenation → Algorithm → Settings → Bool → List ℕ

@@ -1,12 +1,14 @@
 -- What the laws say.
-use Rattle.std.specs.Prelude.{◌≡◌, ◌≢◌, ◌↔◌, ℕ, ◌+◌, ◌≤◌, All, Bool, IsUtf8, List, None, chars, map}
+use Rattle.std.specs.Prelude.{◌≡◌, ◌≢◌, ◌↔◌, ℕ, ◌+◌, ◌<◌, ◌≤◌, All, Bool, IsUtf8, List, None, chars, map}
 use Rattle.std.specs.Prelude.{if◌then◌else◌, true}
 use Rattle.std.specs.List.{zip}
 use Rattle.textwrap.specs.Filling.{IsFilled}
 use Rattle.textwrap.specs.Laws.{IsUnique}
-use Rattle.textwrap.specs.Options.{Settings, settings_view}
+use Rattle.textwrap.specs.Options.{Settings}
 use Rattle.textwrap.specs.Paragraph.{Line}
-use Rattle.textwrap.specs.Text.{AreTextLines, CanKeepToWidth, HasNoEscape, IsWrapped}
+use Rattle.textwrap.specs.Text.{ArePrintedWithin, AreTextLines, CanKeepToWidth, HasNoEscape}
+use Rattle.textwrap.specs.Text.{IsWrapped, LinesKeepToWidth}
+use Rattle.textwrap_layout.specs.Paragraph.{later_width}
 use Rattle.textwrap.specs.Units.{columns, text_width}
 use Rattle.textwrap.specs.Words.{WordText}
 use Rattle.textwrap.specs.WrapAlgorithms.{Algorithm, ByFirstFit, algorithm_view}
@@ -16,12 +18,12 @@ use Rattle.textwrap_hyphens.specs.Hyphenation.{Hyphenation}
 use Rattle.textwrap_hyphens.specs.Table.{held}
 use Rattle.textwrap_hyphens.specs.declared.table.PatternTable.{PatternTable}
 use Rattle.textwrap_layout.specs.declared.options.Options.{Options}
-use Rattle.textwrap_plain.specs.Hyphenated.{AddOnlyHyphens, DividesAtPoints, DividesHyphenated}
+use Rattle.textwrap_plain.specs.Hyphenated.{AddOnlyHyphens, DividesAtPoints}
 use Rattle.textwrap_plain.specs.Hyphenated.{AreTheText, DividesHyphenatedUnder, HasPartsBeside}
 use Rattle.textwrap_plain.specs.Hyphenated.{LinesKeepButHyphens}
 use Rattle.textwrap_plain.specs.Options.{is_dictionary, DividesPlainly, plain_algorithm, plain_settings}
 use Rattle.textwrap_plain.specs.Tables.{PlainMakes, plain_parts, plain_shape}
-use Rattle.textwrap_plain.specs.declared.display.PlainColumn.{PlainColumn}
+use Rattle.textwrap_plain.specs.declared.columns.PlainColumn.{PlainColumn}
 use Rattle.textwrap_plain.specs.declared.options.PlainOptions.{PlainOptions}
 use Rattle.textwrap_plain.specs.declared.options.PlainSeparator.TheVariants.{AtBlanks}
 use Rattle.textwrap_plain.specs.declared.options.PlainSplitter.TheVariants.{Dictionary}
@@ -67,36 +69,49 @@ AreAtPoints o table =
     → DividesHyphenatedUnder o (held table) settings is_later paragraph division
     ↔ DividesAtPoints (held table) algorithm settings is_later paragraph division
 
--- ---- the lines of a text by a dictionary and any options
+-- ---- the lines of a text by a dictionary, any options and any settings
 
-abbrev pub AreWrapped : {E C : Type 0} {e : _} {c : _} → Options E C e c → PatternTable → Type 0
-AreWrapped o table =
-    (text : List ℕ) (lines : List Line) → IsUtf8 text
-    → AreTextLines (settings_view o) (DividesHyphenated o (held table)) text lines
-    → IsWrapped (settings_view o) None (algorithm_view o.wrap_algorithm)
-    (DividesHyphenated o (held table)) text lines
+-- a property of these lines of the text
+module _ {E C : Type 0} {e : _} {c : _} (o : Options E C e c) (table : PatternTable) where
+  abbrev pub HyphenatedLines : (Settings → (Bool → List ℕ → List (List WordText) → Type 0) → List ℕ
+      → List Line → Type 0) → Type 0
+  HyphenatedLines P =
+      (settings : Settings) (text : List ℕ) (lines : List Line) → IsUtf8 text
+      → AreTextLines settings (DividesHyphenatedUnder o (held table) settings) text lines
+      → P settings (DividesHyphenatedUnder o (held table) settings) text lines
 
--- behind a line nothing is printed, or a hyphen
-abbrev pub AddHyphensAlone : {E C : Type 0} {e : _} {c : _} → Options E C e c → PatternTable → Type 0
-AddHyphensAlone o table =
-    (text : List ℕ) (lines : List Line) → IsUtf8 text
-    → AreTextLines (settings_view o) (DividesHyphenated o (held table)) text lines
-    → AddOnlyHyphens (settings_view o) (DividesHyphenated o (held table)) text lines
+  abbrev pub AreWrapped : Type 0
+  AreWrapped =
+      HyphenatedLines (λ settings. IsWrapped settings None (algorithm_view o.wrap_algorithm))
 
--- by a built-in algorithm they are the text, but for hyphens, indents and blanks
-abbrev pub AreTheTextBeside : {E C : Type 0} {e : _} {c : _} → Options E C e c → PatternTable → Type 0
-AreTheTextBeside o table =
-    algorithm_view o.wrap_algorithm ≢ None → (text : List ℕ) (lines : List Line) → IsUtf8 text
-    → AreTextLines (settings_view o) (DividesHyphenated o (held table)) text lines
-    → AreTheText (settings_view o) text lines
+  -- behind a line nothing is printed, or a hyphen
+  abbrev pub AddHyphensAlone : Type 0
+  AddHyphensAlone = HyphenatedLines AddOnlyHyphens
 
--- by first fit, where words are broken, the lines keep to their widths but for hyphens
-abbrev pub KeepToWidthButHyphens : {E C : Type 0} {e : _} {c : _} → Options E C e c → PatternTable
-    → Type 0
-KeepToWidthButHyphens o table =
-    o.wrap_algorithm ≡ FirstFit → o.break_words ≡ true → (text : List ℕ) (lines : List Line)
-    → IsUtf8 text → AreTextLines (settings_view o) (DividesHyphenated o (held table)) text lines
-    → LinesKeepButHyphens (settings_view o) (DividesHyphenated o (held table)) text lines
+  -- by a built-in algorithm they are the text, but for hyphens, indents and blanks
+  abbrev pub AreTheTextBeside : Type 0
+  AreTheTextBeside =
+      algorithm_view o.wrap_algorithm ≢ None → HyphenatedLines (λ settings Divides. AreTheText settings)
+
+  -- by first fit, where words are broken, the lines keep to their widths but for hyphens
+  abbrev pub KeepToWidthButHyphens : Type 0
+  KeepToWidthButHyphens =
+      o.wrap_algorithm ≡ FirstFit → HyphenatedLines (λ settings Divides text lines.
+      settings.break_words ≡ true → LinesKeepButHyphens settings Divides text lines)
+
+  -- and with them, where hyphens have room and paragraphs are even
+  abbrev pub KeepToWidthWithHyphens : Type 0
+  KeepToWidthWithHyphens =
+      o.wrap_algorithm ≡ FirstFit → HyphenatedLines (λ settings Divides text lines.
+      settings.room_for_hyphens ≡ true → 0 < later_width settings → settings.even_paragraphs ≡ true
+      → settings.break_words ≡ true → LinesKeepToWidth settings Divides text lines)
+
+  -- also as they are printed, if they can
+  abbrev pub ArePrintedWithHyphens : Type 0
+  ArePrintedWithHyphens =
+      o.wrap_algorithm ≡ FirstFit → HyphenatedLines (λ settings Divides text lines.
+      settings.room_for_hyphens ≡ true → 0 < later_width settings → CanKeepToWidth settings text
+      → ArePrintedWithin settings Divides text lines)
 
 -- ---- tables
 
@@ -118,10 +133,10 @@ pub record MayKeepToColumn (column : PlainColumn) (text : List ℕ) : Type 0 whe
   pub utf8 : IsUtf8 text
   pub escape : HasNoEscape text
   pub can : CanKeepToWidth (plain_settings column.options) text
-  pub initial : HasRoomBehind column.options.width (hyphen_columns column.options) text
-      column.options.initial_indent.now
-  pub subsequent : HasRoomBehind column.options.width (hyphen_columns column.options) text
-      column.options.subsequent_indent.now
+  pub initial : HasRoomBehind column.options.layout.width (hyphen_columns column.options) text
+      column.options.layout.initial_indent.now
+  pub subsequent : HasRoomBehind column.options.layout.width (hyphen_columns column.options) text
+      column.options.layout.subsequent_indent.now
 
 -- the lines of such texts keep to their columns
 abbrev pub CellsKeepToColumns : Type 0

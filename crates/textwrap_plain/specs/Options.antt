@@ -5,6 +5,7 @@ use Rattle.std.specs.List.{flat_map}
 use Rattle.textwrap.specs.Cuts.{parts_between}
 use Rattle.textwrap_text.specs.Units.{text_width}
 use Rattle.textwrap.specs.Options.{default_algorithm, Settings, settings_at}
+use Rattle.textwrap_layout.specs.Options.{layout_view}
 use Rattle.textwrap.specs.WordSplitters.{Splitter, AtHyphens}
 use Rattle.textwrap_words.specs.WordSplitters.{points_of, split_pieces}
 use Rattle.textwrap.specs.Words.{WordText, is_cut, word_of, words_of}
@@ -43,29 +44,12 @@ is_dictionary (Dictionary table) = true
 
 -- with a dictionary hyphens are to have room
 abbrev pub plain_settings : PlainOptions → Settings
-plain_settings o = record {
-  width = o.width;
-  line_ending = o.line_ending;
-  initial_indent = o.initial_indent.now;
-  subsequent_indent = o.subsequent_indent.now;
-  break_words = o.break_words;
-  preserve_trailing_space = o.preserve_trailing_space;
-  even_paragraphs = o.even_paragraphs;
-  room_for_hyphens = is_dictionary o.word_splitter;
-}
+plain_settings o =
+    record (layout_view o.layout) { room_for_hyphens = is_dictionary o.word_splitter }
 
 -- the layout that they say
 abbrev pub plain_layout : PlainOptions → Layout
-plain_layout o = record {
-  width = o.width;
-  line_ending = o.line_ending;
-  initial_indent = o.initial_indent;
-  subsequent_indent = o.subsequent_indent;
-  break_words = o.break_words;
-  preserve_trailing_space = o.preserve_trailing_space;
-  even_paragraphs = o.even_paragraphs;
-  room_for_hyphens = is_dictionary o.word_splitter;
-}
+plain_layout o = record o.layout { room_for_hyphens = is_dictionary o.word_splitter }
 
 -- the splitter of the port, if it is one
 abbrev pub port_splitter : PlainSplitter → Option Splitter
@@ -102,7 +86,7 @@ DividesPlainly o =
 
 -- if a dictionary splits words, a later line has room for a hyphen behind its indent
 abbrev pub HasRoomForHyphen : PlainOptions → Type 0
-HasRoomForHyphen o = plain_splitter o ≡ None → text_width o.subsequent_indent.now < o.width
+HasRoomForHyphen o = plain_splitter o ≡ None → text_width o.layout.subsequent_indent.now < o.layout.width
 
 -- words stand between blanks, no dictionary splits them, and each line takes as many of their pieces
 -- as fit

@@ -9,7 +9,7 @@ use Rattle.textwrap_display.specs.Tables.{IsTableBy, RowGaps, Shape}
 use Rattle.textwrap_display.specs.declared.alignment.Alignment.{Alignment}
 use Rattle.textwrap_plain.specs.Options.{DividesFrom, plain_algorithm, plain_settings, points_by}
 use Rattle.textwrap_plain.specs.Options.{words_by}
-use Rattle.textwrap_plain.specs.declared.display.PlainColumn.{PlainColumn}
+use Rattle.textwrap_plain.specs.declared.columns.PlainColumn.{PlainColumn}
 
 -- how a column wraps its texts, and where their lines stand in it
 pub record PlainColumnParts : Type 0 where

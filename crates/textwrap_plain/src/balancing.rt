@@ -1,15 +1,13 @@
 //! Balanced lines, for titles and centred texts: the lines of first fit at the least width that takes
-//! no more of them than the width of the options, as `text-wrap: balance` of browsers makes lines
+//! no more of them than the width of the layout, as `text-wrap: balance` of browsers makes lines
 //! (CSS Text Module Level 4).
-ghost use Rattle.std.specs.Prelude.{◌≡◌, ◌≢◌, ◌≤◌, ℕ, List, None, Some, IfOk, IsOk, length, map, max};
+ghost use Rattle.std.specs.Prelude.{◌≡◌, ◌≢◌, ◌≤◌, ℕ, List, None, IfOk, IsOk, length, map, max};
 ghost use Rattle.textwrap_base.specs.Cost.{total_width};
 ghost use Rattle.textwrap_base.specs.Errors.{Fits64Bits, OnlyMemoryRunsOut};
 ghost use Rattle.textwrap_words.specs.CutPiecesLeft.{cut_standing_left};
 ghost use Rattle.textwrap_words.specs.PiecesLeft.{standing_left};
-ghost use Rattle.textwrap_words.specs.Words.{sizes_of, word_view, words_of};
-ghost use Rattle.textwrap_words.specs.WordSplitters.{Splitter, points_of, splitter_view};
-ghost use Rattle.textwrap_words.specs.declared.word_separators.WordSeparator.TheVariants.{AsciiSpace};
-ghost use Rattle.textwrap_layout.specs.Options.{layout_view, settings_view};
+ghost use Rattle.textwrap_words.specs.Words.{sizes_of, word_view};
+ghost use Rattle.textwrap_layout.specs.Options.{layout_view};
 ghost use Rattle.textwrap_layout.specs.Paragraph.{Line, line_view};
 ghost use Rattle.textwrap_layout.specs.PiecesLeft.{left_standing};
 ghost use Rattle.textwrap_plain.specs.Balance.{AreFirstFitAt, AreBalanced, HasRoom, IsBalanced};
@@ -21,18 +19,19 @@ use crate::options::PlainSplitter;
 use crate::parts::PlainParts;
 use std::alloc::{AllocError, Allocator};
 use std::borrow::CowStr;
+use textwrap::WrapError;
 use textwrap::words::display_width;
-use textwrap::{Options, WordSplitter, WrapError};
 use textwrap_layout::frame::Frame;
 use textwrap_layout::layout::Layout;
+use textwrap_layout::lent_places::{LentLinePlaces, LentPlaces};
 use textwrap_layout::paragraph_pieces::{Cuts, ParagraphPieces, cut_paragraph};
 use textwrap_layout::parts::BuiltInAlgorithm;
 use textwrap_layout::pieces::find_pieces;
-use textwrap_layout::printable_cuts::{BlankCuts, PrintableCuts};
-use textwrap_lines::inner::{place_into, wrap_by};
+use textwrap_layout::printable_cuts::PrintableCuts;
+use textwrap_lines::inner::{fill_to, wrap_by};
 use textwrap_lines::parts::split_paragraph;
 use textwrap_lines::placed::TextwrapLine;
-use textwrap_words::inner::{BuiltInSplitter, CutPieces, Pieces};
+use textwrap_words::inner::{CutPieces, Pieces};
 use textwrap_words::words::Word;
 
 /// A balanced width, and what it took to find it.
@@ -44,111 +43,21 @@ pub struct Balance {
     pub fillings: usize,
 }
 
-/// The least width at which first fit takes no more lines of a text than at the width of the options,
+/// The least width at which first fit takes no more lines of a text than at the width of the layout,
 /// and at which each piece of it has room: the wider of the indents, and after it any one word, split
-/// but not broken, with its hyphen. Where some piece has none at the width of the options, it is that
-/// width. Words stand between blanks, and the options' own algorithm is not used.
+/// but not broken, with its hyphen. Where some piece has none at the width of the layout, it is that
+/// width. Words end and are split as the parts say; their algorithm is not used. At blanks and without a
+/// dictionary nothing is allocated.
+///
+/// It tells also how many fillings that took: none where some piece has no room, else one at the width of
+/// the layout and at most 64 more, as each of these leaves at most half of the widths.
 ///
 /// At 40 columns `It was the best of times, it was the worst` takes two lines, and so it does at 23,
 /// where they are about as wide.
-pub fn balanced_width<A: Allocator + Copy>(alloc: A, text: &str, options: &Options<'_>) -> usize
-    requires separator { options.now.word_separator ≡ AsciiSpace }
-    requires splitter { splitter_view options.now.word_splitter ≢ None }
-    ensures balanced { (splitter : Splitter) → splitter_view options.now.word_splitter ≡ Some splitter
-        → IsBalanced (settings_view options.now) words_of (points_of splitter) text.now result }
-{
-    let found = balanced_width_by(alloc, text, Layout::of(options), &at_blanks(options));
-    match found {
-        Ok(balance) => balance.width,
-        Err(_) => unreachable!(),
-    }
-}
-
-/// The lines of a text by first fit at its [`balanced_width`]. They are as many as at the width of the
-/// options.
-///
-/// At 40 columns `It was the best of times, it was the worst` has the lines `It was the best of` and
-/// `times, it was the worst`.
 ///
 /// # Errors
 /// [`WrapError::Memory`] where memory runs out.
-pub fn wrap_balanced<'t, A: Allocator + Copy>(
-    alloc: A,
-    text: &'t str,
-    options: &Options<'_>,
-) -> Result<Vec<CowStr<'t, A>, A>, WrapError>
-    requires separator { options.now.word_separator ≡ AsciiSpace }
-    requires splitter { splitter_view options.now.word_splitter ≢ None }
-    ensures lines { IfOk result (λ lines. (splitter : Splitter)
-        → splitter_view options.now.word_splitter ≡ Some splitter → AreBalanced
-        (settings_view options.now) words_of (points_of splitter) text.now
-        (map line_view lines.items)) }
-    // As many as first fit takes at the width of the options.
-    ensures as_many { IfOk result (λ lines. (splitter : Splitter)
-        → splitter_view options.now.word_splitter ≡ Some splitter → (others : List Line)
-        → AreFirstFitAt (settings_view options.now) words_of (points_of splitter) text.now
-        options.now.width others
-        → length lines.items ≡ length others) }
-    ensures only_memory { OnlyMemoryRunsOut result }
-{
-    wrap_balanced_by(alloc, text, Layout::of(options), &at_blanks(options))
-}
-
-/// Words between blanks, the splitter of the options, and first fit.
-fn at_blanks(options: &Options<'_>) -> PlainParts<'static, BlankCuts>
-    requires { splitter_view options.now.word_splitter ≢ None }
-    ensures { splitter_view options.now.word_splitter ≡ port_splitter result.splitter }
-{
-    PlainParts {
-        words: BlankCuts {},
-        splitter: PlainSplitter::BuiltIn(match options.word_splitter {
-            WordSplitter::NoHyphenation => BuiltInSplitter::NoHyphenation,
-            WordSplitter::HyphenSplitter => BuiltInSplitter::HyphenSplitter,
-            WordSplitter::Custom(_) => unreachable!(),
-        }),
-        algorithm: BuiltInAlgorithm::FirstFit,
-    }
-}
-
-/// The lines that [`wrap_balanced`] returns, by this layout and the words and the splitter of these
-/// parts.
-///
-/// # Errors
-/// [`WrapError::Memory`] where memory runs out.
-pub fn wrap_balanced_by<'t, A: Allocator + Copy, W: PrintableCuts + Copy>(
-    alloc: A,
-    text: &'t str,
-    layout: Layout<'_>,
-    parts: &PlainParts<'_, W>,
-) -> Result<Vec<CowStr<'t, A>, A>, WrapError>
-    ensures lines { IfOk result (λ lines. AreBalanced (layout_view layout.entry)
-        (W.words parts.now.words) (points_by parts.now.splitter) text.now
-        (map line_view lines.items)) }
-    ensures as_many { IfOk result (λ lines. (others : List Line)
-        → AreFirstFitAt (layout_view layout.entry) (W.words parts.now.words)
-        (points_by parts.now.splitter) text.now layout.entry.width others
-        → length lines.items ≡ length others) }
-    ensures only_memory { OnlyMemoryRunsOut result }
-{
-    let balance = balanced_width_by(alloc, text, layout, parts)?;
-    let narrow = Layout {
-        width: balance.width,
-        ..layout
-    };
-    let first_fit = PlainParts {
-        algorithm: BuiltInAlgorithm::FirstFit,
-        ..*parts
-    };
-    wrap_by(alloc, text, narrow, &first_fit)
-}
-
-/// The width that [`balanced_width`] returns, by this layout and the words and the splitter of these
-/// parts, and how many fillings it took: none where some piece has no room, else one at the width of
-/// the layout and at most 64 more, as each of these leaves at most half of the widths.
-///
-/// # Errors
-/// [`WrapError::Memory`] where memory runs out.
-pub fn balanced_width_by<A: Allocator + Copy, W: PrintableCuts + Copy>(
+pub fn balanced_width<A: Allocator + Copy, W: PrintableCuts + Copy>(
     alloc: A,
     text: &str,
     layout: Layout<'_>,
@@ -170,6 +79,42 @@ pub fn balanced_width_by<A: Allocator + Copy, W: PrintableCuts + Copy>(
         return Ok(Balance { width, fillings: 0 });
     }
     search(alloc, text, layout, parts, indent + widest)
+}
+
+/// The lines of a text by first fit at its [`balanced_width`]. They are as many as at the width of the
+/// layout.
+///
+/// At 40 columns `It was the best of times, it was the worst` has the lines `It was the best of` and
+/// `times, it was the worst`.
+///
+/// # Errors
+/// [`WrapError::Memory`] where memory runs out.
+pub fn wrap_balanced<'t, A: Allocator + Copy, W: PrintableCuts + Copy>(
+    alloc: A,
+    text: &'t str,
+    layout: Layout<'_>,
+    parts: &PlainParts<'_, W>,
+) -> Result<Vec<CowStr<'t, A>, A>, WrapError>
+    ensures lines { IfOk result (λ lines. AreBalanced (layout_view layout.entry)
+        (W.words parts.now.words) (points_by parts.now.splitter) text.now
+        (map line_view lines.items)) }
+    // As many as first fit takes at the width of the layout.
+    ensures as_many { IfOk result (λ lines. (others : List Line)
+        → AreFirstFitAt (layout_view layout.entry) (W.words parts.now.words)
+        (points_by parts.now.splitter) text.now layout.entry.width others
+        → length lines.items ≡ length others) }
+    ensures only_memory { OnlyMemoryRunsOut result }
+{
+    let balance = balanced_width(alloc, text, layout, parts)?;
+    let narrow = Layout {
+        width: balance.width,
+        ..layout
+    };
+    let first_fit = PlainParts {
+        algorithm: BuiltInAlgorithm::FirstFit,
+        ..*parts
+    };
+    wrap_by(alloc, text, narrow, &first_fit)
 }
 
 /// The columns of the widest piece of a text with its penalty, 0 where it has none.
@@ -343,8 +288,12 @@ fn count_lines<A: Allocator + Copy, W: PrintableCuts + Copy>(
     };
     let mut lines: [TextwrapLine; 0] = [];
     let mut room: [u8; 0] = [];
-    let counts = place_into(alloc, text, narrow, &first_fit, &mut lines, &mut room)?;
-    Ok(counts.lines)
+    let mut placed = LentPlaces::new(&mut lines, &mut room);
+    let mut sink = LentLinePlaces {
+        placed: &mut placed,
+    };
+    fill_to(alloc, text, narrow, &first_fit, &mut sink)?;
+    Ok(placed.counts().lines)
 }
 
 /// The greater of two widths.

@@ -1,7 +1,8 @@
 //! Facts about the definitions.
-ghost use Rattle.textwrap_plain.specs.Laws.{AddHyphensAlone, AreAtPoints, AreTheTextBeside};
-ghost use Rattle.textwrap_plain.specs.Laws.{AreWrapped, CellsKeepToColumns, HyphenatedLinesAreUnique};
-ghost use Rattle.textwrap_plain.specs.Laws.{HyphenatedTextIsUnique, KeepToWidthButHyphens};
+ghost use Rattle.textwrap_plain.specs.Laws.{AddHyphensAlone, AreAtPoints, ArePrintedWithHyphens};
+ghost use Rattle.textwrap_plain.specs.Laws.{AreTheTextBeside, AreWrapped, CellsKeepToColumns};
+ghost use Rattle.textwrap_plain.specs.Laws.{HyphenatedLinesAreUnique, HyphenatedTextIsUnique};
+ghost use Rattle.textwrap_plain.specs.Laws.{KeepToWidthButHyphens, KeepToWidthWithHyphens};
 ghost use Rattle.textwrap_plain.specs.Laws.{PlainIsAtPoints, PlainLinesAreUnique};
 ghost use Rattle.textwrap_plain.specs.Laws.{PlainTextIsUnique};
 
@@ -28,16 +29,19 @@ pub fn plain_words_at_blanks()
 {}
 
 /// By [`Hyphenated`](crate::parts::Hyphenated) of any options, also of those with functions of a caller,
-/// behind a line nothing is printed, or a hyphen, and between lines only blanks are lost; by a built-in
-/// algorithm, indents, hyphens and these blanks apart, the lines are the text. By first fit, where words
-/// are broken, a line passes its width only where it is one piece, by its hyphen or as one character that
-/// takes columns. Where words stand between blanks, and the algorithm is built in, a paragraph is divided
-/// as its words, the dictionary and the algorithm alone say.
+/// and under any layout, behind a line nothing is printed, or a hyphen, and between lines only blanks are
+/// lost; by a built-in algorithm, indents, hyphens and these blanks apart, the lines are the text. By first
+/// fit, where words are broken, a line passes its width only where it is one piece, by its hyphen or as one
+/// character that takes columns. Where hyphens have room, even paragraphs keep to the width with them, and
+/// so do lines as they are printed, if they can. Where words stand between blanks, and the algorithm is
+/// built in, a paragraph is divided as its words, the dictionary and the algorithm alone say.
 pub fn hyphenated_lines(options: &Options<'_>, patterns: &PatternTable<'_>)
     ensures wrapped { AreWrapped options.now patterns.now }
     ensures hyphens { AddHyphensAlone options.now patterns.now }
     ensures spelled { AreTheTextBeside options.now patterns.now }
     ensures keep { KeepToWidthButHyphens options.now patterns.now }
+    ensures even { KeepToWidthWithHyphens options.now patterns.now }
+    ensures printed { ArePrintedWithHyphens options.now patterns.now }
     ensures built_in { AreAtPoints options.now patterns.now }
 {}
 

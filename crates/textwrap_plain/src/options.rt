@@ -3,9 +3,10 @@ ghost use Rattle.std.specs.Prelude.{◌≡◌, ◌↔◌, IsTrue, Some};
 ghost use Rattle.textwrap.specs.WrapAlgorithms.{algorithm_view};
 ghost use Rattle.textwrap_plain.specs.Options.{plain_algorithm, AreDefaults, AreDirect};
 
+use textwrap::WrapAlgorithm;
 use textwrap::wrap_algorithms::Penalties;
-use textwrap::{LineEnding, WrapAlgorithm};
 use textwrap_hyphens::table::PatternTable;
+use textwrap_layout::layout::Layout;
 use textwrap_layout::parts::BuiltInAlgorithm;
 use textwrap_unicode::Numbers;
 use textwrap_words::inner::BuiltInSplitter;
@@ -36,27 +37,16 @@ pub enum PlainSplitter<'a> {
 /// How a text is wrapped: what `Options` of `textwrap` say, but for functions of the caller.
 #[derive(Clone, Copy, Debug)]
 pub struct PlainOptions<'a> {
-    /// The columns of a line, with its indent.
-    pub width: usize,
-    /// What ends a paragraph, and joins the lines of a filled text.
-    pub line_ending: LineEnding,
-    /// What is printed before the first line.
-    pub initial_indent: &'a str,
-    /// What is printed before each later line.
-    pub subsequent_indent: &'a str,
-    /// Whether words that are too wide for a line are broken.
-    pub break_words: bool,
+    /// The width, the line ending, the indents, and what is done with words that are too wide, blanks at
+    /// line ends and the first lines of paragraphs. Whether hyphens have room is not asked here: with a
+    /// dictionary they have.
+    pub layout: Layout<'a>,
     /// Where words end.
     pub word_separator: PlainSeparator,
     /// Where words are split.
     pub word_splitter: PlainSplitter<'a>,
     /// How words are divided into lines.
     pub wrap_algorithm: BuiltInAlgorithm,
-    /// Whether blanks at line ends are kept.
-    pub preserve_trailing_space: bool,
-    /// Whether the first lines of later paragraphs are divided for the width that their own indent
-    /// leaves.
-    pub even_paragraphs: bool,
 }
 
 impl PlainOptions<'static> {
@@ -66,16 +56,10 @@ impl PlainOptions<'static> {
         ensures { AreDefaults width result }
     {
         PlainOptions {
-            width,
-            line_ending: LineEnding::LF,
-            initial_indent: "",
-            subsequent_indent: "",
-            break_words: true,
+            layout: Layout::new(width),
             word_separator: PlainSeparator::AtBreaks(Numbers::ByPairs),
             word_splitter: PlainSplitter::BuiltIn(BuiltInSplitter::HyphenSplitter),
             wrap_algorithm: BuiltInAlgorithm::OptimalFit(Penalties::new()),
-            preserve_trailing_space: false,
-            even_paragraphs: false,
         }
     }
 }

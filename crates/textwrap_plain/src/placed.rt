@@ -15,27 +15,10 @@ use std::alloc::{AllocError, Global};
 use textwrap::WrapError;
 use textwrap::words::Word;
 use textwrap_layout::frame::Frame;
+use textwrap_layout::lent_places::{LentLinePlaces, LentPlaces};
 use textwrap_layout::pieces::find_pieces;
-use textwrap_lines::inner::place_lines_by;
+use textwrap_lines::inner::fill_to;
 use textwrap_lines::placed::{LineCounts, PlacedLines, TextwrapLine, write_places};
-
-/// The lines of [`wrap`](crate::wrap), by where they stand.
-///
-/// # Errors
-/// [`WrapError::Memory`] where memory runs out.
-pub fn place_lines(
-    alloc: Global,
-    text: &str,
-    options: &PlainOptions<'_>,
-) -> Result<PlacedLines<Global>, WrapError>
-    ensures lines { IfOk result (λ placed. (lines : List Line)
-        × ArePlacedLines (plain_settings options.now)
-        (DividesPlainly options.now (plain_settings options.now)) text.now lines placed.places.items
-        × (placed.built.items ≡ built_text lines)) }
-    ensures only_memory { OnlyMemoryRunsOut result }
-{
-    place_lines_by(alloc, text, options.layout(), &options.parts(alloc))
-}
 
 /// Writes where the lines of [`wrap`](crate::wrap) stand to the front of `lines`, and those that are no
 /// slices of the text to the front of the room, as much of both as has room, and returns how long they
@@ -60,18 +43,17 @@ pub fn place_into(
     ensures kept_room { IfErr result (λ _. room.new ≡ room.old) }
     ensures only_memory { OnlyMemoryRunsOut result }
 {
+    let layout = options.layout();
     if options.are_direct() {
-        let parts = options.direct_parts();
-        return textwrap_lines::inner::place_into(
-            alloc,
-            text,
-            options.layout(),
-            &parts,
-            lines,
-            room,
-        );
+        let mut placed = LentPlaces::new(lines, room);
+        let mut sink = LentLinePlaces {
+            placed: &mut placed,
+        };
+        fill_to(alloc, text, layout, &options.direct_parts(), &mut sink)?;
+        return Ok(placed.counts());
     }
-    let placed = place_lines(alloc, text, options)?;
+    let mut placed = PlacedLines::new(alloc);
+    fill_to(alloc, text, layout, &options.parts(alloc), &mut placed)?;
     Ok(write_places(
         placed.places.as_slice(),
         placed.built.as_slice(),

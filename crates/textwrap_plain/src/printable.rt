@@ -77,26 +77,9 @@ impl<'a> PlainOptions<'a> {
     pub fn layout(&self) -> Layout<'a>
         ensures { result ≡ plain_layout self.now }
     {
-        let PlainOptions {
-            width,
-            line_ending,
-            initial_indent,
-            subsequent_indent,
-            break_words,
-            preserve_trailing_space,
-            even_paragraphs,
-            word_splitter,
-            ..
-        } = *self;
         Layout {
-            width,
-            line_ending,
-            initial_indent,
-            subsequent_indent,
-            break_words,
-            preserve_trailing_space,
-            even_paragraphs,
-            room_for_hyphens: matches!(word_splitter, PlainSplitter::Dictionary(_)),
+            room_for_hyphens: matches!(self.word_splitter, PlainSplitter::Dictionary(_)),
+            ..self.layout
         }
     }
 
@@ -117,7 +100,7 @@ impl<'a> PlainOptions<'a> {
     }
 
     /// First fit, of words between blanks. Loops over these ask of no byte which separator it is.
-    pub(crate) fn direct_parts(&self) -> PlainParts<'a, BlankCuts>
+    pub fn direct_parts(&self) -> PlainParts<'a, BlankCuts>
         ensures splitter { result.splitter ≡ self.now.word_splitter }
         ensures first_fit { result.algorithm ≡ BuiltInAlgorithm.FirstFit }
     {

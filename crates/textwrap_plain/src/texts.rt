@@ -1,30 +1,23 @@
 //! Texts, wrapped and filled by options without functions.
-ghost use Rattle.std.specs.Prelude.{◌≡◌, ◌≢◌, ◌≤◌, ◌∷◌, [], ℕ, List, length, None, Some, IfErr, IfOk, IfSome, IsOk};
-ghost use Rattle.std.specs.Prelude.{false, if◌then◌else◌, map, string_bytes, true};
-ghost use Rattle.textwrap.specs.Columns.{IsInColumns};
+ghost use Rattle.std.specs.Prelude.{◌≡◌, ℕ, List, length, None, Some, IfErr, IfOk, IsOk, map};
+ghost use Rattle.std.specs.Prelude.{string_bytes, true};
 ghost use Rattle.textwrap.specs.Filling.{IsFilled};
-ghost use Rattle.textwrap.specs.Paragraph.{is_whole, line_view};
-ghost use Rattle.textwrap.specs.Refilling.{IsRefilled};
+ghost use Rattle.textwrap.specs.Paragraph.{line_view};
 ghost use Rattle.textwrap.specs.Text.{ArePrintedWithin, CanKeepToWidth, IsWrapped, LinesKeepToWidth};
 ghost use Rattle.textwrap.specs.WrapAlgorithms.{ByFirstFit};
 ghost use Rattle.textwrap_plain.specs.Options.{plain_algorithm, DividesPlainly, plain_settings};
 ghost use Rattle.textwrap_plain.specs.Options.{AreDirect, HasRoomForHyphen, plain_splitter};
 ghost use Rattle.textwrap_plain.specs.Hyphenated.{AddOnlyHyphens, AreTheText, LinesKeepButHyphens};
-ghost use Rattle.textwrap_text.specs.LineEnding.{paragraphs_of};
-ghost use Rattle.textwrap_text.specs.Blanks.{without_final_blanks};
 ghost use Rattle.textwrap_text.specs.LentText.{as_len, written_over};
 ghost use Rattle.textwrap_base.specs.Errors.{OnlyMemoryRunsOut};
 
 use crate::options::PlainOptions;
 use std::alloc::Global;
 use std::borrow::CowStr;
-use textwrap::inner::{refill_by, wrap_columns_by};
-use textwrap::{LineEnding, WrapError};
-use textwrap_lines::inner::{fill_by, wrap_by};
-use textwrap_lines::parts::split_paragraph;
-use textwrap_text::blanks::split_final_blanks;
+use textwrap::WrapError;
+use textwrap_layout::line_sinks::LentLines;
+use textwrap_lines::inner::{fill_by, fill_to, wrap_by};
 use textwrap_text::lent_text::LentText;
-use textwrap_text::printable::is_printable;
 
 /// Wraps a text and returns its lines, as `wrap` of `textwrap` does it.
 ///
@@ -44,8 +37,8 @@ pub fn wrap<'t>(
         (DividesPlainly options.now (plain_settings options.now)) text.now
         (map line_view lines.items)) }
     // Where paragraphs are even, lines keep to the width with their indents and hyphens, if they can.
-    ensures even { HasRoomForHyphen options.now → options.now.even_paragraphs ≡ true
-        → plain_algorithm options.now ≡ ByFirstFit → options.now.break_words ≡ true → IfOk result (λ lines. LinesKeepToWidth
+    ensures even { HasRoomForHyphen options.now → options.now.layout.even_paragraphs ≡ true
+        → plain_algorithm options.now ≡ ByFirstFit → options.now.layout.break_words ≡ true → IfOk result (λ lines. LinesKeepToWidth
         (plain_settings options.now) (DividesPlainly options.now (plain_settings options.now)) text.now
         (map line_view lines.items)) }
     // And so they do in the columns that they are printed in, if no blanks are preserved and neither
@@ -64,7 +57,7 @@ pub fn wrap<'t>(
     // And by first fit, where words are broken, a line passes its width only where it is one piece, by
     // its hyphen or as one character that takes columns.
     ensures keeps { plain_splitter options.now ≡ None → plain_algorithm options.now ≡ ByFirstFit
-        → options.now.break_words ≡ true → IfOk result (λ lines. LinesKeepButHyphens
+        → options.now.layout.break_words ≡ true → IfOk result (λ lines. LinesKeepButHyphens
         (plain_settings options.now) (DividesPlainly options.now (plain_settings options.now)) text.now
         (map line_view lines.items)) }
     ensures only_memory { OnlyMemoryRunsOut result }
@@ -86,8 +79,7 @@ pub fn fill(alloc: Global, text: &str, options: &PlainOptions<'_>) -> Result<Str
 
 /// Writes the text of [`fill`] into lent room, as much of it as there is room for, and returns how many
 /// bytes it has, or the greatest number if they are more. The rest of the room stays as it was. At
-/// blanks, by first fit and without a dictionary nothing is allocated, and of a text that is one line as
-/// a whole neither.
+/// blanks, by first fit and without a dictionary nothing is allocated.
 ///
 /// # Errors
 /// [`WrapError::Memory`] where memory runs out. Then the room is as it was.
@@ -104,50 +96,24 @@ pub fn fill_into(
     ensures kept { IfErr result (λ _. room.new ≡ room.old) }
     ensures only_memory { OnlyMemoryRunsOut result }
 {
-    if let Some(line) = only_line(text, options) {
-        return Ok(write_over(room, line));
-    }
     if options.are_direct() {
-        let parts = options.direct_parts();
-        return textwrap_lines::inner::fill_into(alloc, text, options.layout(), &parts, room);
+        let mut filled = LentText::new(room);
+        let mut lines = LentLines {
+            text: &mut filled,
+            line_ending: options.layout.line_ending,
+            has_lines: false,
+        };
+        fill_to(
+            alloc,
+            text,
+            options.layout(),
+            &options.direct_parts(),
+            &mut lines,
+        )?;
+        return Ok(filled.len());
     }
     let filled = fill(alloc, text, options)?;
     Ok(write_over(room, &filled))
-}
-
-/// The line of a text that is one as a whole. What its words are makes no difference then.
-fn only_line<'t>(text: &'t str, options: &PlainOptions<'_>) -> Option<&'t str>
-    ensures one { IfSome result (λ _.
-        paragraphs_of options.now.line_ending text.now ≡ text.now ∷ []) }
-    ensures whole { IfSome result (λ _. is_whole (plain_settings options.now) false text.now ≡ true) }
-    ensures line { IfSome result (λ line. line.now ≡ (if options.now.preserve_trailing_space
-        then text.now else without_final_blanks text.now)) }
-{
-    if !options.initial_indent.is_empty() || text.len() >= options.width {
-        return None;
-    }
-    if !is_one_paragraph(text, options.line_ending) {
-        return None;
-    }
-    if options.preserve_trailing_space {
-        return Some(text);
-    }
-    Some(split_final_blanks(text).0)
-}
-
-/// Whether a text has no line ending.
-fn is_one_paragraph(text: &str, line_ending: LineEnding) -> bool
-    ensures { result ≡ true → paragraphs_of line_ending text.now ≡ text.now ∷ [] }
-{
-    // Printable ASCII has none, and is told many bytes at a time.
-    if is_printable(text.as_bytes()) {
-        return true;
-    }
-    let (_, after) = split_paragraph(text, line_ending);
-    match after {
-        Some(_) => false,
-        None => true,
-    }
 }
 
 /// Writes a text over the front of the room, as much of it as there is room for. Returns its bytes.
@@ -158,52 +124,4 @@ fn write_over(room: &mut [u8], text: &str) -> usize
     let mut written = LentText::new(room);
     written.push(text.as_bytes());
     written.len()
-}
-
-/// Fills a filled paragraph again, with the indents that it has, as `refill` of `textwrap` does it.
-///
-/// # Errors
-/// [`WrapError::Memory`] where memory runs out.
-pub fn refill(
-    alloc: Global,
-    filled_text: &str,
-    options: &PlainOptions<'_>,
-) -> Result<String, WrapError>
-    ensures refilled { IfOk result (λ refilled. IsRefilled (plain_settings options.now)
-        (DividesPlainly options.now) filled_text.now (string_bytes refilled)) }
-    ensures only_memory { OnlyMemoryRunsOut result }
-{
-    refill_by(alloc, filled_text, options.layout(), &options.parts(alloc))
-}
-
-/// Wraps a text into columns beside one another, as `wrap_columns` of `textwrap` does it.
-///
-/// # Errors
-/// [`WrapError::Memory`] where memory runs out.
-pub fn wrap_columns(
-    alloc: Global,
-    text: &str,
-    columns: usize,
-    options: &PlainOptions<'_>,
-    left_gap: &str,
-    middle_gap: &str,
-    right_gap: &str,
-) -> Result<Vec<String>, WrapError>
-    requires some { 1 ≤ columns }
-    ensures rows { IfOk result (λ rows. IsInColumns (plain_settings options.now)
-        (DividesPlainly options.now) columns text.now left_gap.now middle_gap.now right_gap.now
-        (map string_bytes rows.items)) }
-    ensures only_memory { OnlyMemoryRunsOut result }
-{
-    let parts = options.parts(alloc);
-    wrap_columns_by(
-        alloc,
-        text,
-        columns,
-        options.layout(),
-        &parts,
-        left_gap,
-        middle_gap,
-        right_gap,
-    )
 }

@@ -11,6 +11,7 @@ use textwrap_display::{
     Alignment, Shortening, align, carry_styles, expand_tabs, fill_justified, justify, shorten,
     shorten_by, shorten_lines, shorten_lines_by,
 };
+use textwrap_layout::layout::Layout;
 
 /// What the call of this name gives on its arguments.
 pub fn answer(alloc: Global, name: &str, arguments: &[String]) -> Result<String, Fault> {
@@ -138,6 +139,7 @@ fn filled(alloc: Global, arguments: &[String]) -> Result<String, Fault> {
     let [text, settings @ ..] = arguments else {
         return Err(Fault::Malformed);
     };
-    let filled = fill_justified(alloc, text.as_str(), options(settings)?)?;
+    let options = options(settings)?;
+    let filled = fill_justified(alloc, text.as_str(), Layout::of(&options), &options)?;
     text_written(alloc, &filled)
 }

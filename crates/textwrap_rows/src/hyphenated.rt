@@ -12,7 +12,7 @@ use textwrap_layout::layout::Layout;
 use textwrap_lines::inner::fill_by;
 use textwrap_plain::{
     BuiltInAlgorithm, BuiltInSplitter, Hyphenated, PlainOptions, PlainSeparator, PlainSplitter,
-    fill, refill,
+    fill,
 };
 
 /// The text, filled or refilled with these hyphens, by options that may have functions.
@@ -48,19 +48,13 @@ fn by_plain_options(
     is_refilled: bool,
 ) -> Result<String, WrapError> {
     let plain = PlainOptions {
-        width: options.width,
-        line_ending: options.line_ending,
-        initial_indent: options.initial_indent,
-        subsequent_indent: options.subsequent_indent,
-        break_words: options.break_words,
+        layout: Layout::of(options),
         word_separator: PlainSeparator::AtBlanks,
         word_splitter,
         wrap_algorithm,
-        preserve_trailing_space: options.preserve_trailing_space,
-        even_paragraphs: options.even_paragraphs,
     };
     if is_refilled {
-        refill(alloc, text, &plain)
+        refill_by(alloc, text, plain.layout(), &plain.parts(alloc))
     } else {
         fill(alloc, text, &plain)
     }

@@ -123,6 +123,12 @@ impl Settings {
         }
     }
 
+    /// Whether the first line of a paragraph is divided for what the initial indent leaves, where the
+    /// paragraph is the first of a text or a later one.
+    pub fn has_own_width(&self, is_later: bool) -> bool {
+        !(is_later && self.even_paragraphs)
+    }
+
     /// Whether a paragraph is one line as a whole, as the first line of a text or as a later one.
     pub fn keeps_whole(&self, paragraph: &str, is_later: bool) -> bool {
         self.indent(is_later).is_empty() && paragraph.len() < self.width

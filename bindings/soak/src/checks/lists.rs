@@ -46,7 +46,7 @@ fn whole_line<'t>(paragraph: &'t str, settings: &Settings) -> &'t str {
 /// what the initial indent leaves, whatever stands before it, unless paragraphs are even.
 fn line_widths(settings: &Settings, is_later: bool) -> [usize; 2] {
     let beside = |indent| settings.width.saturating_sub(display_width(indent));
-    let first = settings.indent(is_later && settings.even_paragraphs);
+    let first = settings.indent(!settings.has_own_width(is_later));
     [beside(first), beside(settings.subsequent_indent)]
 }
 

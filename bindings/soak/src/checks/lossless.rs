@@ -59,8 +59,7 @@ fn place_paragraph<'l>(
         let Some(after) = after_slice(rest, slice, settings) else {
             return false;
         };
-        let is_even = settings.even_paragraphs && before > 0;
-        let is_first = placed.len() == before && !is_even;
+        let is_first = placed.len() == before && settings.has_own_width(before > 0);
         placed.push(PlacedLine { slice, is_first, is_whole });
         rest = after;
         if are_left_off(rest, settings) {

@@ -10,10 +10,10 @@ ghost use Rattle.filter_programs.specs.HyphenateTexts.{separator_by};
 
 use std::alloc::{AllocError, Global};
 use text_filters::filter::{Filter, Made};
-use textwrap::LineEnding;
 use textwrap::wrap_algorithms::Penalties;
 use textwrap_hyphens::points::points;
 use textwrap_hyphens::table::PatternTable;
+use textwrap_layout::layout::Layout;
 use textwrap_plain::{BuiltInAlgorithm, PlainOptions, PlainSeparator, PlainSplitter, fill};
 use textwrap_unicode::Numbers;
 
@@ -94,11 +94,7 @@ fn filling_options<'p>(how: Filling, patterns: &PatternTable<'p>) -> PlainOption
     ensures algorithm { plain_algorithm result ≡ algorithm_by how.least_cost }
 {
     PlainOptions {
-        width: how.width,
-        line_ending: LineEnding::LF,
-        initial_indent: "",
-        subsequent_indent: "",
-        break_words: true,
+        layout: Layout::new(how.width),
         word_separator: if how.breaks {
             PlainSeparator::AtBreaks(Numbers::ByPairs)
         } else {
@@ -110,8 +106,6 @@ fn filling_options<'p>(how: Filling, patterns: &PatternTable<'p>) -> PlainOption
         } else {
             BuiltInAlgorithm::FirstFit
         },
-        preserve_trailing_space: false,
-        even_paragraphs: false,
     }
 }
 

@@ -23,6 +23,7 @@ use Rattle.textwrap_layout.proofs.Common.{tiled, Line}
 use Rattle.textwrap_text.proofs.Lists.Parts.{all-left, Begins, flat}
 use Rattle.textwrap_words.proofs.Word.BrokenPieces.{broken_words-no_penalty, broken_texts-some}
 use Rattle.textwrap_layout.proofs.Paragraph.Room.{fitting-measured, fitting-plain, fitting-tile}
+use Rattle.textwrap_layout.proofs.Paragraph.Room.{wide-some}
 use Rattle.textwrap_words.proofs.Word.Words.{text_width-nil, EndsInBlanks}
 use Rattle.textwrap_words.proofs.Word.Words.{no_blanks}
 use Rattle.textwrap_words.proofs.Word.Pieces.{AreSplit-no_penalty, ArePoints-hyphens, AreSplitWords}
@@ -38,9 +39,6 @@ use Rattle.textwrap_words.specs.declared.word_separators.WordSeparator as separa
 use Rattle.textwrap_words.specs.declared.word_splitters.WordSplitter as splitters
 
 -- ---- the pieces of words at any points where they may be cut, and what lines of them cover
-
-pub wide-some : (limit : ℕ) (w : WordText) → IsMeasured w → limit < w.width → w.word ≢ []
-wide-some limit w measured wide none = search (rules, text_width-nil)
 
 tiled-front : (b : Bool) → tiled (cond b [] (empty_word ∷ [])) ≡ []
 tiled-front true = refl

@@ -24,7 +24,7 @@ one-tight limit w measured =
     subst (All (IsTight limit)) (append-nil (broken_word limit w)) (broken_words-tight limit (w ∷ [])
     (All-cons IsMeasured w [] measured (All-nil IsMeasured)))
 
-wide-some : (limit : ℕ) (w : WordText) → IsMeasured w → limit < w.width → w.word ≢ []
+pub wide-some : (limit : ℕ) (w : WordText) → IsMeasured w → limit < w.width → w.word ≢ []
 wide-some limit w measured wide none = search (rules, text_width-nil)
 
 one-tile : (limit : ℕ) (w : WordText) → IsMeasured w → tiled (broken_word limit w) ≡ tile_of w

@@ -18,7 +18,8 @@ use Rattle.textwrap_words.proofs.Word.Words.{IsNarrowWord, IsNarrowWord-measured
 use Rattle.textwrap_words.proofs.Word.Words.{tiled-map}
 use Rattle.textwrap_words.proofs.Word.BrokenPieces.{broken_words-measured, broken_words-no_penalty}
 use Rattle.textwrap_words.proofs.Word.BrokenPieces.{tiled-broken_words}
-use Rattle.textwrap_layout.proofs.Paragraph.Pieces.{broken_words-ends, flat_map-space, wide-some}
+use Rattle.textwrap_layout.proofs.Paragraph.Pieces.{broken_words-ends, flat_map-space}
+use Rattle.textwrap_layout.proofs.Paragraph.Room.{wide-some}
 use Rattle.textwrap_layout.proofs.Paragraph.LeftOff.{covered-tiled, last-part}
 use Rattle.textwrap_lines.proofs.PrintableTexts.Bytes.{begins_wide-step, BeginsWide, ends-printable}
 use Rattle.textwrap_lines.proofs.PrintableTexts.Bytes.{broken-front, flat-printable, printable-utf8}

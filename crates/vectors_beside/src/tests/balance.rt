@@ -1,16 +1,18 @@
 //! Balanced lines: the least width that takes no more lines, and the lines at it.
-ghost use Rattle.std.specs.Prelude.{◌≡◌, ◌≢◌, None, Some};
-ghost use Rattle.textwrap_words.specs.WordSplitters.{AtHyphens, splitter_view};
-ghost use Rattle.textwrap_words.specs.declared.word_separators.WordSeparator.TheVariants.{AsciiSpace};
-
 use super::hyphenated::german;
-use super::plain::{assert_count, assert_found};
+use super::plain::assert_found;
 use std::alloc::{AllocError, Allocator};
 use std::borrow::CowStr;
 use std::process::Abort;
-use textwrap::{Options, WrapAlgorithm, WrapError};
-use textwrap_plain::balancing::{balanced_width, wrap_balanced};
-use textwrap_plain::{PlainOptions, PlainSeparator, PlainSplitter};
+use textwrap::wrap_algorithms::Penalties;
+use textwrap::{Options, WrapError};
+use textwrap_layout::layout::Layout;
+use textwrap_layout::printable_cuts::BlankCuts;
+use textwrap_plain::parts::PlainParts;
+use textwrap_plain::{
+    BuiltInAlgorithm, BuiltInSplitter, PlainOptions, PlainSeparator, PlainSplitter, balanced_width,
+    wrap_balanced,
+};
 
 /// The rule, the text, the columns, the initial and the subsequent indent, the balanced width, and the
 /// lines at it.
@@ -35,40 +37,42 @@ const BALANCED: &[Row<'_>] = &[
     ("escape sequences take no columns", "\x1b[1maa\x1b[0m bb cc", 6, ["", ""], 5, &["\x1b[1maa\x1b[0m bb", "cc"]),
 ];
 
-/// Options with this width, these indents and this algorithm, and else as by default.
-fn options_of<'a>(
-    width: usize,
-    initial_indent: &'a str,
-    subsequent_indent: &'a str,
-    algorithm: WrapAlgorithm,
-) -> Options<'a>
-    ensures separator { result.word_separator ≡ AsciiSpace }
-    ensures splitter { splitter_view result.word_splitter ≡ Some AtHyphens }
-{
-    Options::new(width)
-        .initial_indent(initial_indent)
-        .subsequent_indent(subsequent_indent)
-        .wrap_algorithm(algorithm)
+/// A layout with this width and these indents, and else as by default.
+fn layout_of<'a>(width: usize, initial_indent: &'a str, subsequent_indent: &'a str) -> Layout<'a> {
+    Layout {
+        initial_indent,
+        subsequent_indent,
+        ..Layout::of(&Options::new(width))
+    }
 }
 
-/// `balanced_width`, by first fit whatever the options' own algorithm.
-fn plain_balanced_width<A: Allocator + Copy>(alloc: A, text: &str, options: &Options<'_>) -> usize
-    requires separator { options.now.word_separator ≡ AsciiSpace }
-    requires splitter { splitter_view options.now.word_splitter ≢ None }
-{
-    balanced_width(alloc, text, options)
+/// Words between blanks, split behind hyphens. The algorithm makes no difference.
+fn at_blanks() -> PlainParts<'static, BlankCuts> {
+    PlainParts {
+        words: BlankCuts {},
+        splitter: PlainSplitter::BuiltIn(BuiltInSplitter::HyphenSplitter),
+        algorithm: BuiltInAlgorithm::OptimalFit(Penalties::new()),
+    }
 }
 
-/// `wrap_balanced`.
-fn plain_wrap_balanced<'t, A: Allocator + Copy>(
+/// Whether that is the balanced width of a text.
+fn has_width<A: Allocator + Copy>(
+    alloc: A,
+    text: &str,
+    layout: Layout<'_>,
+    wanted: usize,
+) -> Result<bool, WrapError> {
+    let balance = balanced_width(alloc, text, layout, &at_blanks())?;
+    Ok(balance.width == wanted)
+}
+
+/// `wrap_balanced` at blanks.
+fn wrap_at_blanks<'t, A: Allocator + Copy>(
     alloc: A,
     text: &'t str,
-    options: &Options<'_>,
-) -> Result<Vec<CowStr<'t, A>, A>, WrapError>
-    requires separator { options.now.word_separator ≡ AsciiSpace }
-    requires splitter { splitter_view options.now.word_splitter ≢ None }
-{
-    wrap_balanced(alloc, text, options)
+    layout: Layout<'_>,
+) -> Result<Vec<CowStr<'t, A>, A>, WrapError> {
+    wrap_balanced(alloc, text, layout, &at_blanks())
 }
 
 /// Whether a call gave these lines.
@@ -94,15 +98,13 @@ pub fn are_lines<A: Allocator>(lines: &[CowStr<'_, A>], wanted: &[&str]) -> bool
 const TITLE: &str = "It was the best of times, it was the worst";
 
 /// Whether that is the balanced width of the title.
-pub fn has_width_balanced<A: Allocator + Copy>(alloc: A) -> bool {
-    let options = options_of(40, "", "", WrapAlgorithm::new());
-    plain_balanced_width(alloc, TITLE, &options) == 23
+pub fn has_width_balanced<A: Allocator + Copy>(alloc: A) -> Result<bool, WrapError> {
+    has_width(alloc, TITLE, layout_of(40, "", ""), 23)
 }
 
 /// Whether the title has these lines.
 pub fn has_lines_balanced<A: Allocator + Copy>(alloc: A) -> Result<bool, WrapError> {
-    let options = options_of(40, "", "", WrapAlgorithm::new());
-    let lines = plain_wrap_balanced(alloc, TITLE, &options);
+    let lines = wrap_at_blanks(alloc, TITLE, layout_of(40, "", ""));
     has_lines(lines, &["It was the best of", "times, it was the worst"])
 }
 
@@ -111,11 +113,13 @@ fn assert_balanced(
     rt: &(impl Abort + AllocGlobal),
     (rule, text, width, [initial, later], balanced, wanted): Row<'_>,
 ) {
-    let options = options_of(width, initial, later, WrapAlgorithm::FirstFit);
-    let found = plain_balanced_width(rt.alloc(), text, &options);
-    assert_count(rt, rule, found, balanced);
-    let lines = plain_wrap_balanced(rt.alloc(), text, &options);
-    assert_found(rt, rule, has_lines(lines, wanted));
+    let layout = layout_of(width, initial, later);
+    assert_found(rt, rule, has_width(rt.alloc(), text, layout, balanced));
+    assert_found(
+        rt,
+        rule,
+        has_lines(wrap_at_blanks(rt.alloc(), text, layout), wanted),
+    );
 }
 
 #[test]
@@ -130,9 +134,8 @@ fn lines_are_balanced(rt: HostRuntime) {
 fn a_long_text_is_balanced(rt: HostRuntime) {
     let text = "foo ".repeat(rt.alloc(), 10_000).expect(&rt, "text");
     for &(width, balanced) in &[(80, 79), (81, 79), (83, 83), (usize::MAX, 39_999)] {
-        let options = options_of(width, "", "", WrapAlgorithm::FirstFit);
-        let found = plain_balanced_width(rt.alloc(), &text, &options);
-        assert_count(&rt, "a long text", found, balanced);
+        let found = has_width(rt.alloc(), &text, layout_of(width, "", ""), balanced);
+        assert_found(&rt, "a long text", found);
     }
 }
 
@@ -152,9 +155,10 @@ fn assert_balanced_plainly(
     balanced: usize,
     wanted: &[&str],
 ) {
-    let found = textwrap_plain::balanced_width(rt.alloc(), text, options);
-    assert_found(rt, text, found.map(|width| width == balanced));
-    let lines = textwrap_plain::wrap_balanced(rt.alloc(), text, options);
+    let (layout, parts) = (options.layout(), options.parts(rt.alloc()));
+    let found = balanced_width(rt.alloc(), text, layout, &parts);
+    assert_found(rt, text, found.map(|balance| balance.width == balanced));
+    let lines = wrap_balanced(rt.alloc(), text, layout, &parts);
     assert_found(rt, text, has_lines(lines, wanted));
 }
 

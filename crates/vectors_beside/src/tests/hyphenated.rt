@@ -6,7 +6,7 @@ use std::borrow::CowStr;
 use std::process::Abort;
 use textwrap::inner::{refill_by, wrap_columns_by};
 use textwrap::{Options, WordSplitter, WrapAlgorithm, WrapError};
-use textwrap_display::inner::fill_justified_by;
+use textwrap_display::fill_justified;
 use textwrap_hyphens::dictionary::Patterns;
 use textwrap_hyphens::laws::more_patterns_raise_levels;
 use textwrap_layout::layout::Layout;
@@ -85,7 +85,7 @@ fn lines_with_hyphens_are_justified(rt: HostRuntime) -> Result<(), AllocError> {
         parts: &options,
         patterns: &table,
     };
-    let given = fill_justified_by(rt.alloc(), COLUMN, Layout::of(&options), &parts);
+    let given = fill_justified(rt.alloc(), COLUMN, Layout::of(&options), &parts);
     let wanted = "Zeilenum-\nbruch  und\nSilben-\ntrennung\nin  schma-\nlen  Spal-\nten";
     assert_gives(&rt, "a dictionary works by any parts", given, wanted);
     Ok(())

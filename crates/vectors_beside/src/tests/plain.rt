@@ -6,6 +6,7 @@ use std::borrow::CowStr;
 use std::process::Abort;
 use textwrap::{Options, WrapAlgorithm, WrapError, wrap};
 use textwrap_display::{carry_styles, fill_justified};
+use textwrap_layout::layout::Layout;
 
 /// Options with this width, these indents and this algorithm, and else as by default.
 pub fn plain_options<'a>(
@@ -44,7 +45,7 @@ pub fn plain_fill_justified<A: Allocator + Copy>(
     text: &str,
     options: Options<'_>,
 ) -> Result<String<A>, WrapError> {
-    fill_justified(alloc, text, options)
+    fill_justified(alloc, text, Layout::of(&options), &options)
 }
 
 /// Asserts what a test has found to hold.

@@ -60,7 +60,7 @@ fn is_right(heap: &Heap, call: Call, allowed: usize) -> Result<bool, WrapError> 
         Call::FillJustified => is_filled(heap),
         Call::Table => is_table(heap),
         Call::FittingWidths => is_fitted(heap),
-        Call::BalancedWidth => Ok(has_width_balanced(heap)),
+        Call::BalancedWidth => has_width_balanced(heap),
         Call::WrapBalanced => has_lines_balanced(heap),
     }
 }

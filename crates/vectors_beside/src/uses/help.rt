@@ -8,7 +8,7 @@ ghost use Rattle.textwrap.specs.Errors.{OnlyMemoryRunsOut};
 
 use std::alloc::Global;
 use textwrap::{Options, WrapError, fill};
-use textwrap_display::laws::{fitting_widths_add_up, table_rows_are_even};
+use textwrap_display::laws::{fitting_widths_add_up, table_rows_are_even, tables_have_named_parts};
 use textwrap_display::{Alignment, Column, Gaps, Need, fitting_widths, needs_of, table};
 
 /// The help of a flag: the flag, and beside it the text, filled at the width. Later lines are
@@ -61,6 +61,7 @@ pub fn help_rows(
         middle: "  ",
         right: "",
     };
+    tables_have_named_parts(&columns);
     let rows = table(alloc, entries, &columns, &gaps)?;
     Ok(rows)
 }

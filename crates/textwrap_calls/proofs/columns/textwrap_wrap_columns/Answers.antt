@@ -9,10 +9,16 @@ use Rattle.textwrap_calls.{proofs.ReadOptions.as-read, specs.Columns.AreTextGaps
 pub returns-clause-columns : goal.returns-clause-columns
 returns-clause-columns c =
     let texts = c.in-Ok-Ok-Ok-Ok in
-    let rows = map string_bytes c.in-Ok-wrap_columns.found.items in
+    let rows = map string_bytes c.in-Ok-wrap_columns_by.found.items in
     let are = as-read c.args.options.now c.in-Ok.options c.in-Ok.ensures.read
     (λ s Divides. IsInColumns s Divides c.args.columns texts.text.now texts.left.now
-    texts.middle.now texts.right.now rows) c.in-Ok-wrap_columns.ensures.rows in
+    texts.middle.now texts.right.now rows)
+    (rw (
+      c.layout-layout.ensures,
+      c.parts-parts.ensures.words,
+      c.parts-parts.ensures.splitter,
+      c.parts-parts.ensures.algorithm,
+    ) at c.in-Ok-wrap_columns_by.ensures.rows) in
     let here = rw (
       texts.ensures.0,
       texts.ensures'.0,
@@ -50,8 +56,8 @@ pub returns-in_default-clause-unknown : goal.returns-in_default-clause-unknown
 returns-in_default-clause-unknown c = not-unknown _ _ _ _ (omega arith)
     (omega arith) c.in-Ok.ensures.known (c.if-not-are_known_gaps.ensures.0 refl)
 
-pub returns-in_default-wrap_columns-clause-unknown : goal.returns-in_default-wrap_columns-clause-unknown
-returns-in_default-wrap_columns-clause-unknown c = not-unknown _ _ _ _ (omega arith)
+pub returns-in_default-wrap_columns_by-clause-unknown : goal.returns-in_default-wrap_columns_by-clause-unknown
+returns-in_default-wrap_columns_by-clause-unknown c = not-unknown _ _ _ _ (omega arith)
     (omega arith) c.in-Ok.ensures.known (c.if-not-are_known_gaps.ensures.0 refl)
 
 pub returns-in_default-place_rows-clause-unknown : goal.returns-in_default-place_rows-clause-unknown
@@ -62,8 +68,8 @@ pub returns-clause-unknown : goal.returns-clause-unknown
 returns-clause-unknown c = not-unknown _ _ _ _ (omega (arith, c.put_lines.ensures.statuses))
     (omega arith) c.in-Ok.ensures.known (c.if-not-are_known_gaps.ensures.0 refl)
 
-pub returns-in_default-wrap_columns-clause-not_utf8 : goal.returns-in_default-wrap_columns-clause-not_utf8
-returns-in_default-wrap_columns-clause-not_utf8 c =
+pub returns-in_default-wrap_columns_by-clause-not_utf8 : goal.returns-in_default-wrap_columns_by-clause-not_utf8
+returns-in_default-wrap_columns_by-clause-not_utf8 c =
     let t = c.in-Ok-Ok-Ok-Ok in
     not-not_utf8 _ _ _ _ _ (omega arith) t.ensures.1 c.in-Ok.ensures.texts
     t.ensures'.1 t.ensures''.1 t.ensures'''.1

@@ -8,6 +8,7 @@ returns-in-Ok-fill_justified-clause-filled c =
     let text = c.in-Ok-from_utf8.text.now in
     let filled = as-read c.args.options.now c.in-Ok.options c.in-Ok.ensures.read
     (λ s Divides. IsJustifiedText s (Divides s) text (string_bytes c.in-Ok-fill_justified.filled))
-    c.in-Ok-fill_justified.ensures.filled in
+    (rw (c.layout.ensures, c.parts.ensures.words, c.parts.ensures.splitter, c.parts.ensures.algorithm)
+    at c.in-Ok-fill_justified.ensures.filled) in
     WritesText-answer (rw c.in-Ok-from_utf8.ensures.0 at filled)
     (rw c.as_bytes.ensures.value at c.put.ensures.text)

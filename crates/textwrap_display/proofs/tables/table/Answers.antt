@@ -1,10 +1,63 @@
 use Rattle.textwrap_display.proofs.tables.table.Goals as goal
-use Rattle.std.proofs.lemmas.Result.{IfOk-weaker}
-use Rattle.textwrap_display.proofs.TableGroups.{table-as}
-use Rattle.textwrap_display.specs.Tables.{gaps_view, texts_in}
-use Rattle.textwrap_text.proofs.Common.{map, string_bytes}
+use Rattle.std.specs.Slice.Iter.{chunks_rest}
+use Rattle.textwrap_display.proofs.TableGroups.{IsFirstGroup, group-map, groups-more, table-more}
+use Rattle.textwrap_display.proofs.{TableGroups.table-none, tables.table.Goals.In-Some}
+use Rattle.textwrap_display.specs.Tables.{IsTableBy, NonePasses, cell_texts, gaps_view, group_rows}
+use Rattle.textwrap_display.specs.Tables.{texts_in}
+use Rattle.textwrap_lines.proofs.Paragraph.KeepsTo.{passed-on}
+use Rattle.textwrap_text.proofs.Common.{All-head, All-tail, [], append-nil, append_assoc, arith}
+use Rattle.textwrap_text.proofs.Common.{length, length-map, map, rules, string_bytes, subst, ◌++◌}
+use Rattle.textwrap_text.proofs.Common.{◌∙◌}
 
-pub returns-clause-built_in : goal.returns-clause-built_in
-returns-clause-built_in g c = IfOk-weaker c.table_by.result _ _ (λ rows is parts have.
-    table-as c.args.columns.now parts have (gaps_view c.args.gaps.now) (texts_in c.args.cells.now)
-    (map string_bytes rows.items) is) c.table_by.ensures.rows
+pub loop-texts-init : goal.loop-texts-init
+loop-texts-init g c = search (rules, arith)
+
+first_group : (g : _) (c : In-Some g) → IsFirstGroup (length c.args.columns.now)
+    (texts_in (chunks_rest c.loop-texts.texts-iterator)) (texts_in c.in-Some.texts.now)
+    (texts_in (chunks_rest c.next.new.self))
+first_group g c =
+    let (size, (whole, front, some)) = c.in-Some.ensures.steps in
+    group-map (λ text. text.now) (length c.args.columns.now)
+    (chunks_rest c.loop-texts.texts-iterator) c.in-Some.texts.now (chunks_rest c.next.new.self)
+    (record {
+      some = omega (arith, c.loop-texts.iterator.0, c.loop-texts.invariant.0);
+      whole = whole;
+      more = omega (arith, some);
+      size = omega (arith, front, c.loop-texts.invariant.0);
+    })
+
+pub loop-texts-preserved : goal.loop-texts-preserved
+loop-texts-preserved g c =
+    let columns = c.args.columns.now in
+    let gaps = gaps_view c.args.gaps.now in
+    let cells = cell_texts c.deref.result.now in
+    let first = first_group g (goal.at.loop-texts-preserved g c).In-Some in (
+      c.in-Some.ensures.steps.0 ∙ c.loop-texts.invariant.0,
+      λ others after. rw (c.in_ok-push_group.ensures, append_assoc) (c.loop-texts.invariant.1
+          (group_rows gaps (map g.C.AnyColumn.shape columns) cells ++ others)
+          (table-more g.C.AnyColumn.makes g.C.AnyColumn.shape columns gaps cells others first
+          (rw c.deref.ensures.value c.in_ok-group.ensures.cells) after)),
+      λ fit. All-tail (NonePasses g.C.AnyColumn.may_pass columns) _ _
+          (rw (groups-more _ _ _ _ first) at (c.loop-texts.invariant.2 fit)),
+    )
+
+pub returns-in_err-group-clause-only_memory : goal.returns-in_err-group-clause-only_memory
+returns-in_err-group-clause-only_memory g c =
+    search (rules, arith, passed-on, c.from_residual.ensures.1, c.in_err-group.ensures.only_memory)
+
+pub returns-in_err-group-clause-no_overflow : goal.returns-in_err-group-clause-no_overflow
+returns-in_err-group-clause-no_overflow g c = λ fit.
+    passed-on c.from_residual.result c.in_err-group.field-0.0 c.from_residual.ensures.1
+    (c.in_err-group.ensures.no_overflow
+    (All-head (NonePasses g.C.AnyColumn.may_pass c.args.columns.now) _ _ (rw (groups-more _ _ _ _
+    (first_group g (goal.at.returns-in_err-group-clause-no_overflow g c).In-Some))
+    at (c.loop-texts.invariant.2 fit))))
+
+pub returns-clause-rows : goal.returns-clause-rows
+returns-clause-rows g c =
+    subst (IsTableBy g.C.AnyColumn.makes g.C.AnyColumn.shape c.args.columns.now (gaps_view c.args.gaps.now) (texts_in c.args.cells.now))
+    (append-nil (map string_bytes c.loop-texts.rows.items))
+    (c.loop-texts.invariant.1 [] (table-none g.C.AnyColumn.makes g.C.AnyColumn.shape c.args.columns.now
+    (gaps_view c.args.gaps.now) (texts_in (chunks_rest c.loop-texts.texts-iterator))
+    (length-map (chunks_rest c.loop-texts.texts-iterator) (λ text. text.now)
+    ∙ c.in-None.ensures.steps.1.0)))

@@ -1,14 +1,17 @@
 use Rattle.textwrap_plain.proofs.balancing.count_lines.Goals as goal
 use Rattle.textwrap_layout.proofs.Common.{layout_view}
+use Rattle.textwrap_lines.proofs.Common.{lines_of, places_of}
 use Rattle.textwrap_plain.proofs.Balance.{Counted.counted, Counts.points_by-inside}
 use Rattle.textwrap_plain.specs.{CutSides.points_by-cuts, Options.points_by}
-use Rattle.textwrap_text.proofs.Common.{arith}
+use Rattle.textwrap_text.proofs.Common.{ap, arith, rules, ◌∙◌}
 
 pub returns-clause-counted : goal.returns-clause-counted
 returns-clause-counted g c =
     let parts = c.args.parts.now in
-    let (lines, places, are, writes) = c.in_ok-counts.ensures.lines in
+    let (taken, are, end, holds) = c.in_ok-fill_to.ensures.lines in
     counted (g.W.PrintableCuts.words parts.words) (g.met.W.PrintableCuts.are_cut parts.words)
     (points_by parts.splitter) (points_by-cuts parts.splitter) (points_by-inside parts.splitter)
-    (layout_view c.args.layout) c.args.text.now c.args.width _ lines places c.utf8.text
-    (omega arith) are writes.lines.len_is
+    (layout_view c.args.layout) c.args.text.now c.args.width _ (lines_of taken) (places_of 0 taken)
+    c.utf8.text (omega arith)
+    (record { are = are.are; places_are = ap (places_of 0) are.cuts_are })
+    (c.counts.ensures.lines ∙ (search rules ∙ holds.placed.lines.len_is))

@@ -1,22 +1,18 @@
 use Rattle.textwrap_plain.proofs.balancing.wrap_balanced.Goals as goal
 use Rattle.std.proofs.lemmas.Result.{IfOk-weaker}
-use Rattle.textwrap_layout.proofs.Common.{Line, layout_view, line_view}
-use Rattle.textwrap_plain.proofs.Named.{by-splitter}
-use Rattle.textwrap_plain.specs.Balance.{AreBalanced, AreFirstFitAt}
-use Rattle.textwrap_text.proofs.Common.{List, ap, length, map, ◌≡◌}
-use Rattle.textwrap_words.proofs.Common.{words_of}
+use Rattle.textwrap_layout.proofs.Common.{layout_view}
+use Rattle.textwrap_plain.{proofs.Balance.Search.balanced-many, specs.Options.points_by}
+use Rattle.textwrap_text.proofs.Common.{length-map, sym, ◌∙◌}
 
 pub returns-clause-lines : goal.returns-clause-lines
-returns-clause-lines g c =
-    IfOk-weaker c.wrap_balanced_by.result _ _ (λ lines are splitter is.
-    by-splitter (λ s p. AreBalanced s words_of p c.args.text.now (map line_view lines.items)) _
-    splitter _ (ap layout_view c.of.ensures) c.at_blanks.ensures is are)
-    c.wrap_balanced_by.ensures.lines
+returns-clause-lines g c = IfOk-weaker c.wrap_by.result _ _
+    (λ lines are. (c.in_ok-balance.balance.width, c.in_ok-balance.ensures.balanced, are))
+    c.wrap_by.ensures.lines
 
 pub returns-clause-as_many : goal.returns-clause-as_many
 returns-clause-as_many g c =
-    IfOk-weaker c.wrap_balanced_by.result _ _ (λ lines many splitter is.
-    by-splitter (λ s p. (others : List Line) → AreFirstFitAt s words_of p c.args.text.now s.width others
-    → length lines.items ≡ length others) _ splitter _ (ap layout_view c.of.ensures)
-    c.at_blanks.ensures is many)
-    c.wrap_balanced_by.ensures.as_many
+    IfOk-weaker c.wrap_by.result _ _ (λ lines are others other_are.
+    sym (length-map lines.items _)
+    ∙ balanced-many (layout_view c.args.layout) (g.W.PrintableCuts.words c.args.parts.now.words)
+    (points_by c.args.parts.now.splitter) c.args.text.now c.in_ok-balance.balance.width _
+    others c.in_ok-balance.ensures.balanced are other_are) c.wrap_by.ensures.lines

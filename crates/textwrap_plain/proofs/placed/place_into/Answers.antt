@@ -1,20 +1,46 @@
 use Rattle.textwrap_plain.proofs.placed.place_into.Goals as goal
+use Rattle.textwrap_layout.proofs.Common.{built_text}
+use Rattle.textwrap_layout.specs.LentPlaces.{reported_line}
+use Rattle.textwrap_lines.proofs.Common.{ap, lines_of, map, places_of, rules, ◌∙◌}
+use Rattle.textwrap_text.specs.LentText.{written_over}
 
 pub returns-then-are_direct-clause-lines : goal.returns-then-are_direct-clause-lines
 returns-then-are_direct-clause-lines c =
     let direct = c.are_direct.ensures.0 c.if-are_direct.true in
-    let parts = c.direct_parts-parts.ensures in
-    rw (direct.separator, direct.algorithm)
-    (rw (c.layout.ensures, parts.splitter, parts.first_fit) at c.place_into.ensures.lines)
-
-pub returns-then-are_direct-clause-done : goal.returns-then-are_direct-clause-done
-returns-then-are_direct-clause-done c = λ direct.
-    let parts = c.direct_parts-parts.ensures in
-    c.place_into.ensures.done (parts.first_fit, tt, rw parts.splitter direct.splitter)
+    let parts = c.direct_parts.ensures in
+    let (taken, found, end, holds) = c.in_ok-fill_to.ensures.lines in
+    let are = rw (c.layout-layout.ensures, parts.splitter, parts.first_fit) at found in
+    let places = places_of 0 taken in
+    let built = built_text (lines_of taken) in
+    let none = c.new-placed.ensures.none in
+    rw (direct.separator, direct.algorithm) (
+      lines_of taken,
+      places,
+      record { are = are.are; places_are = ap (places_of 0) are.cuts_are },
+      record {
+        lines = record {
+          room_is = search rules ∙ holds.placed.lines.room_is
+              ∙ ap (λ before. written_over before (map reported_line places))
+              (none.lines.room_is ∙ search rules);
+          len_is = c.counts.ensures.lines ∙ (search rules ∙ holds.placed.lines.len_is);
+        };
+        text = record {
+          room_is = search rules ∙ holds.placed.text.room_is
+              ∙ ap (λ before. written_over before built) (none.text.room_is ∙ search rules);
+          len_is = c.counts.ensures.built ∙ (search rules ∙ holds.placed.text.len_is);
+        };
+      },
+    )
 
 pub returns-clause-lines : goal.returns-clause-lines
 returns-clause-lines c =
-    let (lines, are, built) = c.in_ok-placed.ensures.lines in
-    let writes = rw (c.as_slice.ensures.value, c.as_slice-2.ensures.value, built)
-    at c.write_places.ensures in
-    (lines, c.in_ok-placed.placed.places.items, are, writes)
+    let (taken, found, end, holds) = c.in_ok-fill_to-2.ensures.lines in
+    let are = rw (c.layout-layout.ensures, c.parts.ensures.words, c.parts.ensures.splitter, c.parts.ensures.algorithm) at found
+    in
+    let writes = rw (c.as_slice.ensures.value, c.as_slice-2.ensures.value, holds.built)
+    at c.write_places.ensures in (
+      lines_of taken,
+      _,
+      record { are = are.are; places_are = holds.places ∙ ap (places_of 0) are.cuts_are },
+      writes,
+    )

@@ -1,4 +1,4 @@
-use Rattle.textwrap_display.proofs.tables.table_by.Given as goal
+use Rattle.textwrap_display.proofs.tables.table.Given as goal
 use Rattle.std.specs.Slice.Iter.{chunks_rest, chunks_size}
 use Rattle.textwrap_display.specs.Tables.{IsTableBy, NonePasses, gaps_view, groups_of, texts_in}
 use Rattle.textwrap_text.proofs.Common.{All, List, length, map, string_bytes, ℕ, ◌++◌, ◌≡◌}

@@ -1,4 +1,4 @@
-use Rattle.textwrap_display.proofs.filling.fill_justified_by.Given as goal
+use Rattle.textwrap_display.proofs.filling.fill_justified.Given as goal
 use Rattle.textwrap_display.proofs.Common.{bytes_left, layout_view, paragraphs_left}
 use Rattle.textwrap_display.proofs.JustifiedLines.{IsJustifiedSoFar}
 use Rattle.textwrap_layout.specs.Paragraph.{DividesWith}

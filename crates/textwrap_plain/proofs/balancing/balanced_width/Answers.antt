@@ -1,8 +1,8 @@
-use Rattle.textwrap_plain.proofs.balancing.balanced_width_by.Goals as goal
+use Rattle.textwrap_plain.proofs.balancing.balanced_width.Goals as goal
 use Rattle.textwrap_layout.{proofs.Common.layout_view, specs.declared.layout.Layout.Layout}
 use Rattle.textwrap_plain.proofs.Balance.{Room.room-from, Room.room-least, Search.balanced-none}
-use Rattle.textwrap_plain.proofs.balancing.balanced_width_by.Goals.{then-indent-width-via-else-indent-width+then-widest-width}
-use Rattle.textwrap_plain.proofs.balancing.balanced_width_by.Goals.{then-indent-width-via-then-indent-width}
+use Rattle.textwrap_plain.proofs.balancing.balanced_width.Goals.{then-indent-width-via-else-indent-width+then-widest-width}
+use Rattle.textwrap_plain.proofs.balancing.balanced_width.Goals.{then-indent-width-via-then-indent-width}
 use Rattle.textwrap_plain.specs.{Balance.wider_indent, Options.points_by}
 use Rattle.textwrap_text.proofs.Common.{ap, arith, max, text_width, ℕ, ◌∙◌, ◌≡◌}
 

@@ -1,4 +1,4 @@
-use Rattle.textwrap_plain.proofs.display.PlainColumnAnyColumnGlobal.wrap_cell.Goals as goal
+use Rattle.textwrap_plain.proofs.columns.PlainColumnAnyColumnGlobal.wrap_cell.Goals as goal
 
 pub returns-clause-lines : goal.returns-clause-lines
 returns-clause-lines c =

@@ -1,0 +1,9 @@
+use Rattle.textwrap_calls.proofs.tables.place_table.Goals as goal
+use Rattle.textwrap_calls.proofs.Common.{arith}
+use Rattle.textwrap_plain.proofs.Named.{plain-table}
+use Rattle.textwrap_text.proofs.Common.{rules}
+
+pub returns : goal.returns
+returns c =
+    let table = plain-table _ _ _ _ c.in_ok-rows.ensures.rows in
+    search (rules, arith, table)

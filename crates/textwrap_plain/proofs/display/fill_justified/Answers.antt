@@ -1,6 +1,0 @@
-use Rattle.textwrap_plain.proofs.display.fill_justified.Goals as goal
-
-pub returns-clause-filled : goal.returns-clause-filled
-returns-clause-filled c =
-    rw (c.layout.ensures, c.parts.ensures.words, c.parts.ensures.splitter, c.parts.ensures.algorithm)
-    at c.fill_justified_by.ensures.filled

@@ -1,6 +1,0 @@
-use Rattle.textwrap_plain.proofs.placed.place_lines.Goals as goal
-
-pub returns-clause-lines : goal.returns-clause-lines
-returns-clause-lines c =
-    rw (c.layout.ensures, c.parts.ensures.words, c.parts.ensures.splitter, c.parts.ensures.algorithm)
-    at c.place_lines_by.ensures.lines

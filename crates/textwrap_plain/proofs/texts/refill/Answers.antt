@@ -1,6 +1,0 @@
-use Rattle.textwrap_plain.proofs.texts.refill.Goals as goal
-
-pub returns-clause-refilled : goal.returns-clause-refilled
-returns-clause-refilled c =
-    rw (c.layout.ensures, c.parts.ensures.words, c.parts.ensures.splitter, c.parts.ensures.algorithm)
-    at c.refill_by.ensures.refilled

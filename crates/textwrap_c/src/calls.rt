@@ -15,8 +15,7 @@ ghost use Rattle.textwrap_calls.specs.Columns.{AreKnownGaps, AreRows, AreTextGap
 ghost use Rattle.textwrap_calls.specs.Display.{AreShort, IsShort, alignment_of};
 ghost use Rattle.textwrap_calls.specs.Options.{AreKnown, ArePlacedBy, AreTexts, Divides};
 ghost use Rattle.textwrap_calls.specs.Options.{IsFilledByOptions, IsRefilledBy, NeedsNoMemory};
-ghost use Rattle.textwrap_calls.specs.Options.{TellsNotUtf8, TellsUnknown, options_settings};
-ghost use Rattle.textwrap_calls.specs.Options.{says_yes};
+ghost use Rattle.textwrap_calls.specs.Options.{TellsFaults, options_settings, says_yes};
 ghost use Rattle.textwrap_calls.specs.Refilling.{IsLayout};
 ghost use Rattle.textwrap_calls.specs.Room.{WritesLong, WritesText};
 ghost use Rattle.textwrap_calls.specs.Status.{done, not_utf8, out_of_memory, too_small};
@@ -223,9 +222,8 @@ pub extern "C" fn textwrap_fill_justified(
     ensures filled { WritesText (IsJustifiedText (options_settings options.now)
         (Divides options.now (options_settings options.now)) text.now)
         result room.old room.new len.old len.new }
-    ensures unknown { TellsUnknown result options.now }
-    ensures not_utf8 { TellsNotUtf8 result options.now text.now }
-    ensures statuses { result ≤ unknown_options }
+    ensures faults { TellsFaults result (AreKnown options.now)
+        (IsUtf8 text.now × AreTexts options.now) }
 {
     display::textwrap_fill_justified(alloc, text, options, room, len)
 }
@@ -297,10 +295,9 @@ pub extern "C" fn textwrap_fill(
 ) -> u32
     ensures filled { WritesLong (IsFilledByOptions options.now text.now)
         result room.old room.new len.old len.new }
-    ensures unknown { TellsUnknown result options.now }
-    ensures not_utf8 { TellsNotUtf8 result options.now text.now }
+    ensures faults { TellsFaults result (AreKnown options.now)
+        (IsUtf8 text.now × AreTexts options.now) }
     ensures no_memory { NeedsNoMemory result options.now }
-    ensures statuses { result ≤ unknown_options }
 {
     filling::textwrap_fill(alloc, text, options, room, len)
 }
@@ -317,10 +314,8 @@ pub extern "C" fn textwrap_fill_utf8(
     requires { IsUtf8 text.now }
     ensures filled { WritesLong (IsFilledByOptions options.now text.now)
         result room.old room.new len.old len.new }
-    ensures unknown { TellsUnknown result options.now }
-    ensures not_utf8 { result ≡ not_utf8 ↔ AreKnown options.now × ¬ AreTexts options.now }
+    ensures faults { TellsFaults result (AreKnown options.now) (AreTexts options.now) }
     ensures no_memory { NeedsNoMemory result options.now }
-    ensures statuses { result ≤ unknown_options }
 {
     filling::textwrap_fill_utf8(alloc, text, options, room, len)
 }
@@ -477,10 +472,8 @@ pub extern "C" fn textwrap_carry_styles(
         WritesLines (λ answer _. AreRows (λ rows. rows ≡ map line_bytes (carried_lines
         settings.initial_indent settings.subsequent_indent [] (bytes_of lines.now))) answer)
         [] result places.old places.new count.old count.new room.old room.new len.old len.new }
-    ensures unknown { TellsUnknown result options.now }
-    ensures not_utf8 { result ≡ not_utf8 ↔ AreKnown options.now
-        × ¬ (All IsText lines.now × AreTexts options.now) }
-    ensures statuses { result ≤ unknown_options }
+    ensures faults { TellsFaults result (AreKnown options.now)
+        (All IsText lines.now × AreTexts options.now) }
 {
     line_lists::textwrap_carry_styles(alloc, lines, options, places, count, room, len)
 }
@@ -496,9 +489,8 @@ pub extern "C" fn textwrap_refill(
 ) -> u32
     ensures refilled { WritesText (IsRefilledBy options.now text.now)
         result room.old room.new len.old len.new }
-    ensures unknown { TellsUnknown result options.now }
-    ensures not_utf8 { TellsNotUtf8 result options.now text.now }
-    ensures statuses { result ≤ unknown_options }
+    ensures faults { TellsFaults result (AreKnown options.now)
+        (IsUtf8 text.now × AreTexts options.now) }
 {
     refilling::textwrap_refill(alloc, text, options, room, len)
 }
@@ -515,9 +507,7 @@ pub extern "C" fn textwrap_refill_utf8(
     requires { IsUtf8 text.now }
     ensures refilled { WritesText (IsRefilledBy options.now text.now)
         result room.old room.new len.old len.new }
-    ensures unknown { TellsUnknown result options.now }
-    ensures not_utf8 { result ≡ not_utf8 ↔ AreKnown options.now × ¬ AreTexts options.now }
-    ensures statuses { result ≤ unknown_options }
+    ensures faults { TellsFaults result (AreKnown options.now) (AreTexts options.now) }
 {
     refilling::textwrap_refill_utf8(alloc, text, options, room, len)
 }
@@ -657,10 +647,9 @@ pub extern "C" fn textwrap_wrap(
 ) -> u32
     ensures wrapped { WritesLongLines (ArePlacedBy options.now text.now)
         text.now result lines.old lines.new count.old count.new room.old room.new len.old len.new }
-    ensures unknown { TellsUnknown result options.now }
-    ensures not_utf8 { TellsNotUtf8 result options.now text.now }
+    ensures faults { TellsFaults result (AreKnown options.now)
+        (IsUtf8 text.now × AreTexts options.now) }
     ensures no_memory { NeedsNoMemory result options.now }
-    ensures statuses { result ≤ unknown_options }
 {
     wrapping::textwrap_wrap(alloc, text, options, lines, count, room, len)
 }
@@ -679,10 +668,8 @@ pub extern "C" fn textwrap_wrap_utf8(
     requires { IsUtf8 text.now }
     ensures wrapped { WritesLongLines (ArePlacedBy options.now text.now)
         text.now result lines.old lines.new count.old count.new room.old room.new len.old len.new }
-    ensures unknown { TellsUnknown result options.now }
-    ensures not_utf8 { result ≡ not_utf8 ↔ AreKnown options.now × ¬ AreTexts options.now }
+    ensures faults { TellsFaults result (AreKnown options.now) (AreTexts options.now) }
     ensures no_memory { NeedsNoMemory result options.now }
-    ensures statuses { result ≤ unknown_options }
 {
     wrapping::textwrap_wrap_utf8(alloc, text, options, lines, count, room, len)
 }

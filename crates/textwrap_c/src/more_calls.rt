@@ -10,10 +10,10 @@ ghost use Rattle.textwrap_base.specs.OptimalFit.{IsByOptimalFit};
 ghost use Rattle.textwrap_base.specs.Table.{TableOverflows};
 ghost use Rattle.textwrap_calls.specs.Columns.{AreRows};
 ghost use Rattle.textwrap_calls.specs.Dictionary.{IsDamaged, IsKnownDictionary, hyphenation_of};
-ghost use Rattle.textwrap_calls.specs.Options.{AreKnown, AreTexts, TellsNotUtf8, TellsUnknown};
-ghost use Rattle.textwrap_calls.specs.Options.{have_dictionary, numbers_by, options_algorithm};
-ghost use Rattle.textwrap_calls.specs.Options.{options_points, options_settings, says_yes};
-ghost use Rattle.textwrap_calls.specs.Options.{separator_of, step_settings};
+ghost use Rattle.textwrap_calls.specs.Options.{AreKnown, AreTexts, TellsFaults, TellsNotUtf8};
+ghost use Rattle.textwrap_calls.specs.Options.{TellsUnknown, have_dictionary, numbers_by};
+ghost use Rattle.textwrap_calls.specs.Options.{options_algorithm, options_points, options_settings};
+ghost use Rattle.textwrap_calls.specs.Options.{says_yes, separator_of, step_settings};
 ghost use Rattle.textwrap_calls.specs.Room.{WritesText};
 ghost use Rattle.textwrap_calls.specs.Status.{done, not_utf8, out_of_memory, overflow, too_small};
 ghost use Rattle.textwrap_calls.specs.Status.{unknown_options, wrong_places};
@@ -77,10 +77,8 @@ pub extern "C" fn textwrap_carry_attributes(
         WritesLines (λ answer _. AreRows (λ rows. rows ≡ map line_bytes (carried_lines
         settings.initial_indent settings.subsequent_indent [] (bytes_of lines.now))) answer)
         [] result places.old places.new count.old count.new room.old room.new len.old len.new }
-    ensures unknown { TellsUnknown result options.now }
-    ensures not_utf8 { result ≡ not_utf8 ↔ AreKnown options.now
-        × ¬ (All IsText lines.now × AreTexts options.now) }
-    ensures statuses { result ≤ unknown_options }
+    ensures faults { TellsFaults result (AreKnown options.now)
+        (All IsText lines.now × AreTexts options.now) }
 {
     attributes::textwrap_carry_attributes(alloc, lines, options, places, count, room, len)
 }
@@ -100,11 +98,9 @@ pub extern "C" fn textwrap_wrap_balanced(
         text.now result lines.old lines.new count.old count.new room.old room.new len.old len.new }
     ensures as_many { (result ≡ done) ⊎ (result ≡ too_small) → (others : List Line)
         → AreByFirstFit options.now text.now others → count.new ≡ length others }
-    ensures unknown { TellsUnknown result options.now }
-    ensures not_utf8 { TellsNotUtf8 result options.now text.now }
+    ensures faults { TellsFaults result (AreKnown options.now) (IsUtf8 text.now × AreTexts options.now) }
     ensures no_memory { options.now.unicode_breaks ≡ 0 → have_dictionary options.now ≡ false
         → result ≢ out_of_memory }
-    ensures statuses { result ≤ unknown_options }
 {
     balancing::textwrap_wrap_balanced(alloc, text, options, lines, count, room, len)
 }
@@ -319,9 +315,8 @@ pub extern "C" fn textwrap_paragraphs(
         ≡ paragraph_places (length (ending_bytes (options_settings options.now).line_ending)) 0
         (paragraphs_of (options_settings options.now).line_ending text.now))
         result paragraphs.old paragraphs.new count.old count.new }
-    ensures unknown { TellsUnknown result options.now }
-    ensures not_utf8 { TellsNotUtf8 result options.now text.now }
-    ensures statuses { result ≤ unknown_options }
+    ensures faults { TellsFaults result (AreKnown options.now)
+        (IsUtf8 text.now × AreTexts options.now) }
 {
     paragraphs::textwrap_paragraphs(alloc, text, options, paragraphs, count)
 }
@@ -357,9 +352,8 @@ pub extern "C" fn textwrap_pieces(
     ensures pieces { WritesText (λ answer. answer ≡ piece_places 0 (broken_pieces_of
         (options_settings options.now) (split_by_points (options_points options.now)
         (words_by (separator_of options.now) paragraph.now)))) result pieces.old pieces.new count.old count.new }
-    ensures unknown { TellsUnknown result options.now }
-    ensures not_utf8 { TellsNotUtf8 result options.now paragraph.now }
-    ensures statuses { result ≤ unknown_options }
+    ensures faults { TellsFaults result (AreKnown options.now)
+        (IsUtf8 paragraph.now × AreTexts options.now) }
 {
     pieces::textwrap_pieces(alloc, paragraph, options, pieces, count)
 }

@@ -1,8 +1,8 @@
 //! Texts of many paragraphs, in which marks stand before the words.
-ghost use Rattle.std.specs.Prelude.{IsUtf8, ◌↔◌, ◌≡◌, ◌≤◌};
+ghost use Rattle.std.specs.Prelude.{IsUtf8};
+ghost use Rattle.textwrap_calls.specs.Options.{TellsFaults};
 ghost use Rattle.textwrap_calls.specs.Reflowing.{AreKnown, AreTexts, IsReflowedBy};
 ghost use Rattle.textwrap_calls.specs.Room.{WritesText};
-ghost use Rattle.textwrap_calls.specs.Status.{not_utf8, unknown_options};
 
 use std::alloc::Global;
 use textwrap_calls::reflowing;
@@ -19,10 +19,8 @@ pub extern "C" fn textwrap_reflow(
 ) -> u32
     ensures reflowed { WritesText (IsReflowedBy options.now text.now)
         result room.old room.new len.old len.new }
-    ensures unknown { result ≡ unknown_options ↔ ¬ AreKnown options.now }
-    ensures not_utf8 { result ≡ not_utf8 ↔ AreKnown options.now
-        × ¬ (IsUtf8 text.now × AreTexts options.now) }
-    ensures statuses { result ≤ unknown_options }
+    ensures faults { TellsFaults result (AreKnown options.now)
+        (IsUtf8 text.now × AreTexts options.now) }
 {
     reflowing::textwrap_reflow(alloc, text, options, room, len)
 }

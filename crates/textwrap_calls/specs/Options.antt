@@ -128,6 +128,12 @@ TellsUnknown status o = status ≡ unknown_options ↔ ¬ AreKnown o
 abbrev pub TellsNotUtf8 : ℕ → TextwrapOptions → List ℕ → Type 0
 TellsNotUtf8 status o text = status ≡ not_utf8 ↔ AreKnown o × ¬ (IsUtf8 text × AreTexts o)
 
+-- both, where so much has to be known and so much has to be text, and nothing beyond UNKNOWN_OPTIONS
+pub record TellsFaults (status : ℕ) (Known Texts : Type 0) : Type 0 where
+  pub unknown : status ≡ unknown_options ↔ ¬ Known
+  pub not_utf8 : status ≡ not_utf8 ↔ Known × ¬ Texts
+  pub statuses : status ≤ unknown_options
+
 -- at blanks, by first fit and without a dictionary it is never OUT_OF_MEMORY
 abbrev pub NeedsNoMemory : ℕ → TextwrapOptions → Type 0
 NeedsNoMemory status o =

@@ -1,9 +1,9 @@
 //! Lines for display: aligned, justified and shortened, and texts without tabs.
+ghost use Rattle.textwrap_calls.specs.Options.{TellsFaults, AreKnown, AreTexts};
 ghost use Rattle.std.specs.Prelude.{◌≡◌, false, ◌<◌, ◌≤◌, ◌↔◌, IsUtf8, IfSome, IfNone};
 ghost use Rattle.textwrap.specs.Paragraph.{line_bytes};
 ghost use Rattle.textwrap_calls.specs.Display.{alignment_of, IsShort};
 ghost use Rattle.textwrap_calls.specs.Options.{options_settings, says_yes, Divides};
-ghost use Rattle.textwrap_calls.specs.Options.{TellsUnknown, TellsNotUtf8};
 ghost use Rattle.textwrap_calls.specs.Room.{WritesText};
 ghost use Rattle.textwrap_calls.specs.Status.{not_utf8, too_small, unknown_options};
 ghost use Rattle.textwrap_display.specs.Alignment.{aligned};
@@ -99,9 +99,8 @@ pub fn textwrap_fill_justified(
     ensures filled { WritesText (IsJustifiedText (options_settings options.now)
         (Divides options.now (options_settings options.now)) text.now)
         result room.old room.new len.old len.new }
-    ensures unknown { TellsUnknown result options.now }
-    ensures not_utf8 { TellsNotUtf8 result options.now text.now }
-    ensures statuses { result ≤ unknown_options }
+    ensures faults { TellsFaults result (AreKnown options.now)
+        (IsUtf8 text.now × AreTexts options.now) }
 {
     let options = match read_options(options) {
         Ok(options) => options,

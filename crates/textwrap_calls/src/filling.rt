@@ -2,11 +2,11 @@
 ghost use Rattle.std.specs.Prelude.{◌≡◌, ◌≢◌, ◌≤◌, ◌↔◌, ◌⊎◌, IsUtf8, IfOk, IfErr, length};
 ghost use Rattle.std.specs.Prelude.{string_bytes};
 ghost use Rattle.textwrap.specs.InPlace.{IsFilledInPlace};
-ghost use Rattle.textwrap_calls.specs.Options.{AreKnown};
-ghost use Rattle.textwrap_calls.specs.Options.{AreTexts, TellsUnknown, TellsNotUtf8, NeedsNoMemory};
+ghost use Rattle.textwrap_calls.specs.Options.{AreKnown, TellsFaults};
+ghost use Rattle.textwrap_calls.specs.Options.{AreTexts, NeedsNoMemory};
 ghost use Rattle.textwrap_calls.specs.Options.{IsFilledByOptions};
 ghost use Rattle.textwrap_calls.specs.Room.{WritesLong};
-ghost use Rattle.textwrap_calls.specs.Status.{done, not_utf8, out_of_memory, unknown_options};
+ghost use Rattle.textwrap_calls.specs.Status.{done, not_utf8, out_of_memory};
 
 use crate::known::known_text;
 use crate::options::{TextwrapOptions, read_options, refusal};
@@ -30,10 +30,9 @@ pub fn textwrap_fill(
 ) -> u32
     ensures filled { WritesLong (IsFilledByOptions options.now text.now)
         result room.old room.new len.old len.new }
-    ensures unknown { TellsUnknown result options.now }
-    ensures not_utf8 { TellsNotUtf8 result options.now text.now }
+    ensures faults { TellsFaults result (AreKnown options.now)
+        (IsUtf8 text.now × AreTexts options.now) }
     ensures no_memory { NeedsNoMemory result options.now }
-    ensures statuses { result ≤ unknown_options }
 {
     if let Some(line) = only_line(text, options) {
         return put(line, room, len);
@@ -55,10 +54,8 @@ pub fn textwrap_fill_utf8(
     requires { IsUtf8 text.now }
     ensures filled { WritesLong (IsFilledByOptions options.now text.now)
         result room.old room.new len.old len.new }
-    ensures unknown { TellsUnknown result options.now }
-    ensures not_utf8 { result ≡ not_utf8 ↔ AreKnown options.now × ¬ AreTexts options.now }
+    ensures faults { TellsFaults result (AreKnown options.now) (AreTexts options.now) }
     ensures no_memory { NeedsNoMemory result options.now }
-    ensures statuses { result ≤ unknown_options }
 {
     if let Some(line) = only_known_line(text, options) {
         return put(line, room, len);
@@ -76,10 +73,8 @@ fn fill_text(
 ) -> u32
     ensures filled { WritesLong (IsFilledByOptions options.now text.now)
         result room.old room.new len.old len.new }
-    ensures unknown { TellsUnknown result options.now }
-    ensures not_utf8 { result ≡ not_utf8 ↔ AreKnown options.now × ¬ AreTexts options.now }
+    ensures faults { TellsFaults result (AreKnown options.now) (AreTexts options.now) }
     ensures no_memory { NeedsNoMemory result options.now }
-    ensures statuses { result ≤ unknown_options }
 {
     let options = match read_options(options) {
         Ok(options) => options,

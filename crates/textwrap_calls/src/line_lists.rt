@@ -1,10 +1,10 @@
 //! Lists of lines for display: shortened, and with styles carried over their ends.
+ghost use Rattle.textwrap_calls.specs.Options.{TellsFaults};
 ghost use Rattle.std.specs.Prelude.{◌≡◌, false, ◌<◌, ◌≤◌, ℕ, ◌↔◌, [], List, map, All, IsUtf8, IfOk};
 ghost use Rattle.textwrap.specs.Paragraph.{line_bytes};
 ghost use Rattle.textwrap_calls.specs.Columns.{ArePlacedRows, AreRows};
 ghost use Rattle.textwrap_calls.specs.Display.{AreShort};
 ghost use Rattle.textwrap_calls.specs.Options.{options_settings, says_yes, AreKnown, AreTexts};
-ghost use Rattle.textwrap_calls.specs.Options.{TellsUnknown};
 ghost use Rattle.textwrap_calls.specs.Status.{not_utf8, too_small, unknown_options};
 ghost use Rattle.textwrap_calls.specs.Texts.{bytes_of, IsText};
 ghost use Rattle.textwrap_calls.specs.Wrapping.{WritesLines};
@@ -125,10 +125,8 @@ pub fn textwrap_carry_styles(
         WritesLines (λ answer _. AreRows (λ rows. rows ≡ map line_bytes (carried_lines
         settings.initial_indent settings.subsequent_indent [] (bytes_of lines.now))) answer)
         [] result places.old places.new count.old count.new room.old room.new len.old len.new }
-    ensures unknown { TellsUnknown result options.now }
-    ensures not_utf8 { result ≡ not_utf8 ↔ AreKnown options.now
-        × ¬ (All IsText lines.now × AreTexts options.now) }
-    ensures statuses { result ≤ unknown_options }
+    ensures faults { TellsFaults result (AreKnown options.now)
+        (All IsText lines.now × AreTexts options.now) }
 {
     let options = match read_layout(options) {
         Ok(options) => options,

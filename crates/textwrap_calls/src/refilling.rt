@@ -2,12 +2,11 @@
 ghost use Rattle.std.specs.Prelude.{◌≡◌, ◌≢◌, ◌≤◌, ◌⊎◌, ◌↔◌, [], false, IsUtf8};
 ghost use Rattle.textwrap.specs.Options.{settings_view};
 ghost use Rattle.textwrap.specs.Refilling.{line_prefix, unfilled_parts, unfilled_settings};
-ghost use Rattle.textwrap_calls.specs.Options.{AreKnown};
-ghost use Rattle.textwrap_calls.specs.Options.{AreTexts, TellsUnknown, TellsNotUtf8, IsRefilledBy};
+ghost use Rattle.textwrap_calls.specs.Options.{AreKnown, TellsFaults};
+ghost use Rattle.textwrap_calls.specs.Options.{AreTexts, IsRefilledBy};
 ghost use Rattle.textwrap_calls.specs.Refilling.{IsLayout};
 ghost use Rattle.textwrap_calls.specs.Room.{WritesText};
 ghost use Rattle.textwrap_calls.specs.Status.{done, not_utf8, out_of_memory, too_small};
-ghost use Rattle.textwrap_calls.specs.Status.{unknown_options};
 
 use crate::known::known_text;
 use crate::options::{TextwrapOptions, read_options, refusal};
@@ -30,9 +29,8 @@ pub fn textwrap_refill(
 ) -> u32
     ensures refilled { WritesText (IsRefilledBy options.now text.now)
         result room.old room.new len.old len.new }
-    ensures unknown { TellsUnknown result options.now }
-    ensures not_utf8 { TellsNotUtf8 result options.now text.now }
-    ensures statuses { result ≤ unknown_options }
+    ensures faults { TellsFaults result (AreKnown options.now)
+        (IsUtf8 text.now × AreTexts options.now) }
 {
     if !begins_with_prefix(text) {
         if let Some(line) = only_line(text, options) {
@@ -56,9 +54,7 @@ pub fn textwrap_refill_utf8(
     requires { IsUtf8 text.now }
     ensures refilled { WritesText (IsRefilledBy options.now text.now)
         result room.old room.new len.old len.new }
-    ensures unknown { TellsUnknown result options.now }
-    ensures not_utf8 { result ≡ not_utf8 ↔ AreKnown options.now × ¬ AreTexts options.now }
-    ensures statuses { result ≤ unknown_options }
+    ensures faults { TellsFaults result (AreKnown options.now) (AreTexts options.now) }
 {
     if !begins_with_prefix(text) {
         if let Some(line) = only_known_line(text, options) {
@@ -88,9 +84,7 @@ fn refill_text(
 ) -> u32
     ensures refilled { WritesText (IsRefilledBy options.now text.now)
         result room.old room.new len.old len.new }
-    ensures unknown { TellsUnknown result options.now }
-    ensures not_utf8 { result ≡ not_utf8 ↔ AreKnown options.now × ¬ AreTexts options.now }
-    ensures statuses { result ≤ unknown_options }
+    ensures faults { TellsFaults result (AreKnown options.now) (AreTexts options.now) }
 {
     let options = match read_options(options) {
         Ok(options) => options,

@@ -1,9 +1,9 @@
 //! Texts of many paragraphs, in which marks stand before the words.
-ghost use Rattle.std.specs.Prelude.{◌≡◌, ◌≤◌, ◌↔◌, true, IfOk, IsUtf8, string_bytes};
+ghost use Rattle.textwrap_calls.specs.Options.{TellsFaults};
+ghost use Rattle.std.specs.Prelude.{◌≡◌, ◌↔◌, true, IfOk, IsUtf8, string_bytes};
 ghost use Rattle.textwrap_calls.specs.Reflowing.{reflow_algorithm, AreKnown, AreTexts, ending_of_number};
 ghost use Rattle.textwrap_calls.specs.Reflowing.{IsReflowedBy};
 ghost use Rattle.textwrap_calls.specs.Room.{WritesText};
-ghost use Rattle.textwrap_calls.specs.Status.{not_utf8, unknown_options};
 
 use crate::options::VERSION;
 use crate::room::put;
@@ -69,10 +69,8 @@ pub fn textwrap_reflow(
 ) -> u32
     ensures reflowed { WritesText (IsReflowedBy options.now text.now)
         result room.old room.new len.old len.new }
-    ensures unknown { result ≡ unknown_options ↔ ¬ AreKnown options.now }
-    ensures not_utf8 { result ≡ not_utf8 ↔ AreKnown options.now
-        × ¬ (IsUtf8 text.now × AreTexts options.now) }
-    ensures statuses { result ≤ unknown_options }
+    ensures faults { TellsFaults result (AreKnown options.now)
+        (IsUtf8 text.now × AreTexts options.now) }
 {
     if !are_known(options) {
         return UNKNOWN_OPTIONS;

@@ -1,9 +1,8 @@
 //! The lines of a text.
-ghost use Rattle.std.specs.Prelude.{◌≡◌, ◌≤◌, ◌↔◌, IsUtf8};
-ghost use Rattle.textwrap_calls.specs.Options.{AreKnown};
-ghost use Rattle.textwrap_calls.specs.Options.{AreTexts, TellsUnknown, TellsNotUtf8, NeedsNoMemory};
+ghost use Rattle.std.specs.Prelude.{IsUtf8};
+ghost use Rattle.textwrap_calls.specs.Options.{AreKnown, TellsFaults};
+ghost use Rattle.textwrap_calls.specs.Options.{AreTexts, NeedsNoMemory};
 ghost use Rattle.textwrap_calls.specs.Options.{ArePlacedBy};
-ghost use Rattle.textwrap_calls.specs.Status.{not_utf8, unknown_options};
 ghost use Rattle.textwrap_calls.specs.Wrapping.{WritesLongLines};
 
 use crate::known::known_text;
@@ -33,10 +32,9 @@ pub fn textwrap_wrap(
 ) -> u32
     ensures wrapped { WritesLongLines (ArePlacedBy options.now text.now)
         text.now result lines.old lines.new count.old count.new room.old room.new len.old len.new }
-    ensures unknown { TellsUnknown result options.now }
-    ensures not_utf8 { TellsNotUtf8 result options.now text.now }
+    ensures faults { TellsFaults result (AreKnown options.now)
+        (IsUtf8 text.now × AreTexts options.now) }
     ensures no_memory { NeedsNoMemory result options.now }
-    ensures statuses { result ≤ unknown_options }
 {
     if let Some(line) = only_line(text, options) {
         return put_line(line, lines, count, room, len);
@@ -60,10 +58,8 @@ pub fn textwrap_wrap_utf8(
     requires { IsUtf8 text.now }
     ensures wrapped { WritesLongLines (ArePlacedBy options.now text.now)
         text.now result lines.old lines.new count.old count.new room.old room.new len.old len.new }
-    ensures unknown { TellsUnknown result options.now }
-    ensures not_utf8 { result ≡ not_utf8 ↔ AreKnown options.now × ¬ AreTexts options.now }
+    ensures faults { TellsFaults result (AreKnown options.now) (AreTexts options.now) }
     ensures no_memory { NeedsNoMemory result options.now }
-    ensures statuses { result ≤ unknown_options }
 {
     if let Some(line) = only_known_line(text, options) {
         return put_line(line, lines, count, room, len);
@@ -83,10 +79,8 @@ fn wrap_text(
 ) -> u32
     ensures wrapped { WritesLongLines (ArePlacedBy options.now text.now)
         text.now result lines.old lines.new count.old count.new room.old room.new len.old len.new }
-    ensures unknown { TellsUnknown result options.now }
-    ensures not_utf8 { result ≡ not_utf8 ↔ AreKnown options.now × ¬ AreTexts options.now }
+    ensures faults { TellsFaults result (AreKnown options.now) (AreTexts options.now) }
     ensures no_memory { NeedsNoMemory result options.now }
-    ensures statuses { result ≤ unknown_options }
 {
     let options = match read_options(options) {
         Ok(options) => options,

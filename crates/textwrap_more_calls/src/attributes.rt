@@ -1,9 +1,8 @@
 //! Lists of lines with styles carried over their ends, by a second name.
-ghost use Rattle.std.specs.Prelude.{◌≡◌, ◌≤◌, ◌↔◌, [], map, All};
+ghost use Rattle.std.specs.Prelude.{◌≡◌, [], map, All};
 ghost use Rattle.textwrap.specs.Paragraph.{line_bytes};
 ghost use Rattle.textwrap_calls.specs.Columns.{AreRows};
-ghost use Rattle.textwrap_calls.specs.Options.{options_settings, AreKnown, AreTexts, TellsUnknown};
-ghost use Rattle.textwrap_calls.specs.Status.{not_utf8, unknown_options};
+ghost use Rattle.textwrap_calls.specs.Options.{options_settings, AreKnown, AreTexts, TellsFaults};
 ghost use Rattle.textwrap_calls.specs.Texts.{bytes_of, IsText};
 ghost use Rattle.textwrap_calls.specs.Wrapping.{WritesLines};
 ghost use Rattle.textwrap_display.specs.Styles.{carried_lines};
@@ -28,10 +27,8 @@ pub fn textwrap_carry_attributes(
         WritesLines (λ answer _. AreRows (λ rows. rows ≡ map line_bytes (carried_lines
         settings.initial_indent settings.subsequent_indent [] (bytes_of lines.now))) answer)
         [] result places.old places.new count.old count.new room.old room.new len.old len.new }
-    ensures unknown { TellsUnknown result options.now }
-    ensures not_utf8 { result ≡ not_utf8 ↔ AreKnown options.now
-        × ¬ (All IsText lines.now × AreTexts options.now) }
-    ensures statuses { result ≤ unknown_options }
+    ensures faults { TellsFaults result (AreKnown options.now)
+        (All IsText lines.now × AreTexts options.now) }
 {
     textwrap_carry_styles(alloc, lines, options, places, count, room, len)
 }

@@ -1,10 +1,10 @@
 //! Balanced lines of a text, and the width that they have.
-ghost use Rattle.std.specs.Prelude.{◌≡◌, ◌≢◌, ◌≤◌, ◌⊎◌, false, true, List, None, length, IfErr, IfOk, IsOk};
+ghost use Rattle.std.specs.Prelude.{◌≡◌, ◌≢◌, ◌⊎◌, false, true, List, None, length, IfErr, IfOk, IsOk};
 ghost use Rattle.std.specs.Prelude.{IsUtf8};
 ghost use Rattle.textwrap.specs.Paragraph.{Line};
 ghost use Rattle.textwrap_base.specs.Errors.{OnlyMemoryRunsOut};
 ghost use Rattle.textwrap_calls.specs.Options.{AreKnown, AreTexts, TellsUnknown, TellsNotUtf8};
-ghost use Rattle.textwrap_calls.specs.Options.{have_dictionary};
+ghost use Rattle.textwrap_calls.specs.Options.{have_dictionary, TellsFaults};
 ghost use Rattle.textwrap_calls.specs.Status.{done, not_utf8, out_of_memory, too_small};
 ghost use Rattle.textwrap_calls.specs.Status.{unknown_options};
 ghost use Rattle.textwrap_calls.specs.Wrapping.{WritesLongLines};
@@ -40,11 +40,9 @@ pub fn textwrap_wrap_balanced(
         text.now result lines.old lines.new count.old count.new room.old room.new len.old len.new }
     ensures as_many { (result ≡ done) ⊎ (result ≡ too_small) → (others : List Line)
         → AreByFirstFit options.now text.now others → count.new ≡ length others }
-    ensures unknown { TellsUnknown result options.now }
-    ensures not_utf8 { TellsNotUtf8 result options.now text.now }
+    ensures faults { TellsFaults result (AreKnown options.now) (IsUtf8 text.now × AreTexts options.now) }
     ensures no_memory { options.now.unicode_breaks ≡ 0 → have_dictionary options.now ≡ false
         → result ≢ out_of_memory }
-    ensures statuses { result ≤ unknown_options }
 {
     let width = match find_width(alloc, text, options) {
         Ok(width) => width,

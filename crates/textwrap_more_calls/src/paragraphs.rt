@@ -1,7 +1,7 @@
 //! The paragraphs of a text, each of which is wrapped by itself.
+ghost use Rattle.textwrap_calls.specs.Options.{TellsFaults};
 ghost use Rattle.std.specs.Prelude.{◌≡◌, ◌≢◌, ◌≤◌, ◌<◌, ◌↔◌, ◌⊎◌, IfOk, IsUtf8, length};
 ghost use Rattle.textwrap_calls.specs.Options.{options_settings, AreKnown, AreTexts, says_yes};
-ghost use Rattle.textwrap_calls.specs.Options.{TellsUnknown, TellsNotUtf8};
 ghost use Rattle.textwrap_more_calls.specs.Paragraphs.{paragraph_places, widths_view};
 ghost use Rattle.textwrap_calls.specs.Room.{WritesText};
 ghost use Rattle.textwrap_calls.specs.Status.{done, not_utf8, unknown_options};
@@ -51,9 +51,8 @@ pub fn textwrap_paragraphs(
         ≡ paragraph_places (length (ending_bytes (options_settings options.now).line_ending)) 0
         (paragraphs_of (options_settings options.now).line_ending text.now))
         result paragraphs.old paragraphs.new count.old count.new }
-    ensures unknown { TellsUnknown result options.now }
-    ensures not_utf8 { TellsNotUtf8 result options.now text.now }
-    ensures statuses { result ≤ unknown_options }
+    ensures faults { TellsFaults result (AreKnown options.now)
+        (IsUtf8 text.now × AreTexts options.now) }
 {
     let options = match read_options(options) {
         Ok(options) => options,

@@ -1,10 +1,10 @@
 //! Words, and the pieces that they are split and broken into, by where they stand.
+ghost use Rattle.textwrap_calls.specs.Options.{TellsFaults, AreKnown, AreTexts};
 ghost use Rattle.std.specs.Prelude.{◌≡◌, ◌⊎◌, ◌↔◌, ◌≤◌, [], IfOk, IsUtf8, true, map};
 ghost use Rattle.textwrap_calls.specs.Options.{separator_of, options_settings, options_points};
-ghost use Rattle.textwrap_calls.specs.Options.{TellsUnknown, TellsNotUtf8};
 ghost use Rattle.textwrap_more_calls.specs.Pieces.{AreOffsets, offsets_past, piece_places};
 ghost use Rattle.textwrap_calls.specs.Room.{WritesText};
-ghost use Rattle.textwrap_calls.specs.Status.{done, not_utf8, too_small, unknown_options};
+ghost use Rattle.textwrap_calls.specs.Status.{done, not_utf8, too_small};
 ghost use Rattle.textwrap_calls.specs.Status.{wrong_places};
 ghost use Rattle.textwrap_layout.specs.Options.{settings_view};
 ghost use Rattle.textwrap_layout.specs.Paragraph.{broken_pieces_of, pieces_of};
@@ -61,9 +61,8 @@ pub fn textwrap_pieces(
     ensures pieces { WritesText (λ answer. answer ≡ piece_places 0 (broken_pieces_of
         (options_settings options.now) (split_by_points (options_points options.now)
         (words_by (separator_of options.now) paragraph.now)))) result pieces.old pieces.new count.old count.new }
-    ensures unknown { TellsUnknown result options.now }
-    ensures not_utf8 { TellsNotUtf8 result options.now paragraph.now }
-    ensures statuses { result ≤ unknown_options }
+    ensures faults { TellsFaults result (AreKnown options.now)
+        (IsUtf8 paragraph.now × AreTexts options.now) }
 {
     let options = match read_options(options) {
         Ok(options) => options,

@@ -1,9 +1,15 @@
 use Rattle.textwrap_more_calls.proofs.balancing.textwrap_wrap_balanced.Goals as goal
 use Rattle.textwrap_more_calls.proofs.BalanceLemmas.{balanced-count, balanced-written}
 use Rattle.textwrap_more_calls.proofs.BalanceLemmas.{refused-not_utf8}
+use Rattle.textwrap_text.proofs.Common.{arith, rules}
 
-pub returns-in-Err-clause-not_utf8 : goal.returns-in-Err-clause-not_utf8
-returns-in-Err-clause-not_utf8 c = refused-not_utf8 c.in-Err.ensures.refused
+pub returns-in-Err-clause-faults : goal.returns-in-Err-clause-faults
+returns-in-Err-clause-faults c =
+    record {
+      unknown = search (rules, arith);
+      not_utf8 = refused-not_utf8 c.in-Err.ensures.refused;
+      statuses = search (rules, arith);
+    }
 
 pub returns-clause-balanced : goal.returns-clause-balanced
 returns-clause-balanced c =

@@ -20,7 +20,7 @@ use Rattle.textwrap_plain.specs.declared.options.PlainSeparator.{PlainSeparator}
 use Rattle.textwrap_plain.specs.declared.options.PlainSplitter.{PlainSplitter}
 use Rattle.textwrap_plain.specs.declared.options.PlainSplitter.TheVariants.{BuiltIn, Dictionary}
 use Rattle.textwrap_text.proofs.Common.{All, All-weaker, Bool, IsUtf8, List, None, Some, [], arith}
-use Rattle.textwrap_text.proofs.Common.{All-cons, All-nil, append-nil, false, ⊎_elim, ◌<◌, ◌∷◌}
+use Rattle.textwrap_text.proofs.Common.{append-nil, false, ⊎_elim, ◌<◌, ◌∷◌}
 use Rattle.textwrap_words.specs.WordSplitters.{hyphen}
 use Rattle.textwrap_text.proofs.Common.{refl, rules, subst, sym, take, true, ℕ, ◌≡◌, ◌≢◌}
 use Rattle.textwrap_text.proofs.Lists.Parts.{Begins, flat}

@@ -1,15 +1,19 @@
 -- What holds by the options that hold no function holds by what they name.
 use Rattle.textwrap_display.proofs.TableGroups.{MakeThose, table-map}
 use Rattle.textwrap_display.specs.Tables.{IsTableBy, RowGaps}
-use Rattle.textwrap_layout.proofs.Common.{Settings}
+use Rattle.textwrap_layout.proofs.Common.{IsFilled, Settings, is_whole, line_bytes, line_from}
+use Rattle.textwrap_layout.proofs.Common.{parts_of}
+use Rattle.textwrap_layout.proofs.Paragraph.LeftOff.{AreParagraphParts-whole, line_from-whole}
+use Rattle.textwrap_layout.proofs.Text.Paragraphs.{join-paragraphs_of}
 use Rattle.textwrap_plain.specs.Options.{DividesFrom, words_by}
 use Rattle.textwrap_plain.specs.Tables.{IsPlainTable, PlainMakes, plain_parts, plain_shape}
 use Rattle.textwrap_plain.specs.declared.columns.PlainColumn.{PlainColumn}
 use Rattle.textwrap_plain.specs.declared.options.PlainSeparator.{PlainSeparator}
-use Rattle.textwrap_text.proofs.Common.{Bool, List, []}
-use Rattle.textwrap_text.proofs.Common.{map, refl, subst}
-use Rattle.textwrap_text.proofs.Common.{ℕ, ◌∷◌, ◌≡◌}
-use Rattle.textwrap_words.proofs.Common.{Algorithm, WordText}
+use Rattle.textwrap_text.proofs.Common.{Bool, List, [], ap, cond, ending_bytes, false, join_with}
+use Rattle.textwrap_text.proofs.Common.{map, paragraphs_of, refl, subst, sym, true}
+use Rattle.textwrap_text.proofs.Common.{without_final_blanks, ℕ, ◌∙◌, ◌∷◌, ◌≡◌}
+use Rattle.textwrap_text.specs.declared.line_ending.LineEnding.{LineEnding}
+use Rattle.textwrap_words.proofs.Common.{Algorithm, WordText, word_of}
 
 pub named : (P : Settings → (Settings → Bool → List ℕ → List (List WordText) → Type 0) → Type 0)
     {s t : Settings} {w v : PlainSeparator} {p q : List ℕ → List ℕ} {a b : Algorithm} → s ≡ t → w ≡ v
@@ -19,6 +23,33 @@ named P {s} {t} {w} {v} {p} {q} {a} {b} settings words points algorithm is =
     (subst (λ u. P s (DividesFrom (words_by u) q b)) words
     (subst (λ o. P s (DividesFrom (words_by w) o b)) points
     (subst (λ e. P s (DividesFrom (words_by w) p e)) algorithm is)))
+
+-- ---- a text that is one line as a whole
+
+-- a text without an ending is one paragraph
+pub only-paragraph : (ending : LineEnding) (text paragraph : List ℕ)
+    → paragraphs_of ending text ≡ paragraph ∷ [] → paragraphs_of ending text ≡ text ∷ []
+only-paragraph ending text paragraph is =
+    is ∙ ap (λ p. p ∷ []) (sym (ap (join_with (ending_bytes ending)) is)
+    ∙ join-paragraphs_of ending text)
+
+-- where the paragraph is a line as a whole, that is the filled text, without its last blanks
+pub only-filled : (settings : Settings)
+    (Divides : Bool → List ℕ → List (List WordText) → Type 0) (text filled : List ℕ)
+    → paragraphs_of settings.line_ending text ≡ text ∷ []
+    → is_whole settings false text ≡ true
+    → filled ≡ cond settings.preserve_trailing_space text (without_final_blanks text)
+    → IsFilled settings Divides text filled
+only-filled settings Divides text filled one whole is =
+    let parts = parts_of settings false (word_of text ∷ []) ∷ [] in (
+      map line_from parts,
+      record {
+        groups = parts ∷ [];
+        defined = rw one (AreParagraphParts-whole settings Divides false text whole, refl);
+        given = refl;
+      },
+      is ∙ ap line_bytes (sym (line_from-whole settings false text whole)),
+    )
 
 -- ---- what a table of columns without functions shows
 

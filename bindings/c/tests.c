@@ -916,11 +916,11 @@ static void soft_hyphens_are_points(void) {
     CHECK(is_text(room, len, "the hy\xc2\xad-\nphenation"));
 }
 
-/* Two ideographs before a word: at blanks all are one word. */
+/* Two ideographs before a word: at blanks all are one word, and its first part has no room for its hyphen. */
 static void hyphenated_words_end_at_unicode_breaks(void) {
     static const char text[] = "\xe4\xbd\xa0\xe5\xa5\xbdhyphenation";
     static const char *const filled[3] = {
-        "\xe4\xbd\xa0\xe5\xa5\xbdhy-\nphen-\nation",
+        "\xe4\xbd\xa0\xe5\xa5\xbdh\nyphen-\nation",
         "\xe4\xbd\xa0\xe5\xa5\xbd\nhy-\nphen-\nation",
         "\xe4\xbd\xa0\xe5\xa5\xbd\nhy-\nphen-\nation",
     };

@@ -486,12 +486,13 @@ fn points_at_soft_hyphens(word: &str) -> Vec<usize> {
 }
 
 /// The library splits the words of a text itself, or, where a function takes part, one word after another.
+/// Words are not broken here: by a function's points, or beside one, hyphens have no room where they are.
 #[test]
 fn a_function_may_look_up_each_word() {
     let random = &mut Random::new(3);
     let mut is_hyphenated = false;
     for _ in 0..1_000 {
-        let (text, plain) = (text(random), drawn::options(random));
+        let (text, plain) = (text(random), drawn::options(random).break_words(false));
         let [left, middle, right] = [(); 3].map(|()| drawn::around(random));
         let gaps = Gaps { left, middle, right };
         let (splitter, function) = match random.below(3) {

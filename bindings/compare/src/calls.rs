@@ -116,6 +116,10 @@ pub const UNFILL: Call = Call {
     name: "unfill",
     proved: |drawn| {
         let (text, options) = proved::unfill(&drawn.text);
+        let with_defaults = proved::Options::new(options.width)
+            .line_ending(options.line_ending)
+            .initial_indent(options.initial_indent)
+            .subsequent_indent(options.subsequent_indent);
         Answer::Unfilled(Unfilled {
             text,
             width: options.width,
@@ -125,12 +129,7 @@ pub const UNFILL: Call = Call {
                 proved::LineEnding::LF => Ending::Lf,
                 proved::LineEnding::CRLF => Ending::CrLf,
             },
-            others_are_default: options.break_words
-                && options.wrap_algorithm == proved::WrapAlgorithm::new()
-                && options.word_splitter == proved::WordSplitter::HyphenSplitter
-                && options.word_separator == proved::WordSeparator::new()
-                && !options.preserve_trailing_space
-                && !options.even_paragraphs,
+            others_are_default: format!("{options:?}") == format!("{with_defaults:?}"),
         })
     },
     original: |original| original.unfill(),

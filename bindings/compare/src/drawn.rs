@@ -148,6 +148,11 @@ impl Drawn {
         }
     }
 
+    /// The same where paragraphs are even, or not.
+    pub fn evenly(&self, is_even: bool) -> Drawn {
+        Drawn { even_paragraphs: is_even, ..self.clone() }
+    }
+
     /// Every text in it, changed: no call is given any other.
     pub fn with_texts(&self, change: impl Fn(&str) -> String) -> Drawn {
         Drawn {

@@ -127,10 +127,10 @@ const FAULTS: &[Fault] = &[
         })
     }),
     fault("even paragraphs are forgotten", &calls::WRAP, |drawn| {
-        calls::WRAP.proved_answer(&Drawn { even_paragraphs: false, ..drawn.clone() })
+        calls::WRAP.proved_answer(&drawn.evenly(false))
     }),
     fault("paragraphs are always even", &calls::WRAP, |drawn| {
-        calls::WRAP.proved_answer(&Drawn { even_paragraphs: true, ..drawn.clone() })
+        calls::WRAP.proved_answer(&drawn.evenly(true))
     }),
     fault("the indents are exchanged", &calls::WRAP, |drawn| {
         calls::WRAP.proved_answer(&Drawn {

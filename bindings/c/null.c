@@ -31,8 +31,6 @@ PROVED(refill_utf8);
 PROVED(unfill);
 PROVED(unfill_utf8);
 PROVED(reflow);
-PROVED(table);
-PROVED(table_of_lines);
 PROVED(display_width);
 PROVED(display_width_utf8);
 PROVED(strip_ansi_escape_sequences);
@@ -59,6 +57,8 @@ PROVED(break_apart);
 PROVED(pieces_at);
 PROVED(ends_at);
 PROVED(lines_at);
+PROVED(table);
+PROVED(table_of_lines);
 PROVED(wrap_at);
 PROVED(fill_at);
 
@@ -292,25 +292,6 @@ textwrap_status textwrap_reflow(const uint8_t *text, size_t text_len,
     return proved_reflow(ARRAY(text, text_len), &some, ARRAY(room, room_len), len);
 }
 
-textwrap_status textwrap_table(const textwrap_text *cells, size_t cells_len,
-                               const textwrap_column *columns, size_t columns_len,
-                               const textwrap_gaps *gaps, textwrap_line *rows, size_t rows_len,
-                               size_t *count, uint8_t *room, size_t room_len, size_t *len) {
-    textwrap_gaps around = some_gaps(gaps);
-    return proved_table(ARRAY(cells, cells_len), ARRAY(columns, columns_len), &around,
-                        ARRAY(rows, rows_len), count, ARRAY(room, room_len), len);
-}
-
-textwrap_status textwrap_table_of_lines(const textwrap_cell *cells, size_t cells_len,
-                                        const textwrap_column *columns, size_t columns_len,
-                                        const textwrap_gaps *gaps, textwrap_line *rows,
-                                        size_t rows_len, size_t *count, uint8_t *room,
-                                        size_t room_len, size_t *len) {
-    textwrap_gaps around = some_gaps(gaps);
-    return proved_table_of_lines(ARRAY(cells, cells_len), ARRAY(columns, columns_len), &around,
-                                 ARRAY(rows, rows_len), count, ARRAY(room, room_len), len);
-}
-
 textwrap_status textwrap_display_width(const uint8_t *text, size_t text_len, size_t *columns) {
     return proved_display_width(ARRAY(text, text_len), columns);
 }
@@ -491,6 +472,25 @@ textwrap_status textwrap_lines_at(const uint8_t *paragraph, size_t paragraph_len
     return proved_lines_at(ARRAY(paragraph, paragraph_len), ARRAY(cuts, cuts_len),
                            ARRAY(points, points_len), ARRAY(ends, ends_len), &some, is_later,
                            ARRAY(lines, lines_len), count, ARRAY(room, room_len), len);
+}
+
+textwrap_status textwrap_table(const textwrap_text *cells, size_t cells_len,
+                               const textwrap_column *columns, size_t columns_len,
+                               const textwrap_gaps *gaps, textwrap_line *rows, size_t rows_len,
+                               size_t *count, uint8_t *room, size_t room_len, size_t *len) {
+    textwrap_gaps around = some_gaps(gaps);
+    return proved_table(ARRAY(cells, cells_len), ARRAY(columns, columns_len), &around,
+                        ARRAY(rows, rows_len), count, ARRAY(room, room_len), len);
+}
+
+textwrap_status textwrap_table_of_lines(const textwrap_cell *cells, size_t cells_len,
+                                        const textwrap_column *columns, size_t columns_len,
+                                        const textwrap_gaps *gaps, textwrap_line *rows,
+                                        size_t rows_len, size_t *count, uint8_t *room,
+                                        size_t room_len, size_t *len) {
+    textwrap_gaps around = some_gaps(gaps);
+    return proved_table_of_lines(ARRAY(cells, cells_len), ARRAY(columns, columns_len), &around,
+                                 ARRAY(rows, rows_len), count, ARRAY(room, room_len), len);
 }
 
 textwrap_status textwrap_wrap_at(const uint8_t *text, size_t text_len, const textwrap_steps *steps,

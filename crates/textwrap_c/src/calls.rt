@@ -11,7 +11,7 @@ ghost use Rattle.textwrap.specs.Units.{stripped, text_width};
 ghost use Rattle.textwrap_calls.specs.Bounds.{ForLinesOf, ForRowsOf, ForTextsOf, HoldsEach};
 ghost use Rattle.textwrap_calls.specs.Bounds.{Suffices, as_len, columns_room_bound, fill_bound};
 ghost use Rattle.textwrap_calls.specs.Bounds.{rows_bound, wrap_room_bound};
-ghost use Rattle.textwrap_calls.specs.Columns.{AreKnownGaps, AreRows, AreTextGaps, row_gaps};
+ghost use Rattle.textwrap_calls.specs.Columns.{AreKnownGaps, AreRows, AreTextGaps};
 ghost use Rattle.textwrap_calls.specs.Display.{AreShort, IsShort, alignment_of};
 ghost use Rattle.textwrap_calls.specs.Options.{AreKnown, ArePlacedBy, AreTexts, Divides};
 ghost use Rattle.textwrap_calls.specs.Options.{IsFilledByOptions, IsRefilledBy, NeedsNoMemory};
@@ -20,8 +20,6 @@ ghost use Rattle.textwrap_calls.specs.Refilling.{IsLayout};
 ghost use Rattle.textwrap_calls.specs.Room.{WritesLong, WritesText};
 ghost use Rattle.textwrap_calls.specs.Status.{done, not_utf8, out_of_memory, too_small};
 ghost use Rattle.textwrap_calls.specs.Status.{unknown_options};
-ghost use Rattle.textwrap_calls.specs.Tables.{AreTableTexts, HasTextLines, IsKnownColumn};
-ghost use Rattle.textwrap_calls.specs.Tables.{lines_of_cells, parts_of_column, shape_of_column};
 ghost use Rattle.textwrap_calls.specs.Texts.{IsText, bytes_of};
 ghost use Rattle.textwrap_calls.specs.Wrapping.{WritesLines, WritesLongLines};
 ghost use Rattle.textwrap_calls.specs.declared.columns.TextwrapGaps.{TextwrapGaps};
@@ -30,20 +28,17 @@ ghost use Rattle.textwrap_display.specs.Alignment.{aligned};
 ghost use Rattle.textwrap_display.specs.JustifiedText.{IsJustifiedText};
 ghost use Rattle.textwrap_display.specs.Justifying.{justified};
 ghost use Rattle.textwrap_display.specs.Styles.{carried_lines};
-ghost use Rattle.textwrap_display.specs.Tables.{rows_of_cells};
 ghost use Rattle.textwrap_display.specs.Tabs.{expanded};
 ghost use Rattle.textwrap_layout.specs.Places.{built_text};
-ghost use Rattle.textwrap_plain.specs.Tables.{IsPlainTable};
 
 use std::alloc::Global;
 use textwrap_calls::columns::TextwrapGaps;
 use textwrap_calls::options::TextwrapOptions;
 use textwrap_calls::refilling::TextwrapLayout;
 use textwrap_calls::reported::TextwrapLine;
-use textwrap_calls::tables::{TextwrapCell, TextwrapColumn};
 use textwrap_calls::texts::TextwrapText;
 use textwrap_calls::{
-    bounds, columns, display, filling, indentation, line_lists, refilling, tables, widths, wrapping,
+    bounds, columns, display, filling, indentation, line_lists, refilling, widths, wrapping,
 };
 
 /// Exports [`textwrap_calls::bounds::textwrap_fill_bound`].
@@ -547,54 +542,6 @@ pub extern "C" fn textwrap_unfill_utf8(
     ensures statuses { (result ≡ done) ⊎ (result ≡ too_small) }
 {
     refilling::textwrap_unfill_utf8(text, room, len, layout)
-}
-
-/// Exports [`textwrap_calls::tables::textwrap_table`].
-#[unsafe(no_mangle)]
-pub extern "C" fn textwrap_table(
-    alloc: Global,
-    cells: &[TextwrapText<'_>],
-    columns: &[TextwrapColumn<'_>],
-    gaps: &TextwrapGaps<'_>,
-    rows: &mut [TextwrapLine],
-    count: &mut usize,
-    room: &mut [u8],
-    len: &mut usize,
-) -> u32
-    ensures table { WritesLines (λ lines _. AreRows (IsPlainTable (map parts_of_column columns.now)
-        (row_gaps gaps.now) (bytes_of cells.now)) lines)
-        [] result rows.old rows.new count.old count.new room.old room.new len.old len.new }
-    ensures unknown { result ≡ unknown_options
-        ↔ ¬ (All IsKnownColumn columns.now × AreKnownGaps gaps.now) }
-    ensures not_utf8 { result ≡ not_utf8 ↔ All IsKnownColumn columns.now × AreKnownGaps gaps.now
-        × ¬ AreTableTexts cells.now columns.now gaps.now }
-    ensures statuses { result ≤ unknown_options }
-{
-    tables::textwrap_table(alloc, cells, columns, gaps, rows, count, room, len)
-}
-
-/// Exports [`textwrap_calls::tables::textwrap_table_of_lines`].
-#[unsafe(no_mangle)]
-pub extern "C" fn textwrap_table_of_lines(
-    alloc: Global,
-    cells: &[TextwrapCell<'_>],
-    columns: &[TextwrapColumn<'_>],
-    gaps: &TextwrapGaps<'_>,
-    rows: &mut [TextwrapLine],
-    count: &mut usize,
-    room: &mut [u8],
-    len: &mut usize,
-) -> u32
-    ensures table { WritesLines (λ lines _. AreRows (λ rows. rows ≡ rows_of_cells
-        (row_gaps gaps.now) (map shape_of_column columns.now) (lines_of_cells cells.now)) lines)
-        [] result rows.old rows.new count.old count.new room.old room.new len.old len.new }
-    ensures unknown { result ≡ unknown_options
-        ↔ ¬ (All IsKnownColumn columns.now × AreKnownGaps gaps.now) }
-    ensures not_utf8 { result ≡ not_utf8 ↔ All IsKnownColumn columns.now × AreKnownGaps gaps.now
-        × ¬ (All HasTextLines cells.now × AreTextGaps gaps.now) }
-    ensures statuses { result ≤ unknown_options }
-{
-    tables::textwrap_table_of_lines(alloc, cells, columns, gaps, rows, count, room, len)
 }
 
 /// Exports [`textwrap_calls::widths::textwrap_display_width`].

@@ -8,7 +8,7 @@ ghost use Rattle.textwrap_base.specs.Division.{IsGreedy};
 ghost use Rattle.textwrap_base.specs.Errors.{Fits64Bits, Passes128Bits};
 ghost use Rattle.textwrap_base.specs.OptimalFit.{IsByOptimalFit};
 ghost use Rattle.textwrap_base.specs.Table.{TableOverflows};
-ghost use Rattle.textwrap_calls.specs.Columns.{AreRows};
+ghost use Rattle.textwrap_calls.specs.Columns.{AreKnownGaps, AreRows, AreTextGaps, row_gaps};
 ghost use Rattle.textwrap_calls.specs.Dictionary.{IsDamaged, IsKnownDictionary, hyphenation_of};
 ghost use Rattle.textwrap_calls.specs.Options.{AreKnown, AreTexts, TellsFaults, TellsNotUtf8};
 ghost use Rattle.textwrap_calls.specs.Options.{TellsUnknown, have_dictionary, numbers_by};
@@ -22,6 +22,7 @@ ghost use Rattle.textwrap_calls.specs.Wrapping.{WritesLines, WritesLongLines};
 ghost use Rattle.textwrap_display.specs.Fitting.{fitting_widths};
 ghost use Rattle.textwrap_display.specs.Needs.{needs_of};
 ghost use Rattle.textwrap_display.specs.Styles.{carried_lines};
+ghost use Rattle.textwrap_display.specs.Tables.{rows_of_cells};
 ghost use Rattle.textwrap_hyphens.specs.Points.{hyphenation_points};
 ghost use Rattle.textwrap_hyphens.specs.Seal.{is_sealed};
 ghost use Rattle.textwrap_layout.specs.Paragraph.{broken_pieces_of, widths_of};
@@ -36,8 +37,12 @@ ghost use Rattle.textwrap_more_calls.specs.Paragraphs.{paragraph_places, widths_
 ghost use Rattle.textwrap_more_calls.specs.Pieces.{AreOffsets, piece_places};
 ghost use Rattle.textwrap_more_calls.specs.Status.{damaged_table, wrong_patterns};
 ghost use Rattle.textwrap_more_calls.specs.Steps.{AreLineSteps, ArePlacedCuts, AreSteps, step_cuts};
+ghost use Rattle.textwrap_more_calls.specs.Tables.{AreTableTexts, HasTextLines, IsKnownColumn};
+ghost use Rattle.textwrap_more_calls.specs.Tables.{lines_of_cells, parts_of_column};
+ghost use Rattle.textwrap_more_calls.specs.Tables.{shape_of_column};
 ghost use Rattle.textwrap_more_calls.specs.TextSteps.{AreStepsOf, filled_at, text_step_cuts};
 ghost use Rattle.textwrap_plain.specs.Options.{split_by_points, words_by};
+ghost use Rattle.textwrap_plain.specs.Tables.{IsPlainTable};
 ghost use Rattle.textwrap_text.specs.LineEnding.{ending_bytes, paragraphs_of};
 ghost use Rattle.textwrap_text.specs.Units.{stripped};
 ghost use Rattle.textwrap_unicode.specs.Cuts.{unicode_cuts};
@@ -47,6 +52,7 @@ ghost use Rattle.textwrap_words.specs.WordSplitters.{hyphen_points};
 ghost use Rattle.textwrap_words.specs.Words.{piece, sizes_of};
 
 use std::alloc::Global;
+use textwrap_calls::columns::TextwrapGaps;
 use textwrap_calls::dictionary::TextwrapDictionary;
 use textwrap_calls::options::TextwrapOptions;
 use textwrap_calls::reported::TextwrapLine;
@@ -57,9 +63,10 @@ use textwrap_more_calls::hyphens::{points, reading};
 use textwrap_more_calls::paragraphs::{TextwrapParagraph, TextwrapWidths};
 use textwrap_more_calls::pieces::TextwrapPiece;
 use textwrap_more_calls::steps::TextwrapSteps;
+use textwrap_more_calls::tables::{TextwrapCell, TextwrapColumn};
 use textwrap_more_calls::{
     attributes, balancing, breaks, fitting, fragments, justified_steps, paragraphs, pieces, steps,
-    text_steps,
+    tables, text_steps,
 };
 
 /// Exports [`textwrap_more_calls::attributes::textwrap_carry_attributes`].
@@ -511,6 +518,54 @@ pub extern "C" fn textwrap_lines_at(
     steps::textwrap_lines_at(
         alloc, paragraph, cuts, points, ends, options, is_later, lines, count, room, len,
     )
+}
+
+/// Exports [`textwrap_more_calls::tables::textwrap_table`].
+#[unsafe(no_mangle)]
+pub extern "C" fn textwrap_table(
+    alloc: Global,
+    cells: &[TextwrapText<'_>],
+    columns: &[TextwrapColumn<'_>],
+    gaps: &TextwrapGaps<'_>,
+    rows: &mut [TextwrapLine],
+    count: &mut usize,
+    room: &mut [u8],
+    len: &mut usize,
+) -> u32
+    ensures table { WritesLines (λ lines _. AreRows (IsPlainTable (map parts_of_column columns.now)
+        (row_gaps gaps.now) (bytes_of cells.now)) lines)
+        [] result rows.old rows.new count.old count.new room.old room.new len.old len.new }
+    ensures unknown { result ≡ unknown_options
+        ↔ ¬ (All IsKnownColumn columns.now × AreKnownGaps gaps.now) }
+    ensures not_utf8 { result ≡ not_utf8 ↔ All IsKnownColumn columns.now × AreKnownGaps gaps.now
+        × ¬ AreTableTexts cells.now columns.now gaps.now }
+    ensures statuses { result ≤ unknown_options }
+{
+    tables::textwrap_table(alloc, cells, columns, gaps, rows, count, room, len)
+}
+
+/// Exports [`textwrap_more_calls::tables::textwrap_table_of_lines`].
+#[unsafe(no_mangle)]
+pub extern "C" fn textwrap_table_of_lines(
+    alloc: Global,
+    cells: &[TextwrapCell<'_>],
+    columns: &[TextwrapColumn<'_>],
+    gaps: &TextwrapGaps<'_>,
+    rows: &mut [TextwrapLine],
+    count: &mut usize,
+    room: &mut [u8],
+    len: &mut usize,
+) -> u32
+    ensures table { WritesLines (λ lines _. AreRows (λ rows. rows ≡ rows_of_cells
+        (row_gaps gaps.now) (map shape_of_column columns.now) (lines_of_cells cells.now)) lines)
+        [] result rows.old rows.new count.old count.new room.old room.new len.old len.new }
+    ensures unknown { result ≡ unknown_options
+        ↔ ¬ (All IsKnownColumn columns.now × AreKnownGaps gaps.now) }
+    ensures not_utf8 { result ≡ not_utf8 ↔ All IsKnownColumn columns.now × AreKnownGaps gaps.now
+        × ¬ (All HasTextLines cells.now × AreTextGaps gaps.now) }
+    ensures statuses { result ≤ unknown_options }
+{
+    tables::textwrap_table_of_lines(alloc, cells, columns, gaps, rows, count, room, len)
 }
 
 /// Exports [`textwrap_more_calls::text_steps::textwrap_wrap_at`].

@@ -5,7 +5,6 @@ pub use Rattle.textwrap.proofs.Common.{Built, is_blank_line, Line, Slice}
 pub use Rattle.textwrap.specs.Refilling.{IsRefilled, unfilled_parts}
 pub use Rattle.textwrap.specs.{Columns.{IsInColumns, table_rows}, Indentation.dedented}
 pub use Rattle.textwrap_calls.specs.Options.{Divides, options_settings, says_yes, step_settings}
-pub use Rattle.textwrap_calls.specs.Tables.{HasTextLines, shape_of_column}
 pub use Rattle.textwrap_calls.specs.declared.options.TextwrapOptions.{TextwrapOptions}
 pub use Rattle.textwrap_calls.specs.{Columns.ArePlacedRows, Options.{options_algorithm, separator_of}}
 pub use Rattle.textwrap_calls.specs.{Status.{done, too_small}, Texts.bytes_of, Wrapping.ShowLines}

@@ -12,7 +12,7 @@ use Rattle.textwrap_calls.proofs.Common.{arith, cond, false, get_or, length, Lis
 use Rattle.textwrap_calls.proofs.Common.{cases_lt, is_whole, IsFilled, IsUtf8, place_of, says_yes}
 use Rattle.textwrap_calls.proofs.Common.{drop, inl, inr, refl, sym, true, ◌++◌, ◌+◌, ◌-◌, ◌<◌, ◌==◌}
 use Rattle.textwrap_calls.{proofs.Common.{ap, ◌∙◌, ◌∷◌, ◌≡◌, ◌≢◌, ◌≤◌}, specs.Printable.IsOnlyLine}
-use Rattle.textwrap_calls.{proofs.PlaceLemmas.placed-shown, specs.Printable.AreWithoutIndents}
+use Rattle.textwrap_calls.proofs.PlaceLemmas.{placed-shown}
 use Rattle.textwrap_layout.proofs.Paragraph.LeftOff.{AreParagraphParts-whole, line_from-whole}
 use Rattle.textwrap_layout.proofs.Text.Paragraphs.{one-paragraph}
 use Rattle.textwrap_layout.proofs.{Common.{parts_of, Slice}, Text.Paragraphs.printable-free}
@@ -79,24 +79,31 @@ found-none text none =
     true≢false (sym (contains-any line_feed text (k, within, is)) ∙ none))
 
 -- one without an indent that is shorter than the width is the line as it is, but for its last blanks
-pub free-line : (o : TextwrapOptions) (text line : List ℕ) → o.initial_indent.now ≡ []
-    → length text < o.width → HasNoLineFeed text
-    → line ≡ cond (says_yes o.preserve_trailing_space) text (without_final_blanks text)
-    → IsOnlyLine o text line
-free-line o text line none short free is =
-    let settings = options_settings o in
-    let whole : is_whole settings false text ≡ true = rw none (lt-ltb (length text) o.width short) in
+free-line : (settings : Settings) (Divides : Bool → List ℕ → List (List WordText) → Type 0)
+    (text line : List ℕ) → settings.initial_indent ≡ [] → length text < settings.width
+    → HasNoLineFeed text
+    → line ≡ cond settings.preserve_trailing_space text (without_final_blanks text)
+    → ArePlacedLines settings Divides text (Slice line ∷ []) (place_of 0 0 (Slice line) ∷ [])
+free-line settings Divides text line none short free is =
+    let whole : is_whole settings false text ≡ true =
+    rw none (lt-ltb (length text) settings.width short) in
     let one = one-paragraph settings.line_ending text free in
     let parts = parts_of settings false (word_of text ∷ []) ∷ [] in
     let same = ap Slice is ∙ sym (line_from-whole settings false text whole) in
     record {
       are = record {
         groups = parts ∷ [];
-        defined = rw one (AreParagraphParts-whole settings (Divides o settings) false text whole, refl);
+        defined = rw one (AreParagraphParts-whole settings Divides false text whole, refl);
         given = ap (λ l. l ∷ []) same;
       };
       places_are = rw one (ap (λ l. place_of 0 0 l ∷ []) same);
     }
+
+pub only-line : (o : TextwrapOptions) (text line : List ℕ) → o.initial_indent.now ≡ []
+    → length text < o.width → HasNoLineFeed text
+    → line ≡ cond (says_yes o.preserve_trailing_space) text (without_final_blanks text)
+    → IsOnlyLine o text line
+only-line o = free-line (options_settings o) (Divides o (options_settings o))
 
 -- and that is the filled text
 pub only-line-filled : (o : TextwrapOptions) (text line : List ℕ) → IsOnlyLine o text line
@@ -135,17 +142,16 @@ unfilled-as-it-is (c ∷ cs) free none =
       bare = rw (ended, full) refl;
     }
 
-pub line-refilled : (o : TextwrapOptions) (text line : List ℕ) → AreWithoutIndents o
+pub line-refilled : (o : TextwrapOptions) (text line : List ℕ) → length text < o.width
     → HasNoLineFeed text → line_prefix text ≡ []
-    → IsFilled (options_settings o) (Divides o (options_settings o)) text line
+    → line ≡ cond (says_yes o.preserve_trailing_space) text (without_final_blanks text)
     → IsRefilled (options_settings o) (Divides o) text line
-line-refilled o text line bare free none filled =
-    let settings = options_settings o in
+line-refilled o text line short free none is =
+    let settings = with_indents_of text (options_settings o) in
     let got = unfilled-as-it-is text free none in
-    let same : with_indents_of text settings ≡ settings =
-    rw (got.initial ∙ sym bare.initial, got.subsequent ∙ sym bare.subsequent) refl in
-    let indented = subst (λ s. IsFilled s (Divides o s) text line) (sym same) filled in (
+    let only = free-line settings (Divides o settings) text line got.initial short free is in
+    let filled : IsFilled settings (Divides o settings) text line = (Slice line ∷ [], only.are, refl) in (
       line,
-      rw got.joined indented,
+      rw got.joined filled,
       rw got.bare (sym (append-nil line)),
     )

@@ -9,6 +9,5 @@ pub mod Reflowing
 pub mod Room
 pub mod Status
 pub mod Texts
-pub mod Tables
 pub mod Reported
 pub mod Wrapping

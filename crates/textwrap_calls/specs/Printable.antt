@@ -1,5 +1,5 @@
 -- Lines of printable ASCII, for which neither the options nor UTF-8 have to be read.
-use Rattle.std.specs.Prelude.{◌≡◌, ◌≢◌, ℕ, List, [], ◌∷◌, slice_index}
+use Rattle.std.specs.Prelude.{◌≡◌, ◌≢◌, ℕ, List, [], ◌∷◌, IsUtf8, slice_index}
 use Rattle.textwrap_text.specs.Blanks.{blank}
 use Rattle.textwrap_text.specs.Units.{IsPrintable}
 use Rattle.textwrap_layout.specs.Paragraph.{Slice}
@@ -7,10 +7,10 @@ use Rattle.textwrap_layout.specs.Places.{ArePlacedLines, place_of}
 use Rattle.textwrap_calls.specs.Options.{options_settings, AreKnown, Divides}
 use Rattle.textwrap_calls.specs.declared.options.TextwrapOptions.{TextwrapOptions}
 
--- known options that add nothing to a line
-pub record AreWithoutIndents (o : TextwrapOptions) : Type 0 where
+-- known options that add nothing to a first line
+pub record HaveNoInitialIndent (o : TextwrapOptions) : Type 0 where
   pub initial : o.initial_indent.now ≡ []
-  pub subsequent : o.subsequent_indent.now ≡ []
+  pub subsequent : IsUtf8 o.subsequent_indent.now
   pub known : AreKnown o
 
 -- the text is this one line, a slice from its beginning

@@ -51,7 +51,7 @@ pub fn textwrap_align(
 }
 
 /// The alignment of a number, if it has one.
-pub(crate) fn read_alignment(number: u32) -> Option<Alignment>
+pub fn read_alignment(number: u32) -> Option<Alignment>
     ensures known { IfSome result (λ alignment. alignment ≡ alignment_of number) }
     ensures some { IfSome result (λ _. number ≤ 2) }
     ensures none { IfNone result (2 < number) }

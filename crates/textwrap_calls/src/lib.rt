@@ -23,7 +23,6 @@ pub mod reflowing;
 pub mod reported;
 pub mod room;
 pub mod status;
-pub mod tables;
 pub mod texts;
 pub mod version;
 pub mod widths;

@@ -4,7 +4,7 @@ ghost use Rattle.textwrap.specs.Indentation.{HasNoLineFeed};
 ghost use Rattle.textwrap.specs.Refilling.{IsRefilled, line_prefix};
 ghost use Rattle.textwrap_calls.specs.Options.{options_settings, AreKnown, AreTexts, Divides};
 ghost use Rattle.textwrap_calls.specs.Options.{IsFilledByOptions, IsRefilledBy};
-ghost use Rattle.textwrap_calls.specs.Printable.{AreWithoutIndents, IsOnlyLine};
+ghost use Rattle.textwrap_calls.specs.Printable.{HaveNoInitialIndent, IsOnlyLine};
 ghost use Rattle.textwrap_text.specs.Units.{IsPrintable};
 
 use crate::options::{TextwrapOptions, are_known};
@@ -47,8 +47,8 @@ fn is_long_printable(text: &[u8]) -> bool
     is_printable(&text[text.len() - BLOCK..])
 }
 
-/// The line of a text that is one as a whole, by known options without indents. Then the options have
-/// not to be read, nor has the text character by character, and most short texts are such.
+/// The line of a text that is one as a whole, by known options without an initial indent. Then the
+/// options have not to be read, nor has the text character by character, and most short texts are such.
 pub(crate) fn only_line<'t>(text: &'t [u8], options: &TextwrapOptions<'_>) -> Option<&'t [u8]>
     ensures known { IfSome result (λ _. AreKnown options.now × AreTexts options.now) }
     ensures utf8 { IfSome result (λ _. IsUtf8 text.now) }
@@ -77,18 +77,18 @@ pub(crate) fn only_known_line<'t>(text: &'t [u8], options: &TextwrapOptions<'_>)
     Some(line_of(text, options))
 }
 
-/// Whether a text has fewer bytes than the width, and the options are known and have no indents.
+/// Whether a text has fewer bytes than the width, and the options add nothing to its first line.
 fn is_short(text: &[u8], options: &TextwrapOptions<'_>) -> bool
     ensures short { IsTrue result → length text.now < options.now.width }
-    ensures bare { IsTrue result → AreWithoutIndents options.now }
+    ensures bare { IsTrue result → HaveNoInitialIndent options.now }
 {
-    text.len() < options.width && are_without_indents(options)
+    text.len() < options.width && have_no_initial_indent(options)
 }
 
 /// The line of such a text, if it has no line feed.
 fn line_of<'t>(text: &'t [u8], options: &TextwrapOptions<'_>) -> &'t [u8]
     requires short { length text.now < options.now.width }
-    requires bare { AreWithoutIndents options.now }
+    requires bare { HaveNoInitialIndent options.now }
     requires free { HasNoLineFeed text.now }
     ensures filled { IsFilledByOptions options.now text.now result.now }
     ensures line { IsOnlyLine options.now text.now result.now }
@@ -109,9 +109,16 @@ fn is_one_line(text: &[u8]) -> bool
     is_printable_text(text) || (!text.contains(&b'\n') && is_utf8(text))
 }
 
-/// Whether the options are known, and have no indents.
-fn are_without_indents(options: &TextwrapOptions<'_>) -> bool
-    ensures { IsTrue result ↔ AreWithoutIndents options.now }
+/// Whether the options are known, their indents are texts, and the initial one is empty.
+fn have_no_initial_indent(options: &TextwrapOptions<'_>) -> bool
+    ensures { IsTrue result ↔ HaveNoInitialIndent options.now }
 {
-    options.initial_indent.is_empty() && options.subsequent_indent.is_empty() && are_known(options)
+    options.initial_indent.is_empty() && is_indent(options.subsequent_indent) && are_known(options)
+}
+
+/// Whether an indent is a text. Most are empty.
+fn is_indent(indent: &[u8]) -> bool
+    ensures { IsTrue result ↔ IsUtf8 indent.now }
+{
+    indent.is_empty() || is_utf8(indent)
 }

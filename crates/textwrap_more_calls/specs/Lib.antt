@@ -7,4 +7,5 @@ pub mod Paragraphs
 pub mod Pieces
 pub mod Status
 pub mod Steps
+pub mod Tables
 pub mod TextSteps

@@ -24,33 +24,6 @@ named P {s} {t} {w} {v} {p} {q} {a} {b} settings words points algorithm is =
     (subst (λ o. P s (DividesFrom (words_by w) o b)) points
     (subst (λ e. P s (DividesFrom (words_by w) p e)) algorithm is)))
 
--- ---- a text that is one line as a whole
-
--- a text without an ending is one paragraph
-pub only-paragraph : (ending : LineEnding) (text paragraph : List ℕ)
-    → paragraphs_of ending text ≡ paragraph ∷ [] → paragraphs_of ending text ≡ text ∷ []
-only-paragraph ending text paragraph is =
-    is ∙ ap (λ p. p ∷ []) (sym (ap (join_with (ending_bytes ending)) is)
-    ∙ join-paragraphs_of ending text)
-
--- where the paragraph is a line as a whole, that is the filled text, without its last blanks
-pub only-filled : (settings : Settings)
-    (Divides : Bool → List ℕ → List (List WordText) → Type 0) (text filled : List ℕ)
-    → paragraphs_of settings.line_ending text ≡ text ∷ []
-    → is_whole settings false text ≡ true
-    → filled ≡ cond settings.preserve_trailing_space text (without_final_blanks text)
-    → IsFilled settings Divides text filled
-only-filled settings Divides text filled one whole is =
-    let parts = parts_of settings false (word_of text ∷ []) ∷ [] in (
-      map line_from parts,
-      record {
-        groups = parts ∷ [];
-        defined = rw one (AreParagraphParts-whole settings Divides false text whole, refl);
-        given = refl;
-      },
-      is ∙ ap line_bytes (sym (line_from-whole settings false text whole)),
-    )
-
 -- ---- what a table of columns without functions shows
 
 -- each column makes what its parts make

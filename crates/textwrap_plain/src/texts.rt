@@ -1,28 +1,23 @@
 //! Texts, wrapped and filled by options without functions.
-ghost use Rattle.std.specs.Prelude.{◌≡◌, ◌∷◌, [], ℕ, List, length, None, Some, IfErr, IfOk, IfSome};
-ghost use Rattle.std.specs.Prelude.{IsOk, false, if◌then◌else◌, map, string_bytes, true};
+ghost use Rattle.std.specs.Prelude.{◌≡◌, ℕ, List, length, None, Some, IfErr, IfOk, IsOk, map};
+ghost use Rattle.std.specs.Prelude.{string_bytes, true};
 ghost use Rattle.textwrap.specs.Filling.{IsFilled};
-ghost use Rattle.textwrap.specs.Paragraph.{is_whole, line_view};
+ghost use Rattle.textwrap.specs.Paragraph.{line_view};
 ghost use Rattle.textwrap.specs.Text.{ArePrintedWithin, CanKeepToWidth, IsWrapped, LinesKeepToWidth};
 ghost use Rattle.textwrap.specs.WrapAlgorithms.{ByFirstFit};
 ghost use Rattle.textwrap_plain.specs.Options.{plain_algorithm, DividesPlainly, plain_settings};
 ghost use Rattle.textwrap_plain.specs.Options.{AreDirect, HasRoomForHyphen, plain_splitter};
 ghost use Rattle.textwrap_plain.specs.Hyphenated.{AddOnlyHyphens, AreTheText, LinesKeepButHyphens};
-ghost use Rattle.textwrap_text.specs.LineEnding.{paragraphs_of};
-ghost use Rattle.textwrap_text.specs.Blanks.{without_final_blanks};
 ghost use Rattle.textwrap_text.specs.LentText.{as_len, written_over};
 ghost use Rattle.textwrap_base.specs.Errors.{OnlyMemoryRunsOut};
 
 use crate::options::PlainOptions;
 use std::alloc::Global;
 use std::borrow::CowStr;
-use textwrap::{LineEnding, WrapError};
+use textwrap::WrapError;
 use textwrap_layout::line_sinks::LentLines;
 use textwrap_lines::inner::{fill_by, fill_to, wrap_by};
-use textwrap_lines::parts::split_paragraph;
-use textwrap_text::blanks::split_final_blanks;
 use textwrap_text::lent_text::LentText;
-use textwrap_text::printable::is_printable;
 
 /// Wraps a text and returns its lines, as `wrap` of `textwrap` does it.
 ///
@@ -84,8 +79,8 @@ pub fn fill(alloc: Global, text: &str, options: &PlainOptions<'_>) -> Result<Str
 
 /// Writes the text of [`fill`] into lent room, as much of it as there is room for, and returns how many
 /// bytes it has, or the greatest number if they are more. The rest of the room stays as it was. At
-/// blanks, by first fit and without a dictionary nothing is allocated, and of a text that is one line as
-/// a whole neither.
+/// blanks, by first fit and without a dictionary nothing is allocated. By other options the text is made
+/// before any of it is written, since an error changes nothing.
 ///
 /// # Errors
 /// [`WrapError::Memory`] where memory runs out. Then the room is as it was.
@@ -102,9 +97,6 @@ pub fn fill_into(
     ensures kept { IfErr result (λ _. room.new ≡ room.old) }
     ensures only_memory { OnlyMemoryRunsOut result }
 {
-    if let Some(line) = only_line(text, options) {
-        return Ok(write_over(room, line));
-    }
     if options.are_direct() {
         let mut filled = LentText::new(room);
         let mut lines = LentLines {
@@ -123,42 +115,6 @@ pub fn fill_into(
     }
     let filled = fill(alloc, text, options)?;
     Ok(write_over(room, &filled))
-}
-
-/// The line of a text that is one as a whole. What its words are makes no difference then.
-fn only_line<'t>(text: &'t str, options: &PlainOptions<'_>) -> Option<&'t str>
-    ensures one { IfSome result (λ _.
-        paragraphs_of options.now.layout.line_ending text.now ≡ text.now ∷ []) }
-    ensures whole { IfSome result (λ _. is_whole (plain_settings options.now) false text.now ≡ true) }
-    ensures line { IfSome result (λ line. line.now ≡ (if options.now.layout.preserve_trailing_space
-        then text.now else without_final_blanks text.now)) }
-{
-    let layout = &options.layout;
-    if !layout.initial_indent.is_empty() || text.len() >= layout.width {
-        return None;
-    }
-    if !is_one_paragraph(text, layout.line_ending) {
-        return None;
-    }
-    if layout.preserve_trailing_space {
-        return Some(text);
-    }
-    Some(split_final_blanks(text).0)
-}
-
-/// Whether a text has no line ending.
-fn is_one_paragraph(text: &str, line_ending: LineEnding) -> bool
-    ensures { result ≡ true → paragraphs_of line_ending text.now ≡ text.now ∷ [] }
-{
-    // Printable ASCII has none, and is told many bytes at a time.
-    if is_printable(text.as_bytes()) {
-        return true;
-    }
-    let (_, after) = split_paragraph(text, line_ending);
-    match after {
-        Some(_) => false,
-        None => true,
-    }
 }
 
 /// Writes a text over the front of the room, as much of it as there is room for. Returns its bytes.

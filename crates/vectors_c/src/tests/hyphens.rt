@@ -15,7 +15,7 @@ use textwrap_calls::columns::TextwrapGaps;
 use textwrap_calls::dictionary::TextwrapDictionary;
 use textwrap_calls::options::TextwrapOptions;
 use textwrap_calls::status::{DONE, NOT_UTF8, TOO_SMALL, UNKNOWN_OPTIONS};
-use textwrap_calls::tables::TextwrapColumn;
+use textwrap_more_calls::tables::TextwrapColumn;
 use textwrap_calls::texts::TextwrapText;
 use textwrap_more_calls::hyphens::reading::{textwrap_patterns_check, textwrap_patterns_read};
 use textwrap_more_calls::hyphens::status::{DAMAGED_TABLE, WRONG_PATTERNS};

@@ -11,7 +11,7 @@ use std::alloc::{AllocError, Global};
 use std::process::Abort;
 use textwrap_calls::options::TextwrapOptions;
 use textwrap_calls::status::{DONE, TOO_SMALL};
-use textwrap_calls::tables::{TextwrapCell, TextwrapColumn, textwrap_table_of_lines};
+use textwrap_more_calls::tables::{TextwrapCell, TextwrapColumn, textwrap_table_of_lines};
 use textwrap_calls::texts::TextwrapText;
 use textwrap_calls::wrapping::TextwrapLine;
 use textwrap_more_calls::fragments::TextwrapFragment;

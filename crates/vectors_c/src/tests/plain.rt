@@ -17,7 +17,7 @@ use textwrap_calls::line_lists::{
 use textwrap_calls::options::{TextwrapOptions, VERSION};
 use textwrap_calls::refilling::{TextwrapLayout, textwrap_refill, textwrap_unfill};
 use textwrap_calls::reflowing::{TextwrapReflowOptions, textwrap_reflow};
-use textwrap_calls::tables::{
+use textwrap_more_calls::tables::{
     TextwrapCell, TextwrapColumn, textwrap_table, textwrap_table_of_lines,
 };
 use textwrap_calls::texts::TextwrapText;

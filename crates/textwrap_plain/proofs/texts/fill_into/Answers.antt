@@ -2,17 +2,7 @@ use Rattle.textwrap_plain.proofs.texts.fill_into.Goals as goal
 use Rattle.std.proofs.lemmas.Grind.{common_steps}
 use Rattle.textwrap_lines.proofs.Common.{arith, ending_bytes, join_with, line_bytes, lines_of, map}
 use Rattle.textwrap_lines.proofs.Common.{refl}
-use Rattle.textwrap_plain.proofs.Named.{only-filled}
-use Rattle.textwrap_plain.specs.Options.{DividesPlainly, plain_settings}
 use Rattle.textwrap_text.specs.LentText.{written_over}
-
-pub returns-in-Some-clause-filled : goal.returns-in-Some-clause-filled
-returns-in-Some-clause-filled c =
-    let o = c.args.options.now in
-    let line = c.in-Some.line.now in
-    let filled = only-filled (plain_settings o) (DividesPlainly o (plain_settings o)) c.args.text.now line
-    c.in-Some.ensures.one c.in-Some.ensures.whole c.in-Some.ensures.line in
-    (line, filled, c.write_over.ensures.len, c.write_over.ensures.room)
 
 pub returns-then-are_direct-clause-filled : goal.returns-then-are_direct-clause-filled
 returns-then-are_direct-clause-filled c =

@@ -1,4 +1,4 @@
-use Rattle.textwrap_calls.proofs.tables.textwrap_table.Goals as goal
+use Rattle.textwrap_more_calls.proofs.tables.textwrap_table.Goals as goal
 use Rattle.textwrap_calls.proofs.{Common.{arith, refl}, TextLemmas.right-apart}
 use Rattle.textwrap_calls.proofs.{PlaceLemmas.rows-written, TextLemmas.{known-apart, written-apart}}
 

@@ -6,8 +6,8 @@ use Rattle.textwrap_calls.specs.Options.{AreKnown, AreTexts, options_settings, o
 use Rattle.textwrap_calls.specs.Options.{options_algorithm, separator_of}
 use Rattle.textwrap_calls.specs.Texts.{bytes_of, IsText}
 use Rattle.textwrap_calls.specs.declared.columns.TextwrapGaps.{TextwrapGaps}
-use Rattle.textwrap_calls.specs.declared.tables.TextwrapCell.{TextwrapCell}
-use Rattle.textwrap_calls.specs.declared.tables.TextwrapColumn.{TextwrapColumn}
+use Rattle.textwrap_more_calls.specs.declared.tables.TextwrapCell.{TextwrapCell}
+use Rattle.textwrap_more_calls.specs.declared.tables.TextwrapColumn.{TextwrapColumn}
 use Rattle.textwrap_calls.specs.declared.texts.TextwrapText.{TextwrapText}
 use Rattle.textwrap_display.specs.Tables.{Shape}
 use Rattle.textwrap_plain.specs.Options.{words_by}

@@ -1,5 +1,7 @@
-use Rattle.textwrap_calls.proofs.tables.have_texts.Goals as goal
-use Rattle.textwrap_calls.{proofs.Common.refl, proofs.TextLemmas.next-holds, specs.Tables.HasTexts}
+use Rattle.textwrap_more_calls.proofs.tables.have_texts.Goals as goal
+use Rattle.textwrap_calls.proofs.Common.{refl}
+use Rattle.textwrap_calls.proofs.TextLemmas.{next-holds}
+use Rattle.textwrap_more_calls.specs.Tables.{HasTexts}
 
 pub loop-column-preserved : goal.loop-column-preserved
 loop-column-preserved c =

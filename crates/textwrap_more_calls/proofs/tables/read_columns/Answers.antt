@@ -1,4 +1,4 @@
-use Rattle.textwrap_calls.proofs.tables.read_columns.Goals as goal
+use Rattle.textwrap_more_calls.proofs.tables.read_columns.Goals as goal
 use Rattle.textwrap_calls.proofs.Common.{inl, inr}
 
 pub unreachable-requires : goal.unreachable-requires

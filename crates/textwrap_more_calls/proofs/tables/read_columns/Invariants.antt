@@ -1,5 +1,6 @@
-use Rattle.textwrap_calls.proofs.tables.read_columns.Given as goal
-use Rattle.textwrap_calls.{proofs.Common.{drop, map, ◌++◌, ◌≡◌}, specs.Tables.parts_of_column}
+use Rattle.textwrap_more_calls.proofs.tables.read_columns.Given as goal
+use Rattle.textwrap_calls.proofs.Common.{drop, map, ◌++◌, ◌≡◌}
+use Rattle.textwrap_more_calls.specs.Tables.{parts_of_column}
 use Rattle.textwrap_plain.specs.Tables.{plain_parts}
 
 -- the columns so far, and those that are left, have the parts of all

@@ -1,4 +1,4 @@
-use Rattle.textwrap_calls.proofs.tables.place_table.Goals as goal
+use Rattle.textwrap_more_calls.proofs.tables.place_table.Goals as goal
 use Rattle.textwrap_calls.proofs.Common.{arith}
 use Rattle.textwrap_plain.proofs.Named.{plain-table}
 use Rattle.textwrap_text.proofs.Common.{rules}

@@ -1,5 +1,7 @@
-use Rattle.textwrap_calls.proofs.tables.have_text_lines.Goals as goal
-use Rattle.textwrap_calls.proofs.{Common.{HasTextLines, refl}, TextLemmas.next-holds}
+use Rattle.textwrap_more_calls.proofs.tables.have_text_lines.Goals as goal
+use Rattle.textwrap_calls.proofs.Common.{refl}
+use Rattle.textwrap_calls.proofs.TextLemmas.{next-holds}
+use Rattle.textwrap_more_calls.specs.Tables.{HasTextLines}
 
 pub loop-cell-preserved : goal.loop-cell-preserved
 loop-cell-preserved c =

@@ -1,5 +1,6 @@
-use Rattle.textwrap_calls.proofs.tables.read_cells.Given as goal
-use Rattle.textwrap_calls.{proofs.Common.{drop, ◌++◌, ◌≡◌}, specs.Tables.lines_of_cells}
+use Rattle.textwrap_more_calls.proofs.tables.read_cells.Given as goal
+use Rattle.textwrap_calls.proofs.Common.{drop, ◌++◌, ◌≡◌}
+use Rattle.textwrap_more_calls.specs.Tables.{lines_of_cells}
 use Rattle.textwrap_display.specs.Tables.{cell_texts}
 
 -- the cells so far, and those that are left, have the lines of all

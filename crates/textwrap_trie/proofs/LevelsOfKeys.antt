@@ -1,14 +1,14 @@
 -- What a node gives a text is the greatest of what it has for the beginnings of the text; and where
 -- its keys are those of entries, this is what they give.
 use Rattle.std.specs.Prelude.{bytes_eq}
-use Rattle.textwrap_text.proofs.Common.{ap, arith, Bool, cond, eqb, false, get_or}
+use Rattle.textwrap_text.proofs.Common.{ap, ap₂, arith, Bool, cond, eqb, false, get_or}
 use Rattle.textwrap_text.proofs.Common.{get_or_past, List, max, nat_eq, None, Option, refl, Some}
 use Rattle.textwrap_text.proofs.Common.{starts_with, suc, sym, true, unwrap_or, ℕ, ◌≡◌, ◌∙◌, ◌∷◌}
 use Rattle.textwrap_text.proofs.Common.{[]}
 use Rattle.textwrap_trie.proofs.FirstEntries.{entry_for-none, others-behind}
 use Rattle.textwrap_trie.specs.Entries.{AreSortedFrom, entry_for}
 use Rattle.textwrap_trie.specs.Merging.{greatest_number}
-use Rattle.textwrap_trie.specs.Trie.{child_of, level_from, numbers_for}
+use Rattle.textwrap_trie.specs.Trie.{child_of, level_below, level_from, lists_of, numbers_below, numbers_for, slots_of}
 use Rattle.textwrap_trie.specs.declared.entries.TrieEntry.{TrieEntry}
 
 -- a number of some numbers, or 0 of none
@@ -21,12 +21,6 @@ greatest_of [] given place = number_of (given []) place
 greatest_of (c ∷ cs) given place =
     max (number_of (given []) place) (greatest_of cs (λ key. given (c ∷ key)) place)
 
-pub of-same : (text : List ℕ) (given other : List ℕ → Option (List ℕ)) (place : ℕ)
-    → ((key : List ℕ) → given key ≡ other key)
-    → greatest_of text given place ≡ greatest_of text other place
-of-same [] given other place same = ap (λ o. number_of o place) (same [])
-of-same (c ∷ cs) given other place same = grind arith
-
 none-at : (place : ℕ) → number_of None place ≡ 0
 none-at place = get_or_past {X = ℕ} [] place 0 (omega arith)
 
@@ -36,26 +30,13 @@ of-none (c ∷ cs) place = omega (arith, none-at place, of-none cs place)
 
 -- ---- what a node gives a text
 
-levels-child : (c : ℕ) (cs words : List ℕ) (node place : ℕ) (given : List ℕ → Option (List ℕ))
-    → ((key : List ℕ) → numbers_for key words node ≡ given key)
-    → (((key : List ℕ) → numbers_for key words (child_of words node c) ≡ given (c ∷ key))
-    → level_from cs words (child_of words node c) place
-    ≡ greatest_of cs (λ key. given (c ∷ key)) place)
-    → (b : Bool) → eqb (child_of words node c) 0 ≡ b
-    → level_from (c ∷ cs) words node place ≡ greatest_of (c ∷ cs) given place
-levels-child c cs words node place given has behind true is = grind (
-  arith,
-  of-same cs (λ key. given (c ∷ key)) (λ key. None) place (λ key. sym (has (c ∷ key)) ∙ (rw is refl)),
-  of-none cs place,
-)
-levels-child c cs words node place given has behind false is = grind arith
-
-pub levels-of : (text words : List ℕ) (node place : ℕ) (given : List ℕ → Option (List ℕ))
-    → ((key : List ℕ) → numbers_for key words node ≡ given key)
-    → level_from text words node place ≡ greatest_of text given place
-levels-of [] words node place given has = ap (λ o. number_of o place) (has [])
-levels-of (c ∷ cs) words node place given has =
-    grind (arith, levels-of cs words (child_of words node c) place (λ key. given (c ∷ key)), levels-child)
+pub levels-of : (text slots lists : List ℕ) (node place : ℕ) (given : List ℕ → Option (List ℕ))
+    → ((key : List ℕ) → numbers_below key slots lists node ≡ given key)
+    → level_below text slots lists node place ≡ greatest_of text given place
+levels-of [] slots lists node place given has = ap (λ o. number_of o place) (has [])
+levels-of (c ∷ cs) slots lists node place given has =
+    ap₂ max (ap (λ o. number_of o place) (has []))
+    (levels-of cs slots lists (child_of slots node c) place (λ key. given (c ∷ key)) (λ key. has (c ∷ key)))
 
 -- ---- what entries give a text
 
@@ -106,4 +87,5 @@ pub levels-entries : {A : Type 0} (text words : List ℕ) (root place : ℕ) (es
     → ((key : List ℕ) → numbers_for key words root ≡ entry_for 0 es key)
     → level_from text words root place ≡ greatest_number es text place
 levels-entries text words root place es sorted has =
-    grind (arith, levels-of text words root place (entry_for 0 es) has, of-entries text place es sorted)
+    levels-of text (slots_of words root) (lists_of words root) (get_or words root 0) place (entry_for 0 es) has
+    ∙ of-entries text place es sorted

@@ -1,4 +1,3 @@
-pub mod ChildLists
 pub mod FirstEntries
 pub mod GreatestNumbers
 pub mod KeyOrder
@@ -7,5 +6,6 @@ pub mod LevelsOfKeys
 pub mod LevelsRaised
 pub mod ListsWithin
 pub mod MergedEntries
+pub mod PutNodes
 pub mod TrieSoFar
-pub mod Written
+pub mod WrittenLists

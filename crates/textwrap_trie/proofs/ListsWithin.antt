@@ -1,9 +1,11 @@
 -- Lists of numbers within one.
 use Rattle.textwrap_text.proofs.Common.{[], ap, append_assoc, arith, drop, get_or, length, List, min}
-use Rattle.textwrap_text.proofs.Common.{drop-drop, get_or-drop, length-take, None}
+use Rattle.textwrap_text.proofs.Common.{drop-drop, get_or-drop, length-take}
 use Rattle.textwrap_text.proofs.Common.{refl, take, take_at, ℕ, ◌++◌, ◌+◌, ◌-◌, ◌<◌, ◌∙◌, ◌∷◌, ◌≡◌}
-use Rattle.std.proofs.lemmas.List.{take_min, take_rest}
-use Rattle.textwrap_trie.specs.Trie.{behind_letter, child_of, number_from, numbers_at}
+use Rattle.textwrap_text.proofs.Common.{get_or_append_left, length-append, length-drop, suc, take-append-le, ◌≤◌}
+use Rattle.std.proofs.Math.Seq.{drop-append_seam}
+use Rattle.std.proofs.lemmas.List.{drop-append-le, take_min, take_rest}
+use Rattle.textwrap_trie.specs.Trie.{numbers_at}
 
 -- what does not fit is left out, so it need not be asked for
 pub numbers_at-fit : (words : List ℕ) (at n : ℕ) → at < length words
@@ -34,15 +36,25 @@ rest-fit words at n within is =
     ∙ drop-drop n (at + 1) words
     ∙ ap (λ m. drop m words) (omega (arith, len))
 
--- a list that stands behind another
-numbers_at-drop : (words : List ℕ) (at : ℕ) → numbers_at (drop at words) 0 ≡ numbers_at words at
-numbers_at-drop words at = grind (arith, get_or-drop at words 0 0, drop-drop 1 at words)
+-- and what is written behind such a list stands behind it
+pub rest-written : (front numbers more : List ℕ) (at : ℕ)
+    → at ≡ length front + 1 + length numbers
+    → drop at ((front ++ length numbers ∷ numbers) ++ more) ≡ more
+rest-written front numbers more at is =
+    let end : at ≡ length (front ++ length numbers ∷ numbers) =
+    omega (arith, is, length-append front (length numbers ∷ numbers)) in
+    ap (λ n. drop n ((front ++ length numbers ∷ numbers) ++ more)) end
+    ∙ drop-append_seam (front ++ length numbers ∷ numbers) more
 
--- a letter that does not lie in the window of a node is looked for behind that
-pub child_of-behind : (words : List ℕ) (node letter : ℕ) (window rest list : List ℕ)
-    → window ≡ numbers_at words (node + 2)
-    → rest ≡ drop (node + 2 + 1 + length (numbers_at words (node + 2))) words
-    → list ≡ numbers_at rest 0
-    → None ≡ number_from (get_or words (node + 1) 0) window letter
-    → behind_letter list letter ≡ child_of words node letter
-child_of-behind words node letter window rest list front back is none = grind (arith, numbers_at-drop)
+-- a list that is whole stays there, whatever is written behind it
+pub list-stays : (words numbers more : List ℕ) (at : ℕ) → at < length words
+    → get_or words at 0 ≡ length numbers → numbers_at words at ≡ numbers
+    → numbers_at (words ++ more) at ≡ numbers
+list-stays words numbers more at within long is =
+    let fits : length numbers + (at + 1) ≤ length words =
+    omega (arith, within, ap length is, length-take (get_or words at 0) (drop (suc at) words), length-drop (suc at) words, long) in
+    ap (λ n. take n (drop (suc at) (words ++ more))) (get_or_append_left words more 0 at within)
+    ∙ ap (take (get_or words at 0)) (drop-append-le (suc at) words more (omega (arith, within)))
+    ∙ take-append-le (get_or words at 0) (drop (suc at) words) more
+    (omega (arith, within, fits, long, length-drop (suc at) words))
+    ∙ is

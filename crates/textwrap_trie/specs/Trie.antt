@@ -1,72 +1,81 @@
--- A trie in one list of numbers. A node stands at a place of the list: first the place of its numbers,
--- or 0 if it has none, then its window, then the list of its children: their letters, each below the next,
--- then the places of their nodes. The window has the children once more, for letters that follow one
--- another: first the first of these letters, then the list of the places of their nodes, with 0 for each
--- letter that has none. A letter that lies in the window is looked for nowhere else. The window of a node
--- with few children is empty.
-use Rattle.std.specs.List.{position_or_len}
-use Rattle.std.specs.Prelude.{ℕ, suc, ◌+◌, ◌-◌, ◌/◌, ◌==◌, List, [], ◌∷◌, Option, None, Some, drop}
-use Rattle.std.specs.Prelude.{if◌then◌else◌, length, max, nat_le, slice_get, slice_index, take, unwrap_or}
+-- A trie in a list of numbers. At its place stands its root, then how many slots it has, then these, then
+-- lists of numbers, each behind its length.
+--
+-- A node is told by a number: a place, times 4, and 2 more if it has numbers, and 1 more if it has
+-- children; 0 is no node. Where it has no children, its place is that of its list of numbers. Else its
+-- place is that of a slot of its own, in which the place of that list stands, and its child for a letter
+-- stands so many slots behind that one as the letter's code says, the letter and 1.
+--
+-- A slot holds a node, or the place of a list, times 2^21, and a code: that of the letter, or 0 in the
+-- slot of a node's own. So a child is that of the node whose place is as far before it as its code says.
+use Rattle.std.specs.Option.{option_map}
+use Rattle.std.specs.Prelude.{ℕ, suc, ◌+◌, ◌/◌, ◌%◌, ◌==◌, List, [], ◌∷◌, Option, None, Some, drop}
+use Rattle.std.specs.Prelude.{if◌then◌else◌, length, max, slice_index, slice_index_or, take, unwrap_or}
 
 -- the list that stands at a place: how many numbers it has, then these
 abbrev pub numbers_at : List ℕ → ℕ → List ℕ
 numbers_at words at = take (slice_index words at) (drop (suc at) words)
 
--- where the first letter stands that is not below this one, or how many letters there are
-abbrev pub place_of : List ℕ → ℕ → ℕ
-place_of letters letter = position_or_len (λ l. nat_le letter l) letters
+-- what an empty slot holds: a code that no letter has
+abbrev pub empty_slot : ℕ
+empty_slot = 0x1FFFFF
 
--- the number at the place of a letter, or 0 where the first that is not below it is another
-abbrev pub number_of : List ℕ → List ℕ → ℕ → ℕ
-number_of letters numbers letter =
-    if slice_index letters (place_of letters letter) == letter
-    then slice_index numbers (place_of letters letter)
-    else 0
+-- the slot at a place: those past the end are empty
+abbrev pub slot_at : List ℕ → ℕ → ℕ
+slot_at slots at = slice_index_or slots at empty_slot
 
-abbrev pub half_of : List ℕ → ℕ
-half_of list = length list / 2
+-- the node in a slot, if that has the code of a letter, else 0
+abbrev pub child_in : ℕ → ℕ → ℕ
+child_in slot letter = if slot % 0x200000 == suc letter then slot / 0x200000 else 0
 
--- the number of a letter, in a list of letters and then of as many numbers, or 0
-abbrev pub behind_letter : List ℕ → ℕ → ℕ
-behind_letter list letter =
-    number_of (take (half_of list) list) (take (half_of list) (drop (half_of list) list)) letter
+-- the child for a letter of the node at a place, or 0
+abbrev pub child_at : List ℕ → ℕ → ℕ → ℕ
+child_at slots place letter = child_in (slot_at slots (place + suc letter)) letter
 
--- the number of a letter, in those of letters that follow one another, or None where it is none of these
-abbrev pub number_from : ℕ → List ℕ → ℕ → Option ℕ
-number_from first numbers letter =
-    if nat_le first letter then slice_get numbers (letter - first) else None
-
--- the nodes of the window of a node
-abbrev pub window_of : List ℕ → ℕ → List ℕ
-window_of words node = numbers_at words (node + 2)
-
--- the child of a node for a letter, or 0: from its window, or from the list of its children
+-- the child of a node for a letter, or 0
 abbrev pub child_of : List ℕ → ℕ → ℕ → ℕ
-child_of words node letter =
-    unwrap_or (number_from (slice_index words (node + 1)) (window_of words node) letter)
-    (behind_letter (numbers_at words (node + 3 + length (window_of words node))) letter)
+child_of slots node letter = if node % 2 == 0 then 0 else child_at slots (node / 4) letter
 
--- the list at a place, where 0 stands for none
-abbrev pub list_at : List ℕ → ℕ → Option (List ℕ)
-list_at words at = if at == 0 then None else Some (numbers_at words at)
+-- the place of a node's list of numbers
+abbrev pub list_of : List ℕ → ℕ → Option ℕ
+list_of slots node =
+    if node / 2 % 2 == 0 then None
+    else Some (if node % 2 == 0 then node / 4 else slot_at slots (node / 4) / 0x200000)
 
 -- the numbers of a node
-abbrev pub numbers_of : List ℕ → ℕ → Option (List ℕ)
-numbers_of words node = list_at words (slice_index words node)
+abbrev pub numbers_of : List ℕ → List ℕ → ℕ → Option (List ℕ)
+numbers_of slots lists node = option_map (numbers_at lists) (list_of slots node)
 
 -- the numbers of a key below a node
-abbrev pub numbers_for : List ℕ → List ℕ → ℕ → Option (List ℕ)
-numbers_for [] words node = numbers_of words node
-numbers_for (c ∷ cs) words node =
-    if child_of words node c == 0 then None else numbers_for cs words (child_of words node c)
+abbrev pub numbers_below : List ℕ → List ℕ → List ℕ → ℕ → Option (List ℕ)
+numbers_below [] slots lists node = numbers_of slots lists node
+numbers_below (c ∷ cs) slots lists node = numbers_below cs slots lists (child_of slots node c)
 
 -- the number of a node at a place, or 0
-abbrev pub level_at : List ℕ → ℕ → ℕ → ℕ
-level_at words node place = slice_index (unwrap_or (numbers_of words node) []) place
+abbrev pub level_at : List ℕ → List ℕ → ℕ → ℕ → ℕ
+level_at slots lists node place = slice_index (unwrap_or (numbers_of slots lists node) []) place
 
 -- the greatest number at a place that a key below a node has with which a text begins
+abbrev pub level_below : List ℕ → List ℕ → List ℕ → ℕ → ℕ → ℕ
+level_below [] slots lists node place = level_at slots lists node place
+level_below (c ∷ cs) slots lists node place =
+    max (level_at slots lists node place)
+    (level_below cs slots lists (child_of slots node c) place)
+
+-- ---- in the list of numbers
+
+abbrev pub slots_of : List ℕ → ℕ → List ℕ
+slots_of words root = numbers_at words (root + 1)
+
+abbrev pub lists_of : List ℕ → ℕ → List ℕ
+lists_of words root = drop (root + 2 + length (slots_of words root)) words
+
+-- the numbers of a key in the trie at a place
+abbrev pub numbers_for : List ℕ → List ℕ → ℕ → Option (List ℕ)
+numbers_for key words root =
+    numbers_below key (slots_of words root) (lists_of words root) (slice_index words root)
+
+-- the greatest number at a place that a key of the trie has with which a text begins
 abbrev pub level_from : List ℕ → List ℕ → ℕ → ℕ → ℕ
-level_from [] words node place = level_at words node place
-level_from (c ∷ cs) words node place =
-    max (level_at words node place)
-    (if child_of words node c == 0 then 0 else level_from cs words (child_of words node c) place)
+level_from text words root place =
+    level_below text (slots_of words root) (lists_of words root) (slice_index words root) place

@@ -1,53 +1,81 @@
--- What stands in a trie once a part of it is written, whatever is written behind that.
-use Rattle.std.specs.List.Sorted.{IsStrictlyIncreasing}
-use Rattle.std.specs.Prelude.{◌≡◌, ℕ, ◌+◌, ◌<◌, ◌==◌, List, [], ◌∷◌, ◌++◌, Option, if◌then◌else◌}
-use Rattle.std.specs.Prelude.{length, map, slice_index}
+-- What stands in the slots and the lists of a trie once a part of it is written, whatever is written
+-- behind that.
+use Rattle.std.specs.Option.{option_map}
+use Rattle.std.specs.Prelude.{◌≡◌, ◌≢◌, ℕ, suc, ◌+◌, ◌*◌, ◌==◌, All, List, [], ◌∷◌, ◌++◌, Option, None, Some}
+use Rattle.std.specs.Prelude.{if◌then◌else◌}
 use Rattle.textwrap_trie.specs.Entries.{entry_for}
-use Rattle.textwrap_trie.specs.Trie.{child_of, list_at, numbers_for}
+use Rattle.textwrap_trie.specs.Trie.{child_at, child_of, empty_slot, list_of, lists_of}
+use Rattle.textwrap_trie.specs.Trie.{numbers_at, numbers_below, slot_at, slots_of}
+use Rattle.std.specs.Prelude.{slice_index}
 use Rattle.textwrap_trie.specs.declared.entries.TrieEntry.{TrieEntry}
-use Rattle.textwrap_trie.specs.declared.writing.Child.{Child}
+use Rattle.textwrap_trie.specs.declared.slots.Child.{Child}
 
--- the node of the first child with a letter, or 0
-abbrev pub child_for : List Child → ℕ → ℕ
-child_for [] letter = 0
-child_for (child ∷ children) letter =
-    if child.letter == letter then child.node else child_for children letter
+-- the node of the last child with a letter, or another one
+abbrev pub child_for : List Child → ℕ → ℕ → ℕ
+child_for [] letter other = other
+child_for (child ∷ children) letter other =
+    child_for children letter (if child.letter == letter then child.node else other)
 
--- the letter of each child is below that of the next
-abbrev pub HaveRisingLetters : List Child → Type 0
-HaveRisingLetters children = IsStrictlyIncreasing (map (λ c. c.letter) children)
+-- what children leave in a slot that held another one, where their parent has this place
+abbrev pub slot_for : List Child → ℕ → ℕ → ℕ → ℕ
+slot_for [] place at other = other
+slot_for (child ∷ children) place at other =
+    slot_for children place at (if at == place + suc child.letter
+    then child.node * 0x200000 + suc child.letter
+    else other)
 
--- the letters of the children, then their nodes
-abbrev pub letters_and_nodes : List Child → List ℕ
-letters_and_nodes children = map (λ c. c.letter) children ++ map (λ c. c.node) children
+-- the slots of a node at a place and of these children are empty
+pub record AreFree (slots : List ℕ) (place : ℕ) (children : List Child) : Type 0 where
+  pub own : slot_at slots place ≡ empty_slot
+  pub others : All (λ child. slot_at slots (place + suc child.letter) ≡ empty_slot) children
 
--- these numbers stand at a place, or none where it is 0
-pub record IsList (numbers : Option (List ℕ)) (old new : List ℕ) (place : ℕ) : Type 0 where
+-- where no node is, no slot holds a child of one
+abbrev pub HaveParents : List ℕ → Type 0
+HaveParents slots =
+    (place letter : ℕ) → slot_at slots place ≡ empty_slot → child_at slots place letter ≡ 0
+
+-- the nodes of some slots are in others as they were
+pub record IsLater (old new : List ℕ) : Type 0 where
+  pub kept : (place : ℕ) → slot_at old place ≢ empty_slot → slot_at new place ≡ slot_at old place
+  pub children : (place letter : ℕ) → slot_at old place ≢ empty_slot
+      → child_at new place letter ≡ child_at old place letter
+
+-- these numbers stand at a place
+pub record IsList (numbers old new : List ℕ) (place : ℕ) : Type 0 where
   pub added : List ℕ
   pub grown : new ≡ old ++ added
-  pub list : (more : List ℕ) → list_at (new ++ more) place ≡ numbers
+  pub list : (more : List ℕ) → numbers_at (new ++ more) place ≡ numbers
 
--- a window of these children is written: its first letter, and the nodes of so many letters from that on
-pub record HasWindow (children : List Child) (old new : List ℕ) : Type 0 where
-  pub first : ℕ
-  pub nodes : List ℕ
-  pub grown : new ≡ old ++ first ∷ length nodes ∷ nodes
-  pub has : (k : ℕ) → k < length nodes
-      → slice_index nodes k ≡ child_for children (first + k)
-
--- a node stands at a place that has this place of its numbers, and these children
-pub record IsNodeOf (numbers : ℕ) (children : List Child) (old new : List ℕ) (node : ℕ) : Type 0 where
+-- these numbers stand at a place, or there are none
+pub record IsListOf (numbers : Option (List ℕ)) (old new : List ℕ) (place : Option ℕ) : Type 0 where
   pub added : List ℕ
   pub grown : new ≡ old ++ added
-  pub at : node ≡ length old
-  pub has : (more : List ℕ) → slice_index (new ++ more) node ≡ numbers
-  pub child : (more : List ℕ) (letter : ℕ)
-      → child_of (new ++ more) node letter ≡ child_for children letter
+  pub list : (more : List ℕ) → option_map (numbers_at (new ++ more)) place ≡ numbers
 
--- a node stands at a place below which the keys are those of entries, from a letter on
-pub record IsTrie {A : Type 0} (depth : ℕ) (entries : List (TrieEntry A)) (old new : List ℕ)
-    (root : ℕ) : Type 0 where
+-- what stands in the own slot of a node with children, and what is added to its place: whether it has
+-- numbers at a place
+abbrev pub IsKind : Option ℕ → ℕ → ℕ → Type 0
+IsKind None list kind = kind ≡ 1
+IsKind (Some at) list kind = (kind ≡ 3) × (list ≡ at)
+
+-- a node has this place of its numbers, and these children
+pub record IsNodeOf (numbers : Option ℕ) (children : List Child) (old new : List ℕ) (node : ℕ) : Type 0 where
+  pub parents : HaveParents new
+  pub later : IsLater old new
+  pub list : (after : List ℕ) → IsLater new after → list_of after node ≡ numbers
+  pub child : (after : List ℕ) (letter : ℕ) → IsLater new after
+      → child_of after node letter ≡ child_for children letter 0
+
+-- the keys below a node are those of entries, from a letter on
+abbrev pub IsTrie : {A : Type 0} → ℕ → List (TrieEntry A) → List ℕ → List ℕ → ℕ → Type 0
+IsTrie depth entries slots lists node =
+    (later more key : List ℕ) → IsLater slots later
+    → numbers_below key later (lists ++ more) node ≡ entry_for depth entries key
+
+-- at a place stands a trie with this root, these slots and these lists
+pub record IsWhole (node : ℕ) (slots lists old new : List ℕ) (root : ℕ) : Type 0 where
   pub added : List ℕ
   pub grown : new ≡ old ++ added
-  pub place : 0 < root
-  pub keys : (more key : List ℕ) → numbers_for key (new ++ more) root ≡ entry_for depth entries key
+  pub root_is : (more : List ℕ) → slice_index (new ++ more) root ≡ node
+  pub slots_are : (more : List ℕ) → slots_of (new ++ more) root ≡ slots
+  pub lists_are : (more : List ℕ) → lists_of (new ++ more) root ≡ lists ++ more

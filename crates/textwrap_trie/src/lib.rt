@@ -3,7 +3,9 @@
 #![tactic(auto)]
 
 pub mod entries;
+pub(crate) mod lists;
 pub mod lookup;
 pub mod merging;
 pub mod numbers;
+pub(crate) mod slots;
 pub mod writing;

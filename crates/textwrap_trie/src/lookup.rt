@@ -1,30 +1,30 @@
 //! What a trie has for a key, and for the beginnings of a text.
 ghost use Rattle.std.specs.Prelude.{◌≡◌, ℕ, ◌<◌, ◌≤◌, length, max, None, Some, MatchOption, slice_index};
 ghost use Rattle.textwrap_base.specs.Minima.{counted};
-ghost use Rattle.textwrap_trie.specs.Trie.{child_of, level_at, level_from, numbers_for, numbers_of};
+ghost use Rattle.textwrap_trie.specs.Trie.{child_of, level_at, level_below, level_from, list_of};
+ghost use Rattle.textwrap_trie.specs.Trie.{lists_of, numbers_for, numbers_of, slots_of};
 
-use crate::numbers::{behind_letter, list_and_rest, number_at, number_from, numbers_at, raise};
+use crate::numbers::{list_and_rest, number_at, numbers_at, raise};
+use crate::slots::{CODES, slot_at};
 use textwrap_base::minima::Steps;
 
-/// The numbers of a key below a node, or `None` where the trie does not have that key. The call
+/// The numbers of a key in the trie at a place, or `None` where it does not have that key. The call
 /// always succeeds.
 pub fn numbers_for<'w>(words: &'w [usize], root: usize, key: &[char]) -> Option<&'w [usize]>
     ensures { MatchOption result (numbers_for key.now words.now root ≡ None)
         (λ numbers. numbers_for key.now words.now root ≡ Some numbers.now) }
 {
-    let mut node = root;
+    let (slots, lists) = slots_and_lists(words, root);
+    let mut node = number_at(words, root);
     for letter in key {
-        node = child_of(words, node, *letter);
-        if node == 0 {
-            return None;
-        }
+        node = child_of(slots, node, *letter);
     }
-    numbers_of(words, node)
+    numbers_of(slots, lists, node)
 }
 
-/// Raises levels to the numbers of all keys below a node with which a text begins, each to that at
-/// its place. For each letter with which some key goes on, it is looked up once. The call always
-/// succeeds.
+/// Raises levels to the numbers of all keys of the trie at a place with which a text begins, each to
+/// that at its place. For each letter with which some key goes on, it is looked up once. The call
+/// always succeeds.
 pub fn raise_levels(
     words: &[usize],
     root: usize,
@@ -37,63 +37,98 @@ pub fn raise_levels(
     ensures lookups { lookups.new ≤ counted lookups.old (length text.now) }
     ensures never_less { lookups.old ≤ lookups.new }
 {
-    let looked_up = raise_along(words, root, text, levels);
+    let (slots, lists) = slots_and_lists(words, root);
+    let looked_up = raise_along(slots, lists, number_at(words, root), text, levels);
     lookups.add(looked_up as u128);
 }
 
-/// Raises levels as [`raise_levels`] does. Returns how many letters were looked up.
-fn raise_along(words: &[usize], root: usize, text: &[char], levels: &mut [usize]) -> usize
+/// Raises levels to the numbers of all keys below a node with which a text begins. Returns how many
+/// letters were looked up.
+fn raise_along(
+    slots: &[usize],
+    lists: &[usize],
+    root: usize,
+    text: &[char],
+    levels: &mut [usize],
+) -> usize
     ensures levels { (k : ℕ) → k < length levels.old → slice_index levels.new k
-        ≡ max (slice_index levels.old k) (level_from text.now words.now root k) }
+        ≡ max (slice_index levels.old k) (level_below text.now slots.now lists.now root k) }
     ensures lookups { result ≤ length text.now }
 {
     let mut node = root;
     for (i, letter) in text.iter().enumerate() {
-        raise_to(levels, words, node);
-        node = child_of(words, node, *letter);
+        raise_to(levels, slots, lists, node);
+        node = child_of(slots, node, *letter);
         if node == 0 {
             return i + 1;
         }
     }
-    raise_to(levels, words, node);
+    raise_to(levels, slots, lists, node);
     text.len()
 }
 
 /// Raises each level to the number at its place that a node has.
 #[inline]
-fn raise_to(levels: &mut [usize], words: &[usize], node: usize)
+fn raise_to(levels: &mut [usize], slots: &[usize], lists: &[usize], node: usize)
     ensures { (k : ℕ) → k < length levels.old → slice_index levels.new k
-        ≡ max (slice_index levels.old k) (level_at words.now node k) }
+        ≡ max (slice_index levels.old k) (level_at slots.now lists.now node k) }
 {
-    if let Some(numbers) = numbers_of(words, node) {
+    if let Some(numbers) = numbers_of(slots, lists, node) {
         raise(levels, numbers);
     }
 }
 
+/// The slots and the lists of the trie at a place.
+#[inline]
+fn slots_and_lists(words: &[usize], root: usize) -> (&[usize], &[usize])
+    ensures slots { result.0.now ≡ slots_of words.now root }
+    ensures lists { result.1.now ≡ lists_of words.now root }
+{
+    if root >= words.len() {
+        return (&[], &[]);
+    }
+    list_and_rest(words, root + 1)
+}
+
 /// The child of a node for a letter, or 0.
 #[inline]
-fn child_of(words: &[usize], node: usize, letter: char) -> usize
-    ensures { result ≡ child_of words.now node letter }
+fn child_of(slots: &[usize], node: usize, letter: char) -> usize
+    ensures { result ≡ child_of slots.now node letter }
 {
-    // so near the end, it has no children
-    if node >= words.len() || node + 2 >= words.len() {
+    if node % 2 == 0 {
         return 0;
     }
-    let (window, rest) = list_and_rest(words, node + 2);
-    match number_from(words[node + 1], window, letter as usize) {
-        Some(child) => child,
-        None => behind_letter(numbers_at(rest, 0), letter as usize),
+    let code = letter as usize + 1;
+    let slot = slot_at(slots, node / 4 + code);
+    if slot % CODES == code {
+        slot / CODES
+    } else {
+        0
     }
 }
 
 /// The numbers that a node has, or `None`.
 #[inline]
-fn numbers_of(words: &[usize], node: usize) -> Option<&[usize]>
-    ensures { MatchOption result (numbers_of words.now node ≡ None)
-        (λ numbers. numbers_of words.now node ≡ Some numbers.now) }
+fn numbers_of<'w>(slots: &[usize], lists: &'w [usize], node: usize) -> Option<&'w [usize]>
+    ensures { MatchOption result (numbers_of slots.now lists.now node ≡ None)
+        (λ numbers. numbers_of slots.now lists.now node ≡ Some numbers.now) }
 {
-    match number_at(words, node) {
-        0 => None,
-        at => Some(numbers_at(words, at)),
+    match list_of(slots, node) {
+        Some(at) => Some(numbers_at(lists, at)),
+        None => None,
+    }
+}
+
+/// The place of a node's list of numbers, or `None` where it has none.
+#[inline]
+fn list_of(slots: &[usize], node: usize) -> Option<usize>
+    ensures { result ≡ list_of slots.now node }
+{
+    if node / 2 % 2 == 0 {
+        None
+    } else if node % 2 == 0 {
+        Some(node / 4)
+    } else {
+        Some(slot_at(slots, node / 4) / CODES)
     }
 }

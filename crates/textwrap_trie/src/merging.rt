@@ -8,8 +8,10 @@ ghost use Rattle.textwrap_trie.specs.Trie.{level_from, numbers_for};
 ghost use Rattle.textwrap_trie.specs.declared.merging.Rule.TheVariants.{First, Greatest};
 
 use crate::entries::TrieEntry;
+use crate::lists::no_lists;
 use crate::numbers::raise;
-use crate::writing::push_trie;
+use crate::slots::no_slots;
+use crate::writing::{push_trie, write_trie};
 use std::alloc::{AllocError, Allocator};
 
 /// What counts of entries with the same key.
@@ -21,18 +23,17 @@ pub enum Rule {
     Greatest,
 }
 
-/// Appends a trie of these entries, in any order, to numbers that are at least one. Returns the place
-/// of its root. Numbers that are written behind it later make no difference.
+/// Appends a trie of these entries, in any order, to numbers. Returns its place. Numbers that are
+/// written behind it later make no difference.
 ///
 /// # Errors
-/// [`AllocError`] where memory runs out.
+/// [`AllocError`] where memory runs out, as it is taken to be for a trie of 2^41 slots or numbers.
 pub fn push_entries<A: Allocator + Copy>(
     alloc: A,
     words: &mut Vec<usize, A>,
     entries: Vec<TrieEntry<A>, A>,
     rule: Rule,
 ) -> Result<usize, AllocError>
-    requires { 0 < length words.old.items }
     ensures grown { IfOk result (λ root. Grows words.old.items words.new.items) }
     ensures first { rule ≡ First → IfOk result (λ root. (more key : List ℕ)
         → numbers_for key (words.new.items ++ more) root ≡ entry_for 0 entries.items key) }
@@ -43,7 +44,17 @@ pub fn push_entries<A: Allocator + Copy>(
     let mut entries = entries;
     entries.sort_by(|one, other| one.key.cmp(&other.key))?;
     let merged = merged(alloc, &entries, rule)?;
-    push_trie(alloc, words, &merged, 0, longest_key(&merged))
+    let mut slots = no_slots(alloc);
+    let mut lists = no_lists(alloc)?;
+    let node = push_trie(
+        alloc,
+        &mut slots,
+        &mut lists,
+        &merged,
+        0,
+        longest_key(&merged),
+    )?;
+    write_trie(words, node, &slots.words, &lists.words)
 }
 
 /// The entries with one for all that have the same key. They are in the order of their keys.

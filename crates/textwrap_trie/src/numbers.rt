@@ -1,6 +1,6 @@
 //! Lists of numbers within one, each behind its length.
 ghost use Rattle.std.specs.Prelude.{◌≡◌, ℕ, ◌+◌, ◌<◌, drop, length, max, slice_index};
-ghost use Rattle.textwrap_trie.specs.Trie.{behind_letter, number_from, numbers_at};
+ghost use Rattle.textwrap_trie.specs.Trie.{numbers_at};
 
 /// The number at a place, or 0 past the end.
 #[inline]
@@ -30,33 +30,6 @@ pub(crate) fn list_and_rest(words: &[usize], at: usize) -> (&[usize], &[usize])
     }
     let rest = &words[at + 1..];
     rest.split_at(words[at].min(rest.len()))
-}
-
-/// The number of a letter, or 0, in a list of letters, each below the next, and then of as many
-/// numbers.
-#[inline]
-pub(crate) fn behind_letter(children: &[usize], letter: usize) -> usize
-    ensures { result ≡ behind_letter children.now letter }
-{
-    let (letters, nodes) = children.split_at(children.len() / 2);
-    for (i, other) in letters.iter().enumerate() {
-        if *other >= letter {
-            return if *other == letter { nodes[i] } else { 0 };
-        }
-    }
-    0
-}
-
-/// The number of a letter, in those of letters that follow one another from a first one on, or `None`
-/// where it is none of these.
-#[inline]
-pub(crate) fn number_from(first: usize, numbers: &[usize], letter: usize) -> Option<usize>
-    ensures { result ≡ number_from first numbers.now letter }
-{
-    if letter < first {
-        return None;
-    }
-    numbers.get(letter - first).copied()
 }
 
 /// Raises each number to the other at its place, as far as both lists go.

@@ -1,4 +1,4 @@
-use Rattle.std.proofs.Common.{arith, List, ℕ, ◌≡◌, ◌++◌}
+use Rattle.std.proofs.Common.{arith, get_or, length, List, ℕ, ◌≡◌, ◌++◌}
 use Rattle.std.proofs.lemmas.Cmp.{nat_list_cmp_total}
 use Rattle.std.proofs.lemmas.List.Sorted.{answers_always, ranks_by, sorted_far}
 use Rattle.std.proofs.lemmas.Result.{IfOk-weaker}
@@ -6,10 +6,11 @@ use Rattle.textwrap_text.proofs.Common.{ap, rules, subst, sym, ◌∙◌}
 use Rattle.textwrap_trie.proofs.FirstEntries.{first-stable, stands_before}
 use Rattle.textwrap_trie.proofs.GreatestNumbers.{greatest-permutation}
 use Rattle.textwrap_trie.proofs.LevelsOfKeys.{levels-entries}
-use Rattle.textwrap_trie.specs.Entries.{entry_for}
+use Rattle.textwrap_trie.proofs.PutNodes.{no-parents}
+use Rattle.textwrap_trie.proofs.WrittenLists.{whole-keys}
+use Rattle.textwrap_trie.specs.Entries.{AreSortedFrom, entry_for}
 use Rattle.textwrap_trie.specs.Merging.{AreInOrder, greatest_number, number_in}
-use Rattle.textwrap_trie.specs.Trie.{level_from, numbers_for}
-use Rattle.textwrap_trie.specs.Writing.{IsTrie}
+use Rattle.textwrap_trie.specs.Writing.{HaveParents}
 use Rattle.textwrap_trie.specs.declared.entries.TrieEntry.{TrieEntry}
 use Rattle.textwrap_trie.proofs.merging.push_entries.Goals as goal
 
@@ -22,9 +23,28 @@ merged-requires g c =
     sorted_far stands_before order _ up i j d (omega arith) within in
     subst AreInOrder (sym c.deref.ensures.value) far
 
+pub push_trie-requires : goal.push_trie-requires
+push_trie-requires g c =
+    let same = c.deref-2.ensures.value ∙ sym c.deref-3.ensures.value in
+    record {
+      parents = subst HaveParents (sym c.no_slots-slots.ensures) no-parents;
+      sorted = subst (AreSortedFrom 0) (sym c.deref-2.ensures.value) c.in_ok-merged.ensures.sorted;
+      height = λ k d within.
+          let high = c.longest_key.ensures k d (omega (arith, within, ap length same)) in
+          omega (
+            arith,
+            high,
+            ap (λ (es : List (TrieEntry g.row.A.Denot)). length (get_or es k d).key.items) same,
+          );
+    }
+
+pub returns-clause-grown : goal.returns-clause-grown
+returns-clause-grown g c =
+    IfOk-weaker c.write_trie.result _ _ (λ root whole. (whole.added, whole.grown)) c.write_trie.ensures
+
 pub returns-clause-first : goal.returns-clause-first
 returns-clause-first g c = λ rule.
-    let words = c.push_trie.new.words.items in
+    let words = c.write_trie.new.words.items in
     let merged = c.in_ok-merged.merged.items in
     let entries = c.args.entries.items in
     let same : (key : List ℕ) → entry_for 0 merged key ≡ entry_for 0 entries key = λ key.
@@ -34,17 +54,16 @@ returns-clause-first g c = λ rule.
     (c.in_ok-sort_by.ensures.stable stands_before
     (ranks_by nat_list_cmp_total (λ (e : TrieEntry g.row.A.Denot). e.key.items))
     (answers_always _ _ _ (λ f a r q k. search rules))) in
-    IfOk-weaker c.push_trie.result
-    (λ root. IsTrie 0 c.deref-2.result.now c.args.words.now.items words root)
-    (λ root. (more key : List ℕ)
-    → numbers_for key (words ++ more) root ≡ entry_for 0 entries key)
-    (λ root trie more key. trie.keys more key
+    IfOk-weaker c.write_trie.result _ _ (λ root whole more key.
+    whole-keys c.deref-2.result.now c.in_ok-node.node root c.deref-4.result.now c.deref-5.result.now
+    c.push_trie.new.slots.words.items c.push_trie.new.lists.words.items c.args.words.now.items words
+    more key c.deref-4.ensures.value c.deref-5.ensures.value whole c.in_ok-node.ensures.trie
     ∙ ap (λ (es : List (TrieEntry g.row.A.Denot)). entry_for 0 es key) c.deref-2.ensures.value ∙ same key)
-    c.push_trie.ensures
+    c.write_trie.ensures
 
 pub returns-clause-greatest : goal.returns-clause-greatest
 returns-clause-greatest g c = λ rule.
-    let words = c.push_trie.new.words.items in
+    let words = c.write_trie.new.words.items in
     let merged = c.in_ok-merged.merged.items in
     let entries = c.args.entries.items in
     let same : (text : List ℕ) (place : ℕ)
@@ -53,13 +72,11 @@ returns-clause-greatest g c = λ rule.
     ∙ ap (λ (es : List (TrieEntry g.row.A.Denot)). greatest_number es text place) c.deref.ensures.value
     ∙ greatest-permutation (λ (e : TrieEntry g.row.A.Denot). number_in e text place) _ _
     c.in_ok-sort_by.ensures.permutation in
-    IfOk-weaker c.push_trie.result
-    (λ root. IsTrie 0 c.deref-2.result.now c.args.words.now.items words root)
-    (λ root. (more text : List ℕ) (place : ℕ)
-    → level_from text (words ++ more) root place ≡ greatest_number entries text place)
-    (λ root trie more text place.
-    levels-entries text (words ++ more) root place merged c.in_ok-merged.ensures.sorted
-    (λ key. trie.keys more key
+    IfOk-weaker c.write_trie.result _ _ (λ root whole more text place.
+    levels-entries text (words ++ more) root place merged c.in_ok-merged.ensures.sorted (λ key.
+    whole-keys c.deref-2.result.now c.in_ok-node.node root c.deref-4.result.now c.deref-5.result.now
+    c.push_trie.new.slots.words.items c.push_trie.new.lists.words.items c.args.words.now.items words
+    more key c.deref-4.ensures.value c.deref-5.ensures.value whole c.in_ok-node.ensures.trie
     ∙ ap (λ (es : List (TrieEntry g.row.A.Denot)). entry_for 0 es key) c.deref-2.ensures.value)
     ∙ same text place)
-    c.push_trie.ensures
+    c.write_trie.ensures

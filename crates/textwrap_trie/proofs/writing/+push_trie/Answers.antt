@@ -3,7 +3,8 @@ use Rattle.std.proofs.lemmas.List.{nil_from_length, take_rest}
 use Rattle.std.proofs.lemmas.List.Elements.{All-take}
 use Rattle.std.proofs.lemmas.Result.{IfOk-weaker}
 use Rattle.std.proofs.lemmas.Bool.{eqb-true}
-use Rattle.textwrap_trie.proofs.TrieSoFar.{group-sorted, left-height, length-grown, letter-first}
+use Rattle.textwrap_trie.proofs.PutNodes.{later-later}
+use Rattle.textwrap_trie.proofs.TrieSoFar.{group-sorted, left-height, letter-first}
 use Rattle.textwrap_trie.proofs.TrieSoFar.{written-end, written-next, written-start}
 use Rattle.textwrap_trie.proofs.writing.+push_trie.Goals as goal
 
@@ -11,13 +12,15 @@ pub loop-left-init : goal.loop-left-init
 loop-left-init g t c =
     rw (take_rest c.args.entries.now c.ended_len-ended.result, c.new-children.ensures.items)
     (written-start c.args.depth c.in_ok-numbers.numbers c.ended_len-ended.result c.args.entries.now
-    c.args.words.now.items c.push_numbers_of.new.words.items c.in_ok-numbers.ensures
+    c.args.slots.now.words.items c.args.lists.now.words.items c.push_numbers_of.new.lists.words.items
+    c.requires.parents c.in_ok-numbers.ensures
     c.ended_len-ended.ensures.ended c.ended_len-ended.ensures.longer)
 
 pub overflow_sub-height : goal.overflow_sub-height
 overflow_sub-height g t c =
     (left-height c.args.depth c.in_ok-numbers.numbers c.args.height c.args.entries.now
-    c.loop-left.left.now c.loop-left.children.items c.args.words.now.items c.loop-left.words.items
+    c.loop-left.left.now c.loop-left.children.items c.args.slots.now.words.items
+    c.loop-left.slots.words.items c.args.lists.now.words.items c.loop-left.lists.words.items
     c.index-left-0.result (omega (arith, c.group_len.ensures.some, c.group_len.ensures.within))
     c.requires.height c.loop-left.invariant).0
 
@@ -30,18 +33,20 @@ push_trie-requires g t c =
     c.as_slice.result.now some c.loop-left.invariant.longer
     c.as_slice.ensures.value c.index-as_slice-depth.is in
     let high = left-height c.args.depth c.in_ok-numbers.numbers c.args.height c.args.entries.now
-    left c.loop-left.children.items c.args.words.now.items c.loop-left.words.items
+    left c.loop-left.children.items c.args.slots.now.words.items c.loop-left.slots.words.items
+    c.args.lists.now.words.items c.loop-left.lists.words.items
     c.index-left-0.result some c.requires.height c.loop-left.invariant in
     λ k outlives. (
       omega (arith, high.0, c.decreases),
       (
         outlives,
         (
-          length-grown _ _ _ _ _ _ _ c.loop-left.invariant c.requires.some,
+          c.loop-left.invariant.parents,
           (
             rw c.split_at.ensures.front (group-sorted c.args.depth c.in_ok-numbers.numbers
                 c.group_len.result c.index-as_slice-depth.result c.args.entries.now left
-                c.loop-left.children.items c.args.words.now.items c.loop-left.words.items
+                c.loop-left.children.items c.args.slots.now.words.items c.loop-left.slots.words.items
+                c.args.lists.now.words.items c.loop-left.lists.words.items
                 c.index-left-0.result c.requires.sorted c.group_len.ensures c.loop-left.invariant letter),
             rw c.split_at.ensures.front (All-take (λ e. length e.key.items
                 ≤ (c.args.depth + 1) + (c.args.height - 1)) c.group_len.result left high.1),
@@ -63,19 +68,38 @@ loop-left-preserved g t c =
     let letter = letter-first c.args.depth c.index-as_slice-depth.result left c.index-left-0.result
     c.as_slice.result.now some c.loop-left.invariant.longer
     c.as_slice.ensures.value c.index-as_slice-depth.is in
+    let (added, grown) = c.in_ok-node.ensures.grown in
     rw (c.split_at.ensures.back, c.in_ok-push.ensures.items)
     (written-next c.args.depth c.in_ok-numbers.numbers
     c.group_len.result c.index-as_slice-depth.result c.args.entries.now left
-    c.loop-left.children.items c.args.words.now.items c.loop-left.words.items
+    c.loop-left.children.items c.args.slots.now.words.items c.loop-left.slots.words.items
+    c.args.lists.now.words.items c.loop-left.lists.words.items
     c.index-left-0.result c.requires.sorted c.group_len.ensures c.loop-left.invariant letter
-    c.in_ok-node.node c.push_trie.new.words.items
-    (rw c.split_at.ensures.front at c.in_ok-node.ensures))
+    c.in_ok-node.node c.push_trie.new.slots.words.items c.push_trie.new.lists.words.items added
+    c.in_ok-node.ensures.parents c.in_ok-node.ensures.later grown
+    (rw c.split_at.ensures.front at c.in_ok-node.ensures.trie))
 
-pub returns : goal.returns
-returns g t c =
+pub returns-clause-parents : goal.returns-clause-parents
+returns-clause-parents g t c =
+    IfOk-weaker c.push_node.result _ _ (λ node is. is.parents) c.push_node.ensures
+
+pub returns-clause-later : goal.returns-clause-later
+returns-clause-later g t c =
+    IfOk-weaker c.push_node.result _ _ (λ node is.
+    later-later c.args.slots.now.words.items c.loop-left.slots.words.items
+    c.push_node.new.slots.words.items c.loop-left.invariant.later is.later) c.push_node.ensures
+
+pub returns-clause-grown : goal.returns-clause-grown
+returns-clause-grown g t c =
+    IfOk-weaker c.push_node.result _ _ (λ node is.
+    (c.loop-left.invariant.added, c.loop-left.invariant.grown)) c.push_node.ensures
+
+pub returns-clause-trie : goal.returns-clause-trie
+returns-clause-trie g t c =
     let none = nil_from_length c.loop-left.left.now
     (eqb-true _ _ (sym c.is_empty.ensures ∙ c.loop-left-test.false)) in
-    IfOk-weaker c.push_node.result _ _ (λ root node.
-    written-end c.args.depth c.in_ok-numbers.numbers root c.args.entries.now c.deref.result.now
-    c.args.words.now.items c.loop-left.words.items c.push_node.new.words.items c.requires.some
-    (rw (none, sym c.deref.ensures.value) at c.loop-left.invariant) node) c.push_node.ensures
+    IfOk-weaker c.push_node.result _ _ (λ node is.
+    written-end c.args.depth c.in_ok-numbers.numbers node c.args.entries.now c.deref.result.now
+    c.args.slots.now.words.items c.loop-left.slots.words.items c.push_node.new.slots.words.items
+    c.args.lists.now.words.items c.loop-left.lists.words.items
+    (rw (none, sym c.deref.ensures.value) at c.loop-left.invariant) is.later is) c.push_node.ensures

@@ -8,8 +8,8 @@ decreases-push_trie g l = l.height
 -- the entries before those that are left are written
 abbrev pub invariant-loop-left : goal.invariant-loop-left
 invariant-loop-left g l =
-    HasWritten l.fn.depth l.numbers l.fn.entries l.left l.children.items l.fn.words.items
-    l.words.items
+    HasWritten l.fn.depth l.numbers l.fn.entries l.left l.children.items l.fn.slots.words.items
+    l.slots.words.items l.fn.lists.words.items l.lists.words.items
 
 abbrev pub decreases-loop-left : goal.decreases-loop-left
 decreases-loop-left g l = length l.left

@@ -1,15 +1,21 @@
--- What is known of the characters of ASCII without a table.
+-- What is known of characters of ASCII and of Latin scripts without a table.
 use Rattle.std.specs.List.{list_all}
-use Rattle.std.specs.Prelude.{not}
+use Rattle.std.specs.Char.{to_ascii_lowercase}
+use Rattle.std.specs.Char.Unicode.Rows.{by_runs, by_strings}
+use Rattle.std.specs.Char.Unicode.ToLowercase.{lowercase_runs, lowercase_strings, to_lowercase}
+use Rattle.std.specs.Prelude.{nat_le, ◌==◌}
+use Rattle.std.proofs.lemmas.Bool.{eqb-true, leb-true}
+use Rattle.textwrap_text.proofs.Common.{and_parts, nat_tests}
 use Rattle.std.proofs.lemmas.List.Folds.{list_all_at}
 use Rattle.std.proofs.lemmas.List.FromFn.{get_or-range_with_len, length-range_with_len}
-use Rattle.textwrap_patterns.proofs.Common.{Bool, arith, false, get_or, range_with_len, refl}
-use Rattle.textwrap_patterns.proofs.Common.{sym, true, true≢false, ℕ, ◌+◌, ◌-◌, ◌<◌, ◌∙◌, ◌≡◌, ◌≤◌}
-use Rattle.textwrap_patterns.specs.Letters.{is_combining_mark}
+use Rattle.textwrap_patterns.proofs.Common.{Bool, List, [], arith, cases_lt, false, get_or, inl, inr}
+use Rattle.textwrap_patterns.proofs.Common.{range_with_len, refl}
+use Rattle.textwrap_patterns.proofs.Common.{true, ℕ, ◌+◌, ◌-◌, ◌<◌, ◌∙◌, ◌∷◌, ◌≡◌, ◌≢◌, ◌≤◌}
+use Rattle.textwrap_patterns.specs.Letters.{is_combining_mark, lowered}
 use Rattle.ucd_derived.specs.AlphabeticRanges.{alphabetic_ranges}
 use Rattle.ucd_derived.specs.Binary.{is_alphabetic, is_grapheme_extend}
 use Rattle.ucd_derived.specs.GraphemeExtendRanges.{grapheme_extend_ranges}
-use Rattle.ucd_table.specs.Rows.{in_ranges}
+use Rattle.ucd_table.specs.Rows.{Range, in_ranges}
 
 -- what passes for all of a range passes for each number in it
 pub each-of : (p : ℕ → Bool) (a n c : ℕ) → list_all p (range_with_len a n) ≡ true → a ≤ c → c < a + n
@@ -23,14 +29,38 @@ each-of p a n c all le lt = by (p c) refl
     by true is = refl
     by false is = grind (arith, list_all_at, length-range_with_len, here)
 
-pub mark-none : (c : ℕ) → c < 128 → is_combining_mark c ≡ false
-unfolding is_grapheme_extend in_ranges grapheme_extend_ranges
-mark-none c lt = by (is_combining_mark c) (each-of (λ n. not (is_combining_mark n)) 0 128 c refl (omega arith) lt)
-  where
-    by : (b : Bool) → not b ≡ true → b ≡ false
-    by false is = refl
-    by true is = absurd (true≢false (sym is))
+-- ranges that begin at a number or behind it hold none below it
+below-ranges : (rs : List Range) (low c : ℕ) → list_all (λ r. nat_le low r.0) rs ≡ true → c < low
+    → in_ranges rs c ≡ false
+unfolding in_ranges
+below-ranges [] low c all lt = refl
+below-ranges (r ∷ rs) low c all lt =
+    let both = and_parts (nat_le low r.0) (list_all (λ r. nat_le low r.0) rs) all in
+    grind (arith, nat_tests, leb-true low r.0 both.0, below-ranges rs low c both.1 lt)
+
+pub mark-none : (c : ℕ) → c < 0x300 → is_combining_mark c ≡ false
+unfolding is_grapheme_extend grapheme_extend_ranges
+mark-none c lt = below-ranges grapheme_extend_ranges 0x300 c refl lt
 
 pub lowercase-alphabetic : (c : ℕ) → 97 ≤ c → c ≤ 122 → is_alphabetic c ≡ true
 unfolding is_alphabetic in_ranges alphabetic_ranges
 lowercase-alphabetic c le ge = each-of is_alphabetic 97 26 c refl le (omega arith)
+
+pub latin-alphabetic : (c : ℕ) → 0xDF ≤ c → c ≤ 0x24F → c ≢ 0xF7 → is_alphabetic c ≡ true
+unfolding is_alphabetic in_ranges alphabetic_ranges
+latin-alphabetic c le ge other = elim (cases_lt c 0xF7) [
+  | inl before ↦ each-of is_alphabetic 0xDF 24 c refl le (omega arith)
+  | inr behind ↦ each-of is_alphabetic 0xF8 0x158 c refl (omega (arith, other)) (omega arith)
+]
+
+-- ---- lower case
+
+pub lowered-ascii : (c : ℕ) → c < 128 → lowered c ≡ to_ascii_lowercase c
+unfolding to_lowercase by_runs by_strings lowercase_runs lowercase_strings
+lowered-ascii c lt = eqb-true (lowered c) (to_ascii_lowercase c)
+    (each-of (λ n. lowered n == to_ascii_lowercase n) 0 128 c refl (omega arith) lt)
+
+pub lowered-latin : (c : ℕ) → 0xDF ≤ c → c ≤ 0xFF → lowered c ≡ c
+unfolding to_lowercase by_runs by_strings lowercase_runs lowercase_strings
+lowered-latin c le ge =
+    eqb-true (lowered c) c (each-of (λ n. lowered n == n) 0xDF 33 c refl le (omega arith))

@@ -1,23 +1,25 @@
 -- The first line of a list that is wrong.
-use Rattle.std.specs.Prelude.{Option, None, Some, Ok, Err, ◌||◌, if◌then◌else◌, codes, ◌↔◌}
+use Rattle.std.specs.Prelude.{Option, None, Some, Ok, Err, ◌||◌, if◌then◌else◌, chars, codes, is_some, ◌↔◌}
+use Rattle.std.specs.Option.{option_or}
 use Rattle.std.specs.Str.{trim}
 use Rattle.std.specs.Str.Lines.{lines}
 use Rattle.textwrap_text.proofs.Lists.Parts.{starts_with-rest}
 use Rattle.textwrap_patterns.proofs.Common.{Bool, List, ℕ, [], ap, arith, cases_Bool, drop, false, false≢true, filter}
-use Rattle.textwrap_patterns.proofs.Common.{inl, inr, length, refl, subst, suc, sym, true, ⊤, ◌++◌, ◌∙◌, ◌∷◌}
+use Rattle.textwrap_patterns.proofs.Common.{inl, inr, length, refl, subst, suc, sym, true, ◌++◌, ◌∙◌, ◌∷◌}
 use Rattle.textwrap_patterns.proofs.Common.{◌≡◌, ◌⊎◌, ◌≤◌}
+use Rattle.textwrap_patterns.proofs.FirstWords.{IsRight, IsStep, step-as, words-are}
 use Rattle.textwrap_patterns.proofs.FirstWrong.{IsJudged, command-none, judged, of-word, wrong-says}
-use Rattle.textwrap_patterns.proofs.Skipped.{comment-skipped, first-step, list-step, section_of}
+use Rattle.textwrap_patterns.proofs.Skipped.{comment-skipped, first-step, list-step}
 use Rattle.textwrap_patterns.specs.Charsets.{names_charset, plain_name}
-use Rattle.textwrap_patterns.specs.Entries.{Said, Right}
-use Rattle.textwrap_patterns.specs.Entries.{NextGroup, Wrong, begins, is_exception, is_start, list_said}
-use Rattle.textwrap_patterns.specs.Faults.{IsFirstWrong, IsWrong, IsWrongLine, are_among, begins_word, groups_in}
-use Rattle.textwrap_patterns.specs.Faults.{is_hyphened, is_of_line}
+use Rattle.textwrap_patterns.specs.Entries.{Said, NextGroup, Right, Wrong, begins, command_said, whole_said}
+use Rattle.textwrap_patterns.specs.Faults.{IsFirstWrong, IsFirstWrongItem, IsOther, IsWrong, IsWrongLine, are_among}
+use Rattle.textwrap_patterns.specs.Faults.{begins_word, groups_in, is_of_line, listed_in}
 use Rattle.textwrap_patterns.specs.Listed.{Listed}
 use Rattle.textwrap_patterns.specs.Parsing.{Outcome, and_then, ended, end_fault, is_skipped, is_tex, listed_said}
-use Rattle.textwrap_patterns.specs.Parsing.{no_patterns, parsed, unmarked, with_all, with_lines}
+use Rattle.textwrap_patterns.specs.Parsing.{no_patterns, parsed, said_or, text_said, unmarked, with_all, with_lines}
+use Rattle.textwrap_patterns.specs.Parsing.{words_between}
 use Rattle.textwrap_patterns.specs.declared.entries.Section.{Section}
-use Rattle.textwrap_patterns.specs.declared.entries.Section.TheVariants.{Start, Listing, Words}
+use Rattle.textwrap_patterns.specs.declared.entries.Section.TheVariants.{Start}
 use Rattle.textwrap_patterns.specs.declared.errors.Fault.{Fault}
 use Rattle.textwrap_patterns.specs.declared.errors.Fault.TheVariants as fault
 use Rattle.textwrap_patterns.specs.declared.errors.ParseError.TheVariants.{Memory, Line}
@@ -29,6 +31,10 @@ fault_told (Ok h) = fault.Empty
 fault_told (Err (Memory error)) = fault.Empty
 fault_told (Err (Line n f)) = f
 
+abbrev option_fault : Option Said → Fault
+option_fault (Some (Wrong f)) = f
+option_fault _ = fault.Empty
+
 abbrev pub is_told : Outcome → Bool
 is_told (Ok h) = false
 is_told (Err error) = true
@@ -38,12 +44,6 @@ is_told (Err error) = true
 -- no third group begins in these lines
 abbrev Room : Listed → List (List ℕ) → Type 0
 Room h ls = (groups_in ls ≡ 0) ⊎ ((length h.joints ≡ 0) × (groups_in ls ≤ 1))
-
--- a line is wrong in one way, or it is not and reading goes on with this
-abbrev pub IsStep : (Listed → Type 0) → ℕ → List Said → Listed → (Fault → Type 0) → Type 0
-IsStep P m saids h W =
-    ((f : Fault) × (with_all m saids h ≡ Err (Line m f)) × W f × ((g : Fault) → W g → g ≡ f))
-    ⊎ ((k : Listed) × (with_all m saids h ≡ Ok k) × P k × ((g : Fault) → ¬ W g))
 
 abbrev IsLine : ℕ → List Said → Listed → List (List ℕ) → (Fault → Type 0) → Type 0
 IsLine m saids h ls W = IsStep (λ k. Room k ls) m saids h W
@@ -79,64 +79,113 @@ room-kept : (h k : Listed) (line : List ℕ) (ls : List (List ℕ)) → length k
 room-kept h k line ls same (inl none) = inl (omega (arith, none, groups-more line ls))
 room-kept h k line ls same (inr (joints, few)) = inr (same ∙ joints, omega (arith, few, groups-more line ls))
 
--- it says nothing that is wrong
-abbrev pub IsRight : Said → Type 0
-IsRight (Wrong f) = ⊥
-IsRight _ = ⊤
+unright : (among : Bool) (line : List ℕ) (said : Said) → command_said line ≡ Some said → IsRight said → (g : Fault)
+    → IsWrong among g line → ⊥
+unright among line said is right g wrong = elim (wrong-says among g line wrong).1 [
+  | inl told ↦ grind (arith)
+  | inr words ↦ absurd (false≢true (ap is_some (sym words.0 ∙ is)))
+]
 
-abbrev pub fault_said : Said → Fault
-fault_said (Wrong f) = f
-fault_said _ = fault.Empty
+group-is : (among : Bool) (m : ℕ) (line : List ℕ) (h : Listed) (ls : List (List ℕ)) → is_group_line line ≡ true
+    → command_said (trim line) ≡ Some NextGroup → Room h (line ∷ ls)
+    → IsLine m (NextGroup ∷ []) h ls (λ f. IsWrong among f (trim line))
+group-is among m line h ls group is (inl none) = grind (arith, counted)
+group-is among m line h ls group is (inr (joints, few)) = inr (
+  record h { joints = h.patterns; patterns = [] },
+  rw joints refl,
+  inl (omega (arith, few, counted is_group_line line ls true group)),
+  unright among (trim line) NextGroup is tt,
+)
 
--- a section of a list behind its first line
-module _ (among : Bool) (section : Section) (start : is_start section ≡ false)
-    (same : (cs : List ℕ) → is_exception section cs ≡ (among || is_hyphened cs)) where
-  unright : (line : List ℕ) (said : Said) → list_said section line ≡ said → IsRight said → (g : Fault)
-      → IsWrong among g line → ⊥
-  unright line said is right g wrong = grind (arith, wrong-says)
+goes-on : (among : Bool) (m : ℕ) (line : List ℕ) (h k : Listed) (ls : List (List ℕ)) (said : Said)
+    → with_all m (said ∷ []) h ≡ Ok k → length k.joints ≡ length h.joints → IsRight said
+    → command_said (trim line) ≡ Some said → Room h (line ∷ ls)
+    → IsLine m (said ∷ []) h ls (λ f. IsWrong among f (trim line))
+goes-on among m line h k ls said told same right is room =
+    inr (k, told, room-kept h k line ls same room, unright among (trim line) said is right)
 
-  group-is : (m : ℕ) (line : List ℕ) (h : Listed) (ls : List (List ℕ)) → is_group_line line ≡ true
-      → list_said section (trim line) ≡ NextGroup → Room h (line ∷ ls)
-      → IsLine m (NextGroup ∷ []) h ls (λ f. IsWrong among f (trim line))
-  group-is m line h ls group is (inl none) = grind (arith, counted)
-  group-is m line h ls group is (inr (joints, few)) = inr (
-    record h { joints = h.patterns; patterns = [] },
-    rw joints refl,
-    inl (omega (arith, few, counted is_group_line line ls true group)),
-    unright (trim line) NextGroup is tt,
-  )
+-- no word of a line is wrong in a way in which a word of libhyphen is
+unbeside : (section : Section) (words : List (List ℕ)) → IsFirstWrongItem section fault.NoHyphen words → ⊥
+unbeside section [] wrong = wrong
+unbeside section (word ∷ words) (inl here) = here.1
+unbeside section (word ∷ words) (inr (before, later)) = unbeside section words later
 
-  goes-on : (m : ℕ) (line : List ℕ) (h k : Listed) (ls : List (List ℕ)) (said : Said)
-      → with_all m (said ∷ []) h ≡ Ok k → length k.joints ≡ length h.joints → IsRight said
-      → list_said section (trim line) ≡ said → Room h (line ∷ ls)
-      → IsLine m (said ∷ []) h ls (λ f. IsWrong among f (trim line))
-  goes-on m line h k ls said told same right is room =
-      inr (k, told, room-kept h k line ls same room, unright (trim line) said is right)
+unnumbered : (section : Section) (words : List (List ℕ)) → IsFirstWrongItem section fault.Number words → ⊥
+unnumbered section [] wrong = wrong
+unnumbered section (word ∷ words) (inl here) = here.1
+unnumbered section (word ∷ words) (inr (before, later)) = unnumbered section words later
 
-  said-is : (m : ℕ) (line : List ℕ) (h : Listed) (ls : List (List ℕ)) (said : Said) → IsJudged among (trim line) said
-      → list_said section (trim line) ≡ said → Room h (line ∷ ls)
-      → IsLine m (said ∷ []) h ls (λ f. IsWrong among f (trim line))
-  said-is m line h ls NextGroup judge is room = group-is m line h ls judge is room
-  said-is m line h ls (Wrong f) judge is room =
-      inl (f, refl, judge, λ g wrong. ap fault_said (sym ((wrong-says among section start same g (trim line) wrong).1) ∙ is))
-  said-is m line h ls said judge is room = goes-on m line h _ ls said refl refl tt is room
+words-to : (among : Bool) (line : List ℕ) → IsOther line → (f : Fault)
+    → IsFirstWrongItem (listed_in among) f (words_between (chars line)) → IsWrong among f line
+words-to among line other fault.NoHyphen wrong = absurd (unbeside (listed_in among) (words_between (chars line)) wrong)
+words-to among line other fault.Number wrong = absurd (unnumbered (listed_in among) (words_between (chars line)) wrong)
+words-to among line other f wrong = (other, wrong)
 
-  unshown : (line : List ℕ) → is_skipped line ≡ true → (g : Fault) → IsWrong among g line → ⊥
-  unshown line skipped g wrong = grind (arith, wrong-says, comment-skipped)
+words-from : (among : Bool) (line : List ℕ) → command_said line ≡ None → (f : Fault) → IsWrong among f line
+    → IsFirstWrongItem (listed_in among) f (words_between (chars line))
+words-from among line none f wrong = elim (wrong-says among f line wrong).1 [
+  | inl told ↦ absurd (false≢true (ap is_some (sym none ∙ told)))
+  | inr words ↦ words.1
+]
 
-  line-by : (m : ℕ) (line : List ℕ) (h : Listed) (ls : List (List ℕ)) (b : Bool) → is_skipped (trim line) ≡ b
-      → Room h (line ∷ ls)
-      → IsLine m (if b then [] else list_said section (trim line) ∷ []) h ls (λ f. IsWrong among f (trim line))
-  line-by m line h ls true is room =
-      inr (h, refl, room-kept h h line ls refl room, unshown (trim line) is)
-  line-by m line h ls false is room = said-is m line h ls (list_said section (trim line))
-      (judged among section start same (trim line) (comment-skipped (trim line) ∙ is)) refl room
+said-is : (among : Bool) (m : ℕ) (line : List ℕ) (h : Listed) (ls : List (List ℕ)) (whole : Option Said)
+    → IsJudged among (trim line) whole → command_said (trim line) ≡ whole → Room h (line ∷ ls)
+    → IsLine m (said_or (text_said (listed_in among) (chars (trim line))) whole) h ls (λ f. IsWrong among f (trim line))
+said-is among m line h ls (Some NextGroup) judge is room = group-is among m line h ls judge is room
+said-is among m line h ls (Some (Wrong f)) judge is room = inl (f, refl, judge, only)
+  where
+    only : (g : Fault) → IsWrong among g (trim line) → g ≡ f
+    only g wrong = elim (wrong-says among g (trim line) wrong).1 [
+      | inl told ↦ ap option_fault (sym told ∙ is)
+      | inr words ↦ absurd (false≢true (ap is_some (sym words.0 ∙ is)))
+    ]
+said-is among m line h ls None judge is room = step-as (λ k. Room k ls) m (text_said (listed_in among) (chars (trim line)))
+    h (λ f. IsFirstWrongItem (listed_in among) f (words_between (chars (trim line)))) (λ f. IsWrong among f (trim line))
+    (words-to among (trim line) judge) (words-from among (trim line) is)
+    (words-are (λ k. Room k ls) (λ k j same. stays k j same) (listed_in among) m (words_between (chars (trim line))) h
+    (room-kept h h line ls refl room))
+  where
+    stays : (k j : Listed) → length j.joints ≡ length k.joints → Room k ls → Room j ls
+    stays k j same (inl none) = inl none
+    stays k j same (inr (joints, few)) = inr (same ∙ joints, few)
+said-is among m line h ls (Some said) judge is room = goes-on among m line h _ ls said refl refl tt is room
 
--- and so among exceptions, or not
-line-of : (m : ℕ) (among : Bool) (line : List ℕ) (h : Listed) (ls : List (List ℕ)) → Room h (line ∷ ls)
-    → IsLine m (listed_said (section_of among) (trim line)) h ls (λ f. IsWrong among f (trim line))
-line-of m true line h ls room = line-by true Words refl (λ cs. refl) m line h ls (is_skipped (trim line)) refl room
-line-of m false line h ls room = line-by false Listing refl (λ cs. refl) m line h ls (is_skipped (trim line)) refl room
+unshown : (among : Bool) (line : List ℕ) → is_skipped line ≡ true → (g : Fault) → IsWrong among g line → ⊥
+unshown among line skipped g wrong =
+    false≢true (sym (wrong-says among g line wrong).0 ∙ comment-skipped line ∙ skipped)
+
+-- what a line says beside patterns and exceptions behind the first
+or-none : (o : Option Said) → option_or o None ≡ o
+or-none None = refl
+or-none (Some said) = refl
+
+behind-first : (among : Bool) (line : List ℕ) → whole_said (listed_in among) line ≡ command_said line
+behind-first true line = or-none (command_said line)
+behind-first false line = or-none (command_said line)
+
+-- the words of a line of which this is the rest
+abbrev SaysAll : Bool → List ℕ → Option Said → List Said
+SaysAll among line whole = said_or (text_said (listed_in among) (chars (trim line))) whole
+
+known-is : (among : Bool) (m : ℕ) (line : List ℕ) (h : Listed) (ls : List (List ℕ)) → is_skipped (trim line) ≡ false
+    → Room h (line ∷ ls)
+    → IsLine m (SaysAll among line (command_said (trim line))) h ls (λ f. IsWrong among f (trim line))
+known-is among m line h ls is room = said-is among m line h ls (command_said (trim line))
+    (judged among (trim line) (comment-skipped (trim line) ∙ is)) refl room
+
+line-by : (among : Bool) (m : ℕ) (line : List ℕ) (h : Listed) (ls : List (List ℕ)) (b : Bool)
+    → is_skipped (trim line) ≡ b → Room h (line ∷ ls)
+    → IsLine m (if b then [] else SaysAll among line (whole_said (listed_in among) (trim line))) h ls
+    (λ f. IsWrong among f (trim line))
+line-by among m line h ls true is room =
+    inr (h, refl, room-kept h h line ls refl room, unshown among (trim line) is)
+line-by among m line h ls false is room =
+    subst (λ whole. IsLine m (SaysAll among line whole) h ls (λ f. IsWrong among f (trim line)))
+    (sym (behind-first among (trim line))) (known-is among m line h ls is room)
+
+line-of : (among : Bool) (m : ℕ) (line : List ℕ) (h : Listed) (ls : List (List ℕ)) → Room h (line ∷ ls)
+    → IsLine m (listed_said (listed_in among) (trim line)) h ls (λ f. IsWrong among f (trim line))
+line-of among m line h ls room = line-by among m line h ls (is_skipped (trim line)) refl room
 
 -- ---- the first line
 
@@ -167,38 +216,31 @@ wordless line is = elim (cases_Bool (begins_word line)) [
   | inr other ↦ other
 ]
 
-charset-said : (line : List ℕ) → names_charset (plain_name line) ≡ true → list_said Start line ≡ Right 2
-charset-said line is = grind (arith, command-none line (wordless line is))
-
-first-said : (line : List ℕ) → names_charset (plain_name line) ≡ false
-    → list_said Start line ≡ list_said Listing line
-first-said line is = rw is refl
+first-whole : (line : List ℕ) (c : Bool) → names_charset (plain_name line) ≡ c
+    → whole_said Start line ≡ (if c then Some (Right 2) else command_said line)
+first-whole line true name =
+    rw name (ap (λ o. option_or o (Some (Right 2))) (command-none line (wordless line name)))
+first-whole line false name = rw name (or-none (command_said line))
 
 first-by : (line : List ℕ) (ls : List (List ℕ)) (b c : Bool) → is_skipped (trim line) ≡ b
     → names_charset (plain_name (trim line)) ≡ c → Room no_patterns (line ∷ ls)
-    → IsLine 1 (if b then [] else list_said Start (trim line) ∷ []) no_patterns ls (λ f. IsWrongLine false 0 f line)
+    → IsLine 1 (if b then [] else SaysAll false line (if c then Some (Right 2) else command_said (trim line)))
+    no_patterns ls (λ f. IsWrongLine false 0 f line)
 first-by line ls true c is name room = inr (
   no_patterns,
   refl,
   room-kept no_patterns no_patterns line ls refl room,
-  λ g wrong. unshown false Listing refl (λ cs. refl) (trim line) is g wrong.0,
+  λ g wrong. unshown false (trim line) is g wrong.0,
 )
-first-by line ls false true is name room =
-    subst (λ said. IsLine 1 (said ∷ []) no_patterns ls (λ f. IsWrongLine false 0 f line)) (sym (charset-said (trim line) name))
-    (inr (
-      record no_patterns { right = 2 },
-      refl,
-      room-kept no_patterns (record no_patterns { right = 2 }) line ls refl room,
-      λ g wrong. false≢true (sym wrong.1 ∙ name),
-    ))
-first-by line ls false false is name room =
-    subst (λ said. IsLine 1 (said ∷ []) no_patterns ls (λ f. IsWrongLine false 0 f line)) (sym (first-said (trim line) name))
-    (with_name (line-by false Listing refl (λ cs. refl) 1 line no_patterns ls false is room))
-  where
-    with_name : IsLine 1 (list_said Listing (trim line) ∷ []) no_patterns ls (λ f. IsWrong false f (trim line))
-        → IsLine 1 (list_said Listing (trim line) ∷ []) no_patterns ls (λ f. IsWrongLine false 0 f line)
-    with_name (inl (f, told, wrong, one)) = inl (f, told, (wrong, name), λ g other. one g other.0)
-    with_name (inr (k, told, left, none)) = inr (k, told, left, λ g other. none g other.0)
+first-by line ls false true is name room = inr (
+  record no_patterns { right = 2 },
+  refl,
+  room-kept no_patterns (record no_patterns { right = 2 }) line ls refl room,
+  λ g wrong. false≢true (sym wrong.1 ∙ name),
+)
+first-by line ls false false is name room = step-as (λ k. Room k ls) 1 (SaysAll false line (command_said (trim line)))
+    no_patterns (λ f. IsWrong false f (trim line)) (λ f. IsWrongLine false 0 f line) (λ f wrong. (wrong, name))
+    (λ f wrong. wrong.0) (known-is false 1 line no_patterns ls is room)
 
 -- ---- lines
 
@@ -221,25 +263,25 @@ ended-own k n (Some g) h f none own told = grind arith
 
 lines-iff : (k : ℕ) (among : Bool) (ls : List (List ℕ)) (h : Listed) (n : ℕ) (f : Fault) → Room h ls
     → is_of_line f ≡ true
-    → (with_lines (suc k) (section_of among) ls h ≡ Err (Line n f)) ↔ IsFirstWrong among (suc k) ls n f
-lines-iff k among [] h n f room own = grind (arith, ended-own, section_of, end-own)
+    → (with_lines (suc k) (listed_in among) ls h ≡ Err (Line n f)) ↔ IsFirstWrong among (suc k) ls n f
+lines-iff k among [] h n f room own = grind (arith, ended-own, listed_in, end-own)
   where
-    end-own : (x : Bool) → own_of (end_fault (section_of x) (length h.patterns) (length h.exceptions)) ≡ false
+    end-own : (x : Bool) → own_of (end_fault (listed_in x) (length h.patterns) (length h.exceptions)) ≡ false
     end-own true = counts-own _ _
     end-own false = counts-own _ _
 lines-iff k among (line ∷ ls) h n f room own =
     let m = suc (suc k) in
-    let saids = listed_said (section_of among) (trim line) in
+    let saids = listed_said (listed_in among) (trim line) in
     let next = are_among among (trim line) in
     let W : Fault → Type 0 = λ g. IsWrong among g (trim line) in
-    let is : IsLine m saids h ls W = line-of m among line h ls room in
+    let is : IsLine m saids h ls W = line-of among m line h ls room in
     let rest : (j : Listed) → Room j ls
-    → (with_lines m (section_of next) ls j ≡ Err (Line n f)) ↔ IsFirstWrong next m ls n f =
+    → (with_lines m (listed_in next) ls j ≡ Err (Line n f)) ↔ IsFirstWrong next m ls n f =
     λ j more. lines-iff (suc k) next ls j n f more own in
     subst (λ o. (o ≡ Err (Line n f)) ↔ IsFirstWrong among (suc k) (line ∷ ls) n f)
     (sym (list-step (suc k) among line ls h)) (
-      line-to m n f saids h (λ j. Room j ls) W (IsFirstWrong next m ls n f) (with_lines m (section_of next) ls) rest is,
-      line-from m n f saids h (λ j. Room j ls) W (IsFirstWrong next m ls n f) (with_lines m (section_of next) ls) rest is,
+      line-to m n f saids h (λ j. Room j ls) W (IsFirstWrong next m ls n f) (with_lines m (listed_in next) ls) rest is,
+      line-from m n f saids h (λ j. Room j ls) W (IsFirstWrong next m ls n f) (with_lines m (listed_in next) ls) rest is,
     )
 
 first-iff : (first : List ℕ) (ls : List (List ℕ)) (n : ℕ) (f : Fault) → is_tex first ≡ false
@@ -250,13 +292,15 @@ first-iff first ls n f list few own =
     let next = are_among false (trim first) in
     let W : Fault → Type 0 = λ g. IsWrongLine false 0 g first in
     let is : IsLine 1 saids no_patterns ls W =
-    first-by first ls (is_skipped (trim first)) (names_charset (plain_name (trim first))) refl refl (inr (refl, few)) in
+    subst (λ whole. IsLine 1 (if is_skipped (trim first) then [] else SaysAll false first whole) no_patterns ls W)
+    (sym (first-whole (trim first) (names_charset (plain_name (trim first))) refl))
+    (first-by first ls (is_skipped (trim first)) (names_charset (plain_name (trim first))) refl refl (inr (refl, few))) in
     let rest : (j : Listed) → Room j ls
-    → (with_lines 1 (section_of next) ls j ≡ Err (Line n f)) ↔ IsFirstWrong next 1 ls n f =
+    → (with_lines 1 (listed_in next) ls j ≡ Err (Line n f)) ↔ IsFirstWrong next 1 ls n f =
     λ j room. lines-iff 0 next ls j n f room own in
     subst (λ o. (o ≡ Err (Line n f)) ↔ IsFirstWrong false 0 (first ∷ ls) n f) (sym (first-step first ls list)) (
-      line-to 1 n f saids no_patterns (λ j. Room j ls) W (IsFirstWrong next 1 ls n f) (with_lines 1 (section_of next) ls) rest is,
-      line-from 1 n f saids no_patterns (λ j. Room j ls) W (IsFirstWrong next 1 ls n f) (with_lines 1 (section_of next) ls) rest is,
+      line-to 1 n f saids no_patterns (λ j. Room j ls) W (IsFirstWrong next 1 ls n f) (with_lines 1 (listed_in next) ls) rest is,
+      line-from 1 n f saids no_patterns (λ j. Room j ls) W (IsFirstWrong next 1 ls n f) (with_lines 1 (listed_in next) ls) rest is,
     )
 
 pub errors-of-lines : (text first : List ℕ) (more : List (List ℕ)) (n : ℕ) (f : Fault) → is_tex first ≡ false

@@ -1,6 +1,6 @@
 -- What is wrong with a line of a list, and the first line that is wrong.
 use Rattle.std.specs.Prelude.{Option, None, Some, ◌||◌, ◌≢◌, ◌⊎◌, if◌then◌else◌, chars, codes}
-use Rattle.std.specs.Prelude.{is_some, nat_lt, unwrap_or}
+use Rattle.std.specs.Prelude.{is_some, nat_lt}
 use Rattle.std.specs.Prelude.{not}
 use Rattle.std.specs.Str.{trim}
 use Rattle.textwrap_text.proofs.Lists.Parts.{starts_with-rest}
@@ -11,14 +11,15 @@ use Rattle.textwrap_patterns.proofs.Common.{◌≡◌}
 use Rattle.textwrap_patterns.specs.Entries.{Said, Pattern, Changed, Left, Right, CompoundLeft, CompoundRight}
 use Rattle.textwrap_patterns.specs.Entries.{NextGroup, Nothing, Wrong, are_joints, begins, beside_said}
 use Rattle.textwrap_patterns.specs.Entries.{command_said, exception_or_fault, exception_said, is_exception}
-use Rattle.textwrap_patterns.specs.Entries.{hyphens_past, letters_between}
+use Rattle.textwrap_patterns.specs.Entries.{hyphens_past, is_unknown, item_said, letters_between}
 use Rattle.textwrap_patterns.specs.Changes.{number_of, text_before, without_changes}
 use Rattle.textwrap_patterns.specs.Entries.{changed_by, changed_said, changes_at, slashed_said, unslashed_said}
-use Rattle.textwrap_patterns.specs.Entries.{has_sign, has_slash, is_command, is_start, list_said, number_or_fault}
-use Rattle.textwrap_patterns.specs.Entries.{other_said, pattern_said, word_said}
-use Rattle.textwrap_patterns.specs.Faults.{IsClean, IsItem, IsWrong, IsWrongWord, LacksNumber, begins_word}
-use Rattle.textwrap_patterns.specs.Faults.{IsLong, IsSlashed, has_gap, is_hyphened, is_silent}
+use Rattle.textwrap_patterns.specs.Entries.{has_sign, has_slash, number_or_fault, pattern_said, word_said}
+use Rattle.textwrap_patterns.specs.Faults.{IsClean, IsFirstWrongItem, IsLong, IsOther, IsSlashed, IsWrong}
+use Rattle.textwrap_patterns.specs.Faults.{IsWrongItem, IsWrongWord, LacksNumber, begins_word, has_gap, is_silent}
+use Rattle.textwrap_patterns.specs.Faults.{listed_in}
 use Rattle.textwrap_patterns.specs.Listed.{PatternText, exception_text}
+use Rattle.textwrap_patterns.specs.Parsing.{words_between}
 use Rattle.textwrap_patterns.specs.Written.{letters_written, pattern_written}
 use Rattle.textwrap_patterns.specs.declared.changes.Region.{Region}
 use Rattle.textwrap_patterns.specs.declared.entries.Section.{Section}
@@ -27,11 +28,12 @@ use Rattle.textwrap_patterns.specs.declared.errors.Fault.TheVariants as fault
 
 -- ---- what a line says is wrong where the line is
 
--- what a line says, among exceptions or not, and what it is then
-abbrev pub IsJudged : Bool → List ℕ → Said → Type 0
-IsJudged among line NextGroup = begins (codes "NEXTLEVEL") line ≡ true
-IsJudged among line (Wrong fault) = IsWrong among fault line
-IsJudged among line _ = ⊤
+-- what a line says beside patterns and exceptions, or that it is made of these
+abbrev pub IsJudged : Bool → List ℕ → Option Said → Type 0
+IsJudged among line None = IsOther line
+IsJudged among line (Some NextGroup) = begins (codes "NEXTLEVEL") line ≡ true
+IsJudged among line (Some (Wrong fault)) = IsWrong among fault line
+IsJudged among line (Some said) = ⊤
 
 -- what a word says, and what it is then as an exception or a pattern
 abbrev pub IsJudgedWord : Bool → List ℕ → Said → Type 0
@@ -97,33 +99,37 @@ pub word-judged : (section : Section) (cs : List ℕ)
     → IsJudgedWord (is_exception section cs) cs (word_said section cs)
 word-judged section cs = by-sign section cs (has_sign cs) refl
 
--- what a line says that is an item
-item-judged : (among : Bool) (line : List ℕ) (said : Said) → IsItem line
-    → IsJudgedWord (among || is_hyphened (chars line)) (chars line) said → IsJudged among line said
-item-judged among line NextGroup item is = absurd is
-item-judged among line (Wrong fault.NoHyphen) item is = absurd is
-item-judged among line (Wrong fault.Word) item is = absurd is
-item-judged among line (Wrong fault.Number) item is = absurd is
-item-judged among line (Wrong f) item is = (item, is)
-item-judged among line said item is = tt
+-- a word between blanks, and what it says
+abbrev pub IsJudgedItem : Section → List ℕ → Said → Type 0
+IsJudgedItem section cs NextGroup = ⊥
+IsJudgedItem section cs (Wrong fault) = IsWrongItem section fault cs
+IsJudgedItem section cs _ = ⊤
 
--- what a line says behind the first that begins with no word of libhyphen
-abbrev plain_said : Section → List ℕ → Said
-plain_said section line = if is_command line then Wrong fault.Word else word_said section (chars line)
+known-judged : (section : Section) (cs : List ℕ) (said : Said) → is_unknown section cs ≡ false
+    → IsJudgedWord (is_exception section cs) cs said → IsJudgedItem section cs said
+known-judged section cs NextGroup known is = is
+known-judged section cs (Wrong fault.Word) known is = absurd is
+known-judged section cs (Wrong f) known is = (known, is)
+known-judged section cs said known is = tt
 
-plain : (section : Section) (line : List ℕ) → is_start section ≡ false
-    → other_said section line ≡ plain_said section line
-plain section line start = rw start refl
+by-known : (section : Section) (cs : List ℕ) (b : Bool) → is_unknown section cs ≡ b
+    → IsJudgedItem section cs (if b then Wrong fault.Word else word_said section cs)
+by-known section cs true is = is
+by-known section cs false is = known-judged section cs (word_said section cs) is (word-judged section cs)
+
+pub item-judged : (section : Section) (cs : List ℕ) → IsJudgedItem section cs (item_said section cs)
+item-judged section cs = by-known section cs (is_unknown section cs) refl
 
 -- a choice between what is said and the rest
-choose : (among : Bool) (line : List ℕ) (b : Bool) (said other : Said) (rest : Option Said)
-    → (b ≡ true → IsJudged among line said) → (b ≡ false → IsJudged among line (unwrap_or rest other))
-    → IsJudged among line (unwrap_or (if b then Some said else rest) other)
-choose among line true said other rest taken left = taken refl
-choose among line false said other rest taken left = left refl
+choose : (among : Bool) (line : List ℕ) (b : Bool) (said : Said) (rest : Option Said)
+    → (b ≡ true → IsJudged among line (Some said)) → (b ≡ false → IsJudged among line rest)
+    → IsJudged among line (if b then Some said else rest)
+choose among line true said rest taken left = taken refl
+choose among line false said rest taken left = left refl
 
-by-number : (among : Bool) (line : List ℕ) (n : Option ℕ) (said : ℕ → Said) → ((m : ℕ) → IsJudged among line (said m))
-    → (n ≡ None → IsWrong among fault.Number line) → IsJudged among line (number_or_fault said n)
+by-number : (among : Bool) (line : List ℕ) (n : Option ℕ) (said : ℕ → Said)
+    → ((m : ℕ) → IsJudged among line (Some (said m))) → (n ≡ None → IsWrong among fault.Number line)
+    → IsJudged among line (Some (number_or_fault said n))
 by-number among line None said plain none = none refl
 by-number among line (Some m) said plain none = plain m
 
@@ -132,7 +138,7 @@ lacking : (word line : List ℕ) → begins word line ≡ true → number_of (tr
 lacking word line is none = (drop (length word) line, starts_with-rest word line is, none)
 
 by-joints : (among : Bool) (line : List ℕ) (b : Bool) → (b ≡ false → IsWrong among fault.NoHyphen line)
-    → IsJudged among line (if b then Nothing else Wrong fault.NoHyphen)
+    → IsJudged among line (Some (if b then Nothing else Wrong fault.NoHyphen))
 by-joints among line true wrong = tt
 by-joints among line false wrong = wrong refl
 
@@ -161,46 +167,34 @@ said_second line =
 or-from : (a b : Bool) → a ≡ false → b ≡ false → (a || b) ≡ false
 or-from a b none neither = rw none neither
 
--- a section of a list behind its first line
-module _ (among : Bool) (section : Section) (start : is_start section ≡ false)
-    (same : (cs : List ℕ) → is_exception section cs ≡ (among || is_hyphened cs)) where
-  by-command : (line : List ℕ) (b : Bool) → is_silent line ≡ false → begins_word line ≡ false
-      → is_command line ≡ b → IsJudged among line (if b then Wrong fault.Word else word_said section (chars line))
-  by-command line true silent other is = ((silent, other), is)
-  by-command line false silent other is = item-judged among line (word_said section (chars line)) (silent, other, is)
-      (subst (λ b. IsJudgedWord b (chars line) (word_said section (chars line))) (same (chars line))
-      (word-judged section (chars line)))
-
-  by-word : (line : List ℕ) → is_silent line ≡ false → (other : Said) → plain_said section line ≡ other
-      → IsJudged among line (unwrap_or (command_said line) other)
-  by-word line silent other are =
-      choose among line (begins (codes "LEFTHYPHENMIN") line) (said_number Left 13 line) other (said_second line)
-      (λ is. by-number among line (number_of (trim (drop 13 line))) Left (λ m. tt)
-      (λ none. inl (lacking (codes "LEFTHYPHENMIN") line is none)))
-      (λ first. choose among line (begins (codes "RIGHTHYPHENMIN") line) (said_number Right 14 line) other (said_third line)
-      (λ is. by-number among line (number_of (trim (drop 14 line))) Right (λ m. tt)
-      (λ none. inr (inl (lacking (codes "RIGHTHYPHENMIN") line is none))))
-      (λ second. choose among line (begins (codes "COMPOUNDLEFTHYPHENMIN") line) (said_number CompoundLeft 21 line) other
-      (said_fourth line)
-      (λ is. by-number among line (number_of (trim (drop 21 line))) CompoundLeft (λ m. tt)
-      (λ none. inr (inr (inl (lacking (codes "COMPOUNDLEFTHYPHENMIN") line is none)))))
-      (λ third. choose among line (begins (codes "COMPOUNDRIGHTHYPHENMIN") line) (said_number CompoundRight 22 line) other
-      (said_fifth line)
-      (λ is. by-number among line (number_of (trim (drop 22 line))) CompoundRight (λ m. tt)
-      (λ none. inr (inr (inr (lacking (codes "COMPOUNDRIGHTHYPHENMIN") line is none)))))
-      (λ fourth. choose among line (begins (codes "NOHYPHEN") line) (beside_said (chars (drop 8 line))) other (said_last line)
-      (λ is. by-joints among line (are_joints (chars (drop 8 line)))
-      (λ none. (drop 8 line, starts_with-rest (codes "NOHYPHEN") line is, none)))
-      (λ fifth. choose among line (begins (codes "NEXTLEVEL") line) NextGroup other None (λ is. is)
-      (λ last. subst (IsJudged among line) are (by-command line (is_command line) silent
-      (or-from (begins (codes "LEFTHYPHENMIN") line) _ first
-      (or-from (begins (codes "RIGHTHYPHENMIN") line) _ second
-      (or-from (begins (codes "COMPOUNDLEFTHYPHENMIN") line) _ third
-      (or-from (begins (codes "COMPOUNDRIGHTHYPHENMIN") line) _ fourth
-      (or-from (begins (codes "NOHYPHEN") line) (begins (codes "NEXTLEVEL") line) fifth last))))) refl)))))))
-
-  pub judged : (line : List ℕ) → is_silent line ≡ false → IsJudged among line (list_said section line)
-  judged line silent = by-word line silent (other_said section line) (sym (plain section line start))
+pub judged : (among : Bool) (line : List ℕ) → is_silent line ≡ false → IsJudged among line (command_said line)
+judged among line silent =
+    choose among line (begins (codes "LEFTHYPHENMIN") line) (said_number Left 13 line) (said_second line)
+    (λ is. by-number among line (number_of (trim (drop 13 line))) Left (λ m. tt)
+    (λ none. inl (lacking (codes "LEFTHYPHENMIN") line is none)))
+    (λ first. choose among line (begins (codes "RIGHTHYPHENMIN") line) (said_number Right 14 line) (said_third line)
+    (λ is. by-number among line (number_of (trim (drop 14 line))) Right (λ m. tt)
+    (λ none. inr (inl (lacking (codes "RIGHTHYPHENMIN") line is none))))
+    (λ second. choose among line (begins (codes "COMPOUNDLEFTHYPHENMIN") line) (said_number CompoundLeft 21 line)
+    (said_fourth line)
+    (λ is. by-number among line (number_of (trim (drop 21 line))) CompoundLeft (λ m. tt)
+    (λ none. inr (inr (inl (lacking (codes "COMPOUNDLEFTHYPHENMIN") line is none)))))
+    (λ third. choose among line (begins (codes "COMPOUNDRIGHTHYPHENMIN") line) (said_number CompoundRight 22 line)
+    (said_fifth line)
+    (λ is. by-number among line (number_of (trim (drop 22 line))) CompoundRight (λ m. tt)
+    (λ none. inr (inr (inr (lacking (codes "COMPOUNDRIGHTHYPHENMIN") line is none)))))
+    (λ fourth. choose among line (begins (codes "NOHYPHEN") line) (beside_said (chars (drop 8 line))) (said_last line)
+    (λ is. by-joints among line (are_joints (chars (drop 8 line)))
+    (λ none. (drop 8 line, starts_with-rest (codes "NOHYPHEN") line is, none)))
+    (λ fifth. choose among line (begins (codes "NEXTLEVEL") line) NextGroup None (λ is. is)
+    (λ last. (
+      silent,
+      or-from (begins (codes "LEFTHYPHENMIN") line) _ first
+          (or-from (begins (codes "RIGHTHYPHENMIN") line) _ second
+          (or-from (begins (codes "COMPOUNDLEFTHYPHENMIN") line) _ third
+          (or-from (begins (codes "COMPOUNDRIGHTHYPHENMIN") line) _ fourth
+          (or-from (begins (codes "NOHYPHEN") line) (begins (codes "NEXTLEVEL") line) fifth last)))),
+    )))))))
 
 -- ---- a line that is wrong says so
 
@@ -271,35 +265,25 @@ word-wrong section cs fault.Hyphens is = rw (is.0.0, is.0.1, is.1)
     (said-by-gap cs ∙ ap (λ b. exception_if cs (not b)) is.2)
 word-wrong section cs _ is = absurd is
 
--- a section of a list behind its first line
-module _ (among : Bool) (section : Section) (start : is_start section ≡ false)
-    (same : (cs : List ℕ) → is_exception section cs ≡ (among || is_hyphened cs)) where
-  other-said : (line : List ℕ) → begins_word line ≡ false → list_said section line ≡ plain_said section line
-  other-said line is =
-      ap (λ said. unwrap_or said (other_said section line)) (command-none line is) ∙ plain section line start
+pub item-wrong : (section : Section) (cs : List ℕ) (f : Fault) → IsWrongItem section f cs
+    → item_said section cs ≡ Wrong f
+item-wrong section cs fault.Word is = rw is refl
+item-wrong section cs f is = rw is.0 (word-wrong section cs f is.1)
 
-  item-said : (line : List ℕ) → IsItem line → list_said section line ≡ word_said section (chars line)
-  item-said line item = other-said line item.1 ∙ rw item.2 refl
+-- it is not silent, and says this fault by itself or in its words
+abbrev SaysFault : Bool → Fault → List ℕ → Type 0
+SaysFault among f line = (is_silent line ≡ false) × ((command_said line ≡ Some (Wrong f))
+    ⊎ ((command_said line ≡ None) × IsFirstWrongItem (listed_in among) f (words_between (chars line))))
 
-  -- it is not silent, and says this fault
-  abbrev SaysFault : Fault → List ℕ → Type 0
-  SaysFault f line = (is_silent line ≡ false) × (list_said section line ≡ Wrong f)
-
-  item-wrong : (line : List ℕ) (f : Fault) → IsItem line
-      → IsWrongWord (among || is_hyphened (chars line)) f (chars line) → list_said section line ≡ Wrong f
-  item-wrong line f item is = item-said line item ∙ word-wrong section (chars line) f
-      (subst (λ b. IsWrongWord b f (chars line)) (sym (same (chars line))) is)
-
-  pub wrong-says : (f : Fault) (line : List ℕ) → IsWrong among f line → SaysFault f line
-  wrong-says fault.NoHyphen line (rest, is, none) =
-      of-word (SaysFault fault.NoHyphen) (codes "NOHYPHEN") line rest is (refl, rw none refl)
-  wrong-says fault.Word line is = (is.0.0, other-said line is.0.1 ∙ rw is.1 refl)
-  wrong-says fault.Number line (inl (rest, is, none)) =
-      of-word (SaysFault fault.Number) (codes "LEFTHYPHENMIN") line rest is (refl, rw none refl)
-  wrong-says fault.Number line (inr (inl (rest, is, none))) =
-      of-word (SaysFault fault.Number) (codes "RIGHTHYPHENMIN") line rest is (refl, rw none refl)
-  wrong-says fault.Number line (inr (inr (inl (rest, is, none)))) =
-      of-word (SaysFault fault.Number) (codes "COMPOUNDLEFTHYPHENMIN") line rest is (refl, rw none refl)
-  wrong-says fault.Number line (inr (inr (inr (rest, is, none)))) =
-      of-word (SaysFault fault.Number) (codes "COMPOUNDRIGHTHYPHENMIN") line rest is (refl, rw none refl)
-  wrong-says f line is = (is.0.0, item-wrong line f is.0 is.1)
+pub wrong-says : (among : Bool) (f : Fault) (line : List ℕ) → IsWrong among f line → SaysFault among f line
+wrong-says among fault.NoHyphen line (rest, is, none) =
+    of-word (SaysFault among fault.NoHyphen) (codes "NOHYPHEN") line rest is (refl, inl (rw none refl))
+wrong-says among fault.Number line (inl (rest, is, none)) =
+    of-word (SaysFault among fault.Number) (codes "LEFTHYPHENMIN") line rest is (refl, inl (rw none refl))
+wrong-says among fault.Number line (inr (inl (rest, is, none))) =
+    of-word (SaysFault among fault.Number) (codes "RIGHTHYPHENMIN") line rest is (refl, inl (rw none refl))
+wrong-says among fault.Number line (inr (inr (inl (rest, is, none)))) =
+    of-word (SaysFault among fault.Number) (codes "COMPOUNDLEFTHYPHENMIN") line rest is (refl, inl (rw none refl))
+wrong-says among fault.Number line (inr (inr (inr (rest, is, none)))) =
+    of-word (SaysFault among fault.Number) (codes "COMPOUNDRIGHTHYPHENMIN") line rest is (refl, inl (rw none refl))
+wrong-says among f line is = (is.0.0, inr (command-none line is.0.1, is.1))

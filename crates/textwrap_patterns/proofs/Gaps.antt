@@ -7,7 +7,8 @@ use Rattle.textwrap_patterns.proofs.Common.{Bool, List, ℕ, [], ap, arith, case
 use Rattle.textwrap_patterns.proofs.Common.{length, refl, suc, sym, true, ◌+◌, ◌<◌, ◌∙◌, ◌∷◌, ◌≡◌, ◌⊎◌}
 use Rattle.textwrap_patterns.proofs.Said.{hyphen-here, letter-here}
 use Rattle.textwrap_patterns.specs.Entries.{hyphens_past, is_hyphen_sign, letters_between}
-use Rattle.textwrap_patterns.specs.Faults.{has_gap, is_empty}
+use Rattle.textwrap_patterns.specs.Faults.{has_gap}
+use Rattle.textwrap_patterns.specs.Parsing.{is_empty}
 use Rattle.textwrap_patterns.specs.Places.{are_places}
 
 and-false : (b : Bool) → (b && false) ≡ false

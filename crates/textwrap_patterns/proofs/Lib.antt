@@ -3,8 +3,10 @@ pub mod Changed
 pub mod Common
 pub mod FirstLines
 pub mod FirstTexLines
+pub mod FirstWords
 pub mod FirstWrong
 pub mod Gaps
+pub mod PrintableLetters
 pub mod Said
 pub mod Sections
 pub mod Skipped

@@ -70,6 +70,10 @@ pub mark-later : (mark line : List ℕ) → 0 < length line
 mark-later mark [] some not_here = absurd (omega arith)
 mark-later mark (c ∷ cs) some not_here = rw (starts_with-false mark (c ∷ cs) not_here) refl
 
+pub then-read : (o : Outcome) → and_then o (λ k. Ok k) ≡ o
+then-read (Ok k) = refl
+then-read (Err e) = refl
+
 -- where a line is refused, the whole text is
 pub lines-refused : {T U : Type 0} (v : T → Listed) (w : U → Listed) (first whole : Outcome)
     (next : Listed → Outcome) (e : ParseError) (r : Result U ParseError)

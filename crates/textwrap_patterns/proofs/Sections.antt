@@ -5,6 +5,7 @@ use Rattle.std.specs.Str.Lines.{lines}
 use Rattle.textwrap_patterns.proofs.Common.{All, All-cons, All-head, All-nil, All-tail, Bool, List, ℕ, [], ap, append_assoc}
 use Rattle.textwrap_patterns.proofs.Common.{cases_Bool, false, false≢true, inl, inr, length, map, refl, subst, suc, sym, true}
 use Rattle.textwrap_patterns.proofs.Common.{◌++◌, ◌∙◌, ◌∷◌, ◌≡◌, ◌⊎◌}
+use Rattle.textwrap_patterns.proofs.Said.{then-read}
 use Rattle.textwrap_patterns.proofs.Skipped.{all-shifted, bare-text, then-same, with_bare}
 use Rattle.textwrap_patterns.specs.Entries.{Said}
 use Rattle.textwrap_patterns.specs.Laws.{AreTex, uncommented, without_line}
@@ -37,10 +38,6 @@ all-append n [] more h = refl
 all-append n (said ∷ saids) more h = then-same (with_said n said h) (with_all n (saids ++ more))
     (λ k. and_then (with_all n saids k) (with_all n more)) (all-append n saids more)
     ∙ sym (then-then (with_said n said h) (with_all n saids) (with_all n more))
-
-then-read : (o : Outcome) → and_then o (λ k. Ok k) ≡ o
-then-read (Ok k) = refl
-then-read (Err e) = refl
 
 lined : (o : Outcome) (k : Listed) → without_line o ≡ Ok k → o ≡ Ok k
 lined (Ok h) k is = cc

@@ -6,11 +6,11 @@ use Rattle.textwrap_patterns.proofs.Common.{All, All-head, All-tail, Bool, List,
 use Rattle.textwrap_patterns.proofs.Common.{length, map, nat_tests, refl, suc, sym, true, false≢true}
 use Rattle.textwrap_patterns.proofs.Common.{◌++◌, ◌∙◌, ◌∷◌, ◌≡◌}
 use Rattle.textwrap_patterns.specs.Entries.{Said}
-use Rattle.textwrap_patterns.specs.Entries.{NextGroup, Wrong}
-use Rattle.textwrap_patterns.specs.Faults.{are_among, has_exceptions, is_comment, marks_exceptions, is_silent}
+use Rattle.textwrap_patterns.specs.Entries.{NextGroup, Wrong, is_list}
+use Rattle.textwrap_patterns.specs.Faults.{are_among, is_comment, is_silent, listed_in, marks_exceptions}
 use Rattle.textwrap_patterns.specs.Laws.{AreListed, AreTex, uncommented, without_line}
 use Rattle.textwrap_patterns.specs.Listed.{Listed}
-use Rattle.textwrap_patterns.specs.Parsing.{Outcome, after_mark, and_then, begins_exceptions, ends_exceptions, comment_in, exceptions_mark, end_fault, ended, is_list}
+use Rattle.textwrap_patterns.specs.Parsing.{Outcome, after_mark, and_then, begins_exceptions, ends_exceptions, comment_in, exceptions_mark, end_fault, ended}
 use Rattle.textwrap_patterns.specs.Parsing.{is_minima, is_skipped, is_tex, line_said, listed_said}
 use Rattle.textwrap_patterns.specs.Parsing.{names_minima, opened, patterns_mark, parsed, section_after}
 use Rattle.textwrap_patterns.specs.Parsing.{tex_after, tex_said, unmarked, with_all, with_lines, no_patterns}
@@ -50,13 +50,8 @@ pub comment-skipped : (line : List ℕ) → is_silent line ≡ is_skipped line
 comment-skipped [] = refl
 comment-skipped (b ∷ bs) = grind arith
 
--- among exceptions or not
-abbrev pub section_of : Bool → Section
-section_of true = Words
-section_of false = Listing
-
-by-marks : (among begins ends : Bool) → (if begins then Words else if ends then Listing else section_of among)
-    ≡ section_of (begins || (among && not ends))
+by-marks : (among begins ends : Bool) → (if begins then Words else if ends then Listing else listed_in among)
+    ≡ listed_in (begins || (among && not ends))
 by-marks among true ends = refl
 by-marks true false true = refl
 by-marks true false false = refl
@@ -65,9 +60,9 @@ by-marks false false false = refl
 
 -- a line of a list, and where the next is read
 pub list-step : (n : ℕ) (among : Bool) (line : List ℕ) (more : List (List ℕ)) (h : Listed)
-    → with_lines n (section_of among) (line ∷ more) h
-    ≡ and_then (with_all (suc n) (listed_said (section_of among) (trim line)) h)
-    (with_lines (suc n) (section_of (are_among among (trim line))) more)
+    → with_lines n (listed_in among) (line ∷ more) h
+    ≡ and_then (with_all (suc n) (listed_said (listed_in among) (trim line)) h)
+    (with_lines (suc n) (listed_in (are_among among (trim line))) more)
 list-step n true line more h =
     grind (arith, by-marks true (begins_exceptions (trim line)) (ends_exceptions (trim line)))
 list-step n false line more h =
@@ -77,12 +72,12 @@ list-step n false line more h =
 pub first-step : (first : List ℕ) (more : List (List ℕ)) → is_tex first ≡ false
     → with_lines 0 Start (first ∷ more) no_patterns
     ≡ and_then (with_all 1 (listed_said Start (trim first)) no_patterns)
-    (with_lines 1 (section_of (are_among false (trim first))) more)
+    (with_lines 1 (listed_in (are_among false (trim first))) more)
 first-step first more list =
     grind (arith, by-first (begins_exceptions (trim first)) (ends_exceptions (trim first)))
   where
     by-first : (begins ends : Bool) → (if begins then Words else Listing)
-        ≡ section_of (begins || (false && not ends))
+        ≡ listed_in (begins || (false && not ends))
     by-first true ends = refl
     by-first false ends = refl
 
@@ -101,22 +96,22 @@ comment-among among (b ∷ bs) is = rw (other 0x5C refl refl, other 0x7D refl re
 
 line-skipped : (n : ℕ) (among : Bool) (before after : List (List ℕ)) (line : List ℕ) (h : Listed)
     → is_comment (trim line) ≡ true
-    → without_line (with_lines n (section_of among) (before ++ line ∷ after) h)
-    ≡ without_line (with_lines n (section_of among) (before ++ after) h)
+    → without_line (with_lines n (listed_in among) (before ++ line ∷ after) h)
+    ≡ without_line (with_lines n (listed_in among) (before ++ after) h)
 line-skipped n among [] after line h is =
     grind (arith, nat_tests, list-step, silent, comment-among, lines-shifted)
   where
-    silent : listed_said (section_of among) (trim line) ≡ []
+    silent : listed_said (listed_in among) (trim line) ≡ []
     silent = rw (sym (comment-skipped (trim line)) ∙ ap (λ b. b || marks_exceptions (trim line)) is) refl
 line-skipped n among (first ∷ before) after line h is =
     ap without_line (list-step n among first (before ++ line ∷ after) h)
-    ∙ all-shifted (suc n) (suc n) (listed_said (section_of among) (trim first)) h
+    ∙ all-shifted (suc n) (suc n) (listed_said (listed_in among) (trim first)) h
     (with_lines (suc n) next (before ++ line ∷ after)) (with_lines (suc n) next (before ++ after))
     (λ k. line-skipped (suc n) (are_among among (trim first)) before after line k is)
     ∙ ap without_line (sym (list-step n among first (before ++ after) h))
   where
     next : Section
-    next = section_of (are_among among (trim first))
+    next = listed_in (are_among among (trim first))
 
 pub lists-skipped : (text other first line : List ℕ) (before after : List (List ℕ))
     → is_tex first ≡ false → is_comment (trim line) ≡ true
@@ -132,7 +127,7 @@ lists-skipped text other first line before after list is whole less = grind (
 )
   where
     next : Section
-    next = section_of (are_among false (trim first))
+    next = listed_in (are_among false (trim first))
 
 -- ---- blanks
 
@@ -141,24 +136,28 @@ pub then-same : (o : Outcome) (next other : Listed → Outcome) → ((k : Listed
 then-same (Ok k) next other same = same k
 then-same (Err e) next other same = refl
 
+abbrev is_among : Section → Bool
+is_among Words = true
+is_among _ = false
+
 -- what lines of a list say without the blanks on their sides
 abbrev with_trimmed : ℕ → Section → List (List ℕ) → Listed → Outcome
 with_trimmed n section [] h = ended n (end_fault section (length h.patterns) (length h.exceptions)) h
 with_trimmed n section (line ∷ more) h = and_then (with_all (suc n) (listed_said section line) h)
-    (with_trimmed (suc n) (section_of (are_among (has_exceptions section) line)) more)
+    (with_trimmed (suc n) (listed_in (are_among (is_among section) line)) more)
 
 trimmed-lines : (n : ℕ) (among : Bool) (ls : List (List ℕ)) (h : Listed)
-    → with_lines n (section_of among) ls h ≡ with_trimmed n (section_of among) (map trim ls) h
+    → with_lines n (listed_in among) ls h ≡ with_trimmed n (listed_in among) (map trim ls) h
 trimmed-lines n among [] h = refl
 trimmed-lines n true (line ∷ more) h = list-step n true line more h
-    ∙ then-same (with_all (suc n) (listed_said Words (trim line)) h) (with_lines (suc n) (section_of next) more)
-    (with_trimmed (suc n) (section_of next) (map trim more)) (trimmed-lines (suc n) next more)
+    ∙ then-same (with_all (suc n) (listed_said Words (trim line)) h) (with_lines (suc n) (listed_in next) more)
+    (with_trimmed (suc n) (listed_in next) (map trim more)) (trimmed-lines (suc n) next more)
   where
     next : Bool
     next = are_among true (trim line)
 trimmed-lines n false (line ∷ more) h = list-step n false line more h
-    ∙ then-same (with_all (suc n) (listed_said Listing (trim line)) h) (with_lines (suc n) (section_of next) more)
-    (with_trimmed (suc n) (section_of next) (map trim more)) (trimmed-lines (suc n) next more)
+    ∙ then-same (with_all (suc n) (listed_said Listing (trim line)) h) (with_lines (suc n) (listed_in next) more)
+    (with_trimmed (suc n) (listed_in next) (map trim more)) (trimmed-lines (suc n) next more)
   where
     next : Bool
     next = are_among false (trim line)
@@ -167,8 +166,8 @@ trimmed-text : (ls : List (List ℕ)) → AreListed ls
     → with_lines 0 Start ls no_patterns ≡ with_trimmed 0 Start (map trim ls) no_patterns
 trimmed-text [] are = refl
 trimmed-text (first ∷ more) are = first-step first more are
-    ∙ then-same (with_all 1 (listed_said Start (trim first)) no_patterns) (with_lines 1 (section_of next) more)
-    (with_trimmed 1 (section_of next) (map trim more)) (trimmed-lines 1 next more)
+    ∙ then-same (with_all 1 (listed_said Start (trim first)) no_patterns) (with_lines 1 (listed_in next) more)
+    (with_trimmed 1 (listed_in next) (map trim more)) (trimmed-lines 1 next more)
   where
     next : Bool
     next = are_among false (trim first)

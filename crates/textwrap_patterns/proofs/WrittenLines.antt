@@ -1,19 +1,19 @@
 -- Texts that are written from patterns and exceptions, as they are read.
 use Rattle.std.specs.Prelude.{None, ◌==◌, ◌&&◌, ◌||◌, not, nat_le, nat_lt, chars}
 use Rattle.std.specs.Char.{is_ascii_uppercase, is_whitespace}
-use Rattle.std.specs.List.{prefix_len}
+use Rattle.std.specs.List.{prefix_len, slice_split}
 use Rattle.std.specs.Str.{NonePass, drop_trailing_whitespace, encode_utf8_all, skip_leading_whitespace, trim}
 use Rattle.std.specs.Str.{trim_end, trim_start}
 use Rattle.std.specs.Str.Lines.{lines, strip_carriage_return}
 use Rattle.std.proofs.lemmas.List.Splits.{slice_split_none}
 use Rattle.std.proofs.lemmas.List.{take_all}
 use Rattle.std.proofs.lemmas.Str.{NoCharPasses-byte, char_from_byte, chars-encodes, length-le-encodes}
-use Rattle.textwrap_text.proofs.Common.{All-from_get_or, All-weaker, and_parts, encode}
+use Rattle.textwrap_text.proofs.Common.{All-from_get_or, All-weaker, and_parts}
 use Rattle.textwrap_text.proofs.Common.{cases_lt, eqb-false, eqb-true, le-ltb, ltb-true, ne_eqb, nat_tests, not-true, scalar}
 use Rattle.textwrap_text.proofs.TextLines.{lines-front}
 use Rattle.textwrap_patterns.proofs.Common.{All, All-head, All-tail, Bool, List}
 use Rattle.textwrap_patterns.proofs.Common.{[], ap, arith, cases_Bool, false}
-use Rattle.textwrap_patterns.proofs.Common.{false≢true, get_or, inl, inr, length, map, refl, sym, take}
+use Rattle.textwrap_patterns.proofs.Common.{false≢true, get_or, inl, inr, length, map, refl, subst, sym, take}
 use Rattle.textwrap_patterns.proofs.Common.{◌-◌, ◌⊎◌}
 use Rattle.textwrap_patterns.proofs.Ascii.{each-of}
 use Rattle.std.proofs.lemmas.Bool.{leb-true}
@@ -21,14 +21,15 @@ use Rattle.std.specs.Char.Unicode.ToLowercase.{lowercase_runs, lowercase_strings
 use Rattle.std.specs.Char.Unicode.Rows.{by_runs, by_strings}
 use Rattle.textwrap_patterns.specs.Letters.{folded}
 use Rattle.textwrap_patterns.specs.Places.{AreInnerPlaces}
-use Rattle.textwrap_patterns.proofs.Common.{true, ℕ, ◌+◌, ◌++◌, ◌<◌, ◌∙◌, ◌∷◌, ◌≡◌, ◌≢◌, ◌≤◌}
+use Rattle.textwrap_patterns.proofs.Common.{true, ℕ, ◌+◌, ◌<◌, ◌∙◌, ◌∷◌, ◌≡◌, ◌≢◌, ◌≤◌}
 use Rattle.textwrap_patterns.proofs.Words.{AreShown, Bare, bare, is_shown, shown-parts}
 use Rattle.textwrap_patterns.specs.Dictionaries.{hyphened, is_bare, pattern_line, text_of_lines}
-use Rattle.textwrap_patterns.specs.Entries.{Said, command_said, is_command, is_sign, word_said}
+use Rattle.textwrap_patterns.specs.Entries.{Said, command_said, is_command, is_list, is_sign, is_unknown, word_said}
 use Rattle.textwrap_patterns.specs.Changes.{before}
 use Rattle.textwrap_patterns.proofs.Skipped.{comment-skipped}
 use Rattle.textwrap_patterns.specs.Parsing.{before_comment, is_closed, is_group}
 use Rattle.textwrap_patterns.specs.Parsing.{line_said, list_after, listed_said, section_after, tex_after, tex_said}
+use Rattle.textwrap_patterns.specs.Parsing.{text_said}
 use Rattle.textwrap_patterns.specs.declared.entries.Section.{Section}
 use Rattle.textwrap_patterns.specs.declared.entries.Section.TheVariants.{Listing}
 use Rattle.textwrap_patterns.specs.declared.entries.Section.TheVariants.{Patterns, Exceptions}
@@ -130,23 +131,18 @@ no-command : (b : ℕ) (bs : List ℕ) → is_ascii_uppercase b ≡ false → is
 no-command b [] other = refl
 no-command b (c ∷ cs) other = rw other refl
 
+known : (c : ℕ) (cs : List ℕ) → is_low c ≡ false → is_unknown Listing (c ∷ cs) ≡ false
+known c cs low = grind (arith, nat_tests, or-none, low, no-command)
+
 low-said : (b : ℕ) (bs cs : List ℕ) → is_low b ≡ false → chars (b ∷ bs) ≡ cs
+    → text_said Listing cs ≡ word_said Listing cs ∷ []
     → (listed_said Listing (b ∷ bs) ≡ word_said Listing cs ∷ []) × (list_after Listing (b ∷ bs) ≡ Listing)
-low-said b bs cs low are =
-    grind (arith, nat_tests, or-none, low, comment-skipped, command-none, no-command)
+low-said b bs cs low are said =
+    grind (arith, nat_tests, or-none, low, comment-skipped, command-none)
 
 -- a line says this alone in a section, and the next is read in it
 abbrev pub IsRead : Section → List ℕ → Said → Type 0
 IsRead section line said = (line_said section line ≡ said ∷ []) × (section_after section line ≡ section)
-
--- what a line of a list says that is a word, and where the next is read
-pub list-word : (cs : List ℕ) (b : ℕ) (bs : List ℕ) → AreShown cs → encode_utf8_all cs ≡ b ∷ bs
-    → is_low b ≡ false → IsRead Listing (encode_utf8_all cs) (word_said Listing cs)
-list-word cs b bs shown is low =
-    let ink : AreInk cs = word-ink cs shown in
-    let said = low-said b bs cs low (ap chars (sym is) ∙ chars-ink cs ink) in
-    let line = trim-ink cs ink ∙ is in
-    (ap (listed_said Listing) line ∙ said.0, ap (list_after Listing) line ∙ said.1)
 
 -- ---- words in groups of TeX
 
@@ -178,18 +174,24 @@ unclosed cs are = rw (
   le-ltb (length cs) (length cs) (omega arith),
 ) refl
 
-some-eqb : (n : ℕ) → 0 < n → (n == 0) ≡ false
-some-eqb n some = ne_eqb n 0 (omega (arith, some))
+one-word : (cs : List ℕ) → AreShown cs → slice_split is_whitespace cs ≡ cs ∷ []
+one-word cs are = slice_split_none is_whitespace cs
+    (all-shown (λ c. is_whitespace c ≡ false) (λ c none. (unsigned c none).0) cs are)
+
+unlisted : (section : Section) → is_group section ≡ true → is_list section ≡ false
+unlisted Patterns group = refl
+unlisted Exceptions group = refl
+unlisted _ group = absurd (false≢true group)
 
 tex-said : (section : Section) (cs : List ℕ) → is_group section ≡ true → AreShown cs → 0 < length cs
     → (tex_said section cs ≡ word_said section cs ∷ []) × (tex_after section cs ≡ section)
-tex-said section cs group are some = rw (
+tex-said section [] group are some = absurd (omega (arith, some))
+tex-said section (c ∷ cs) group are some = rw (
   group,
   group,
-  unclosed cs are,
-  slice_split_none is_whitespace cs
-      (all-shown (λ c. is_whitespace c ≡ false) (λ c none. (unsigned c none).0) cs are),
-  some-eqb (length cs) some,
+  unclosed (c ∷ cs) are,
+  one-word (c ∷ cs) are,
+  unlisted section group,
 ) (refl, refl)
 
 pub patterns-word : (cs : List ℕ) → AreShown cs → 0 < length cs
@@ -202,13 +204,33 @@ pub exceptions-word : (cs : List ℕ) → AreShown cs → 0 < length cs
 exceptions-word cs are some =
     grind (arith, chars-ink cs (word-ink cs are), bare-line cs are, tex-said Exceptions cs refl are some)
 
--- ---- the first byte of an exception
+-- ---- words in lines of lists
 
-pub record IsBegun (bytes : List ℕ) : Type 0 where
+-- the first letter and the first byte of a word
+pub record IsBegun (cs : List ℕ) : Type 0 where
+  pub letter : ℕ
+  pub letters : List ℕ
+  pub are : cs ≡ letter ∷ letters
+  pub low_letter : is_low letter ≡ false
   pub first : ℕ
   pub rest : List ℕ
-  pub is : bytes ≡ first ∷ rest
+  pub is : encode_utf8_all cs ≡ first ∷ rest
   pub low : is_low first ≡ false
+
+one-said : (cs : List ℕ) → AreShown cs → IsBegun cs → text_said Listing cs ≡ word_said Listing cs ∷ []
+one-said cs shown begun = subst (λ l. text_said Listing l ≡ word_said Listing l ∷ []) (sym begun.are) (rw (
+  one-word (begun.letter ∷ begun.letters) (subst AreShown begun.are shown),
+  known begun.letter begun.letters begun.low_letter,
+) refl)
+
+-- what a line of a list says that is a word, and where the next is read
+pub list-word : (cs : List ℕ) → AreShown cs → IsBegun cs → IsRead Listing (encode_utf8_all cs) (word_said Listing cs)
+list-word cs shown begun =
+    let ink : AreInk cs = word-ink cs shown in
+    let said = low-said begun.first begun.rest cs begun.low (ap chars (sym begun.is) ∙ chars-ink cs ink)
+    (one-said cs shown begun) in
+    let line = trim-ink cs ink ∙ begun.is in
+    (ap (listed_said Listing) line ∙ said.0, ap (list_after Listing) line ∙ said.1)
 
 high-low : (b : ℕ) → 128 ≤ b → is_low b ≡ false
 high-low b high = grind (arith, nat_tests, le-leb-false, ne_eqb)
@@ -216,13 +238,21 @@ high-low b high = grind (arith, nat_tests, le-leb-false, ne_eqb)
     le-leb-false : (c : ℕ) → 128 ≤ c → is_ascii_uppercase c ≡ false
     le-leb-false c le = grind (arith, nat_tests)
 
-low-byte : (c : ℕ) (rest bytes : List ℕ) → bytes ≡ encode c ++ rest → 0 < length bytes → is_low c ≡ false
-    → IsBegun bytes
-low-byte c rest [] is some low = absurd (omega (arith, some))
-low-byte c rest (b ∷ bs) is some low = record { first = b; rest = bs; is = refl; low = by (cases_lt b 128) }
+low-byte : (c : ℕ) (cs bytes : List ℕ) → encode_utf8_all (c ∷ cs) ≡ bytes → is_low c ≡ false → IsBegun (c ∷ cs)
+low-byte c cs [] is low = absurd (omega (arith, ap length is, length-le-encodes (c ∷ cs)))
+low-byte c cs (b ∷ bs) is low = record {
+  letter = c;
+  letters = cs;
+  are = refl;
+  low_letter = low;
+  first = b;
+  rest = bs;
+  is = is;
+  low = by (cases_lt b 128);
+}
   where
     by : (b < 128) ⊎ (128 ≤ b) → is_low b ≡ false
-    by (inl lt) = ap is_low (sym (char_from_byte (b ∷ bs) rest c is lt some)) ∙ low
+    by (inl lt) = ap is_low (sym (char_from_byte (b ∷ bs) (encode_utf8_all cs) c (sym is) lt (omega arith))) ∙ low
     by (inr high) = high-low b high
 
 -- no capital letter of ASCII stands for itself
@@ -242,24 +272,18 @@ digit-low : (level : ℕ) → nat_lt level 10 ≡ true → is_low (level + 0x30)
 digit-low level lt = grind (arith, nat_tests, not-true, each-of, ltb-true)
 
 pub hyphened-begun : (places letters : List ℕ) → All (λ c. is_bare c ≡ true) letters
-    → AreInnerPlaces (length letters) places → 0 < length places
-    → IsBegun (encode_utf8_all (hyphened 0 places letters))
+    → AreInnerPlaces (length letters) places → 0 < length places → IsBegun (hyphened 0 places letters)
 hyphened-begun [] letters are inner some = absurd (omega (arith, some))
 hyphened-begun (place ∷ places) [] are inner some = absurd (omega (arith, inner.0.1))
 hyphened-begun (place ∷ places) (c ∷ cs) are inner some = rw (ne_eqb place 0 (omega (arith, inner.0.0)))
-    (low-byte c (encode_utf8_all (hyphened 1 (place ∷ places) cs))
-    (encode_utf8_all (c ∷ hyphened 1 (place ∷ places) cs)) refl
-    (omega (arith, length-le-encodes (c ∷ hyphened 1 (place ∷ places) cs)))
+    (low-byte c (hyphened 1 (place ∷ places) cs) (encode_utf8_all (c ∷ hyphened 1 (place ∷ places) cs)) refl
     (bare-low c (bare c (All-head (λ d. is_bare d ≡ true) c cs are))))
 
 pub level-begun : (levels letters : List ℕ) → All (λ level. nat_lt level 10 ≡ true) levels → 0 < length levels
-    → IsBegun (encode_utf8_all (pattern_line levels letters))
+    → IsBegun (pattern_line levels letters)
 level-begun [] letters digits some = absurd (omega (arith, some))
-level-begun (level ∷ levels) [] digits some = low-byte (level + 0x30) [] (encode_utf8_all ((level + 0x30) ∷ []))
-    refl (omega (arith, length-le-encodes ((level + 0x30) ∷ [])))
+level-begun (level ∷ levels) [] digits some = low-byte (level + 0x30) [] (encode_utf8_all ((level + 0x30) ∷ [])) refl
     (digit-low level (All-head (λ n. nat_lt n 10 ≡ true) level levels digits))
-level-begun (level ∷ levels) (c ∷ cs) digits some =
-    low-byte (level + 0x30) (encode_utf8_all (c ∷ pattern_line levels cs))
+level-begun (level ∷ levels) (c ∷ cs) digits some = low-byte (level + 0x30) (c ∷ pattern_line levels cs)
     (encode_utf8_all ((level + 0x30) ∷ c ∷ pattern_line levels cs)) refl
-    (omega (arith, length-le-encodes ((level + 0x30) ∷ c ∷ pattern_line levels cs)))
     (digit-low level (All-head (λ n. nat_lt n 10 ≡ true) level levels digits))

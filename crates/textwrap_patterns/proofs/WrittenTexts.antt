@@ -85,7 +85,7 @@ listed-pattern p is =
     let begun = level-begun p.levels p.letters is.digits (omega (arith, is.each)) in
     subst (IsRead Listing (encode_utf8_all (pattern_line p.levels p.letters)))
     (pattern-is-said Listing p is (pattern-listed p is))
-    (list-word (pattern_line p.levels p.letters) begun.first begun.rest (pattern-is-shown p is) begun.is begun.low)
+    (list-word (pattern_line p.levels p.letters) (pattern-is-shown p is) begun)
 
 listed-exception : (e : ExceptionText) → IsException e
     → IsRead Listing (encode_utf8_all (hyphened 0 e.places e.letters)) (Exception e)
@@ -93,7 +93,7 @@ listed-exception e is =
     let begun = hyphened-begun e.places e.letters is.bare is.inner is.some in
     subst (IsRead Listing (encode_utf8_all (hyphened 0 e.places e.letters)))
     (exception-is-said Listing e is (rw (exception-hyphened e is, exception-undigited e is) refl))
-    (list-word (hyphened 0 e.places e.letters) begun.first begun.rest (exception-shown e is) begun.is begun.low)
+    (list-word (hyphened 0 e.places e.letters) (exception-shown e is) begun)
 
 -- ---- the end
 

@@ -2,10 +2,11 @@
 -- before or behind a hyphen, or what is wrong.
 use Rattle.std.specs.Prelude.{ℕ, suc, Bool, true, false, ◌==◌, ◌&&◌, ◌||◌, not}
 use Rattle.std.specs.Prelude.{List, [], ◌∷◌, Option, None, Some, chars, codes, drop, filter, length}
-use Rattle.std.specs.Prelude.{if◌then◌else◌, map, nat_eq, nat_lt, unwrap_or}
+use Rattle.std.specs.Prelude.{if◌then◌else◌, map, nat_eq, nat_lt}
 use Rattle.std.specs.Char.{is_whitespace}
 use Rattle.std.specs.Char.{is_ascii_uppercase}
 use Rattle.std.specs.List.{list_all, list_any, starts_with}
+use Rattle.std.specs.Option.{option_or}
 use Rattle.std.specs.Str.{trim}
 use Rattle.textwrap_patterns.specs.Listed.{ExceptionText, exception_text, exception_view}
 use Rattle.textwrap_patterns.specs.Places.{are_places}
@@ -19,7 +20,7 @@ use Rattle.textwrap_patterns.specs.declared.changes.Region.{Region}
 use Rattle.textwrap_patterns.specs.declared.entries.Entry as program
 use Rattle.textwrap_patterns.specs.declared.entries.Entry.TheVariants as entry
 use Rattle.textwrap_patterns.specs.declared.entries.Section.{Section}
-use Rattle.textwrap_patterns.specs.declared.entries.Section.TheVariants.{Start, Words}
+use Rattle.textwrap_patterns.specs.declared.entries.Section.TheVariants.{Start, Listing, Words}
 use Rattle.textwrap_patterns.specs.declared.entries.Section.TheVariants.{Patterns}
 use Rattle.textwrap_patterns.specs.declared.entries.Section.TheVariants.{Exceptions}
 use Rattle.textwrap_patterns.specs.declared.errors.Fault.{Fault}
@@ -137,6 +138,36 @@ word_said section cs =
     else if has_slash cs then slashed_said section cs
     else unslashed_said section cs
 
+-- ---- words between blanks
+
+abbrev pub is_list : Section → Bool
+is_list Start = true
+is_list Listing = true
+is_list Words = true
+is_list _ = false
+
+abbrev pub begins : List ℕ → List ℕ → Bool
+begins start line = starts_with nat_eq line start
+
+abbrev pub says_levels : List ℕ → Bool
+says_levels cs = list_any (λ c. is_digit c || is_hyphen_sign c) cs
+
+-- two capital letters in front, and neither a digit nor a hyphen: such a word says nothing of letters
+abbrev pub is_command : List ℕ → Bool
+is_command [] = false
+is_command (a ∷ []) = false
+is_command (a ∷ b ∷ cs) =
+    (is_ascii_uppercase a && is_ascii_uppercase b)
+    && not (says_levels cs)
+
+-- nor does the sign of a comment in front, behind other words
+abbrev pub is_unknown : Section → List ℕ → Bool
+is_unknown section cs = is_list section && (is_command cs || begins (codes "#") cs)
+
+-- a word between blanks; in a list one that is not known is wrong
+abbrev pub item_said : Section → List ℕ → Said
+item_said section cs = if is_unknown section cs then Wrong Word else word_said section cs
+
 -- ---- lines of a list
 
 abbrev pub number_or_fault : (ℕ → Said) → Option ℕ → Said
@@ -150,9 +181,6 @@ number_said said number = number_or_fault said (number_of (trim number))
 abbrev pub is_start : Section → Bool
 is_start Start = true
 is_start _ = false
-
-abbrev pub begins : List ℕ → List ℕ → Bool
-begins start line = starts_with nat_eq line start
 
 -- what ends a run of letters, or has no point beside it, and what lists such signs
 abbrev pub is_joint : ℕ → Bool
@@ -178,25 +206,12 @@ command_said line =
     else if begins (codes "NEXTLEVEL") line then Some NextGroup
     else None
 
-abbrev pub says_levels : List ℕ → Bool
-says_levels cs = list_any (λ c. is_digit c || is_hyphen_sign c) cs
-
--- two capital letters in front, and neither a digit nor a hyphen: such a word says nothing of letters
-abbrev pub is_command : List ℕ → Bool
-is_command [] = false
-is_command (a ∷ []) = false
-is_command (a ∷ b ∷ cs) =
-    (is_ascii_uppercase a && is_ascii_uppercase b)
-    && not (says_levels cs)
-
 -- the name of a charset stands in the first line, as in a dictionary of libhyphen, of which 2 letters
--- stay behind a hyphen if it says nothing else; a word that is not known is wrong
-abbrev pub other_said : Section → List ℕ → Said
-other_said section line =
-    if is_start section && names_charset (plain_name line) then Right 2
-    else if is_command line then Wrong Word
-    else word_said section (chars line)
+-- stay behind a hyphen if it says nothing else
+abbrev pub charset_said : Section → List ℕ → Option Said
+charset_said section line =
+    if is_start section && names_charset (plain_name line) then Some (Right 2) else None
 
--- a line of a list, in bytes, that is neither empty nor a comment
-abbrev pub list_said : Section → List ℕ → Said
-list_said section line = unwrap_or (command_said line) (other_said section line)
+-- what a line of a list, in bytes, says beside patterns and exceptions
+abbrev pub whole_said : Section → List ℕ → Option Said
+whole_said section line = option_or (command_said line) (charset_said section line)

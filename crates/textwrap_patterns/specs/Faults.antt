@@ -1,19 +1,17 @@
 -- What is wrong with a line, said of this line alone, and in a text of TeX of where it stands.
 use Rattle.std.specs.Prelude.{◌≡◌, ◌≢◌, ℕ, zero, suc, ◌==◌, ◌&&◌, ◌||◌, not, Bool, true, false, List, [], ◌∷◌, ◌++◌, ◌⊎◌, None, Some}
 use Rattle.std.specs.Prelude.{chars, codes, filter, length, nat_lt}
-use Rattle.std.specs.Char.{is_whitespace}
 use Rattle.std.specs.List.{list_any, slice_split}
 use Rattle.std.specs.Str.{trim}
 use Rattle.textwrap_patterns.specs.Changes.{number_of, text_before}
 use Rattle.textwrap_patterns.specs.Charsets.{names_charset, plain_name}
-use Rattle.textwrap_patterns.specs.Entries.{are_joints, begins, changes_at, has_digit, has_hyphen}
-use Rattle.textwrap_patterns.specs.Entries.{has_sign, has_slash, is_command, is_hyphen_sign}
-use Rattle.textwrap_patterns.specs.Parsing.{begins_exceptions, closed_text, ends_exceptions, is_group, opened, opened_text, outside_fault}
-use Rattle.textwrap_patterns.specs.Parsing.{tex_after}
+use Rattle.textwrap_patterns.specs.Entries.{are_joints, begins, changes_at, has_sign, has_slash}
+use Rattle.textwrap_patterns.specs.Entries.{is_exception, is_hyphen_sign, is_unknown}
+use Rattle.textwrap_patterns.specs.Parsing.{begins_exceptions, closed_text, ends_exceptions, is_empty, is_group}
+use Rattle.textwrap_patterns.specs.Parsing.{opened, opened_text, outside_fault, tex_after, words_between}
 use Rattle.textwrap_patterns.specs.Written.{letters_written}
 use Rattle.textwrap_patterns.specs.declared.entries.Section.{Section}
-use Rattle.textwrap_patterns.specs.declared.entries.Section.TheVariants.{Words}
-use Rattle.textwrap_patterns.specs.declared.entries.Section.TheVariants.{Exceptions}
+use Rattle.textwrap_patterns.specs.declared.entries.Section.TheVariants.{Listing, Words}
 use Rattle.textwrap_patterns.specs.declared.errors.Fault.{Fault}
 use Rattle.textwrap_patterns.specs.declared.errors.Fault.TheVariants as fault
 
@@ -44,10 +42,6 @@ is_silent line = is_comment line || marks_exceptions line
 abbrev pub IsOther : List ℕ → Type 0
 IsOther line = (is_silent line ≡ false) × (begins_word line ≡ false)
 
--- a pattern or an exception, if nothing is wrong
-abbrev pub IsItem : List ℕ → Type 0
-IsItem line = (is_silent line ≡ false) × (begins_word line ≡ false) × (is_command line ≡ false)
-
 -- with a slash, and without signs
 abbrev pub IsSlashed : List ℕ → Type 0
 IsSlashed cs = (has_sign cs ≡ false) × (has_slash cs ≡ true)
@@ -56,17 +50,9 @@ IsSlashed cs = (has_sign cs ≡ false) × (has_slash cs ≡ true)
 abbrev pub IsClean : List ℕ → Type 0
 IsClean cs = (has_sign cs ≡ false) × (has_slash cs ≡ false)
 
--- with a hyphen, and without a digit
-abbrev pub is_hyphened : List ℕ → Bool
-is_hyphened cs = has_hyphen cs && not (has_digit cs)
-
 -- with more than 255 letters
 abbrev pub IsLong : List ℕ → Type 0
 IsLong cs = nat_lt 255 (length (letters_written cs)) ≡ true
-
-abbrev pub is_empty : List ℕ → Bool
-is_empty [] = true
-is_empty (c ∷ cs) = false
 
 -- nothing stands between two hyphens, or beside one at an end
 abbrev pub has_gap : List ℕ → Bool
@@ -84,15 +70,33 @@ IsWrongWord exception fault.TooLong cs =
 IsWrongWord exception fault.Hyphens cs = IsClean cs × (exception ≡ true) × (has_gap cs ≡ true)
 IsWrongWord exception _ cs = ⊥
 
--- a line without the blanks on its sides, among exceptions or not, is wrong in this way
+-- so is a word of a section, if it is known
+abbrev pub IsWrongItem : Section → Fault → List ℕ → Type 0
+IsWrongItem section fault.Word cs = is_unknown section cs ≡ true
+IsWrongItem section fault cs =
+    (is_unknown section cs ≡ false) × IsWrongWord (is_exception section cs) fault cs
+
+-- of these words the first that is wrong is so in this way
+abbrev pub IsFirstWrongItem : Section → Fault → List (List ℕ) → Type 0
+IsFirstWrongItem section fault [] = ⊥
+IsFirstWrongItem section fault (word ∷ words) =
+    IsWrongItem section fault word
+    ⊎ (((other : Fault) → ¬ IsWrongItem section other word) × IsFirstWrongItem section fault words)
+
+-- the section of a list, among exceptions or not
+abbrev pub listed_in : Bool → Section
+listed_in true = Words
+listed_in false = Listing
+
+-- a line without the blanks on its sides, among exceptions or not, is wrong in this way: behind a word of
+-- libhyphen, or in one of its own words
 abbrev pub IsWrong : Bool → Fault → List ℕ → Type 0
 IsWrong among fault.NoHyphen line =
     (rest : List ℕ) × (line ≡ codes "NOHYPHEN" ++ rest) × (are_joints (chars rest) ≡ false)
-IsWrong among fault.Word line = IsOther line × (is_command line ≡ true)
 IsWrong among fault.Number line =
     LacksNumber (codes "LEFTHYPHENMIN") line ⊎ (LacksNumber (codes "RIGHTHYPHENMIN") line
     ⊎ (LacksNumber (codes "COMPOUNDLEFTHYPHENMIN") line ⊎ LacksNumber (codes "COMPOUNDRIGHTHYPHENMIN") line))
-IsWrong among fault line = IsItem line × IsWrongWord (among || is_hyphened (chars line)) fault (chars line)
+IsWrong among fault line = IsOther line × IsFirstWrongItem (listed_in among) fault (words_between (chars line))
 
 -- the first line may name a charset, whatever else it is
 abbrev pub IsWrongLine : Bool → ℕ → Fault → List ℕ → Type 0
@@ -129,28 +133,11 @@ is_of_line _ = false
 
 -- ---- texts of TeX
 
--- the words between blanks
-abbrev pub words_between : List ℕ → List (List ℕ)
-words_between text = filter (λ word. not (is_empty word)) (slice_split is_whitespace text)
-
--- of these words the first that is wrong is so in this way
-abbrev pub IsFirstWrongWord : Bool → Fault → List (List ℕ) → Type 0
-IsFirstWrongWord exception fault [] = ⊥
-IsFirstWrongWord exception fault (word ∷ words) =
-    IsWrongWord exception fault word
-    ⊎ (((other : Fault) → ¬ IsWrongWord exception other word) × IsFirstWrongWord exception fault words)
-
-abbrev pub has_exceptions : Section → Bool
-has_exceptions Words = true
-has_exceptions Exceptions = true
-has_exceptions _ = false
-
 -- a line without its comment is wrong in a word of its group, or outside of groups by itself
 abbrev pub IsWrongTex : Section → Fault → List ℕ → Type 0
 IsWrongTex section fault line =
     ((is_group (opened section line) ≡ true)
-    × IsFirstWrongWord (has_exceptions (opened section line)) fault
-    (words_between (closed_text (opened_text section line))))
+    × IsFirstWrongItem (opened section line) fault (words_between (closed_text (opened_text section line))))
     ⊎ ((is_group (opened section line) ≡ false) × (outside_fault line ≡ Some fault))
 
 -- of such lines behind so many others, the first of which stands in this section

@@ -1,6 +1,6 @@
 -- A dictionary that is read from a text: line by line, up to the first that is wrong.
 use Rattle.std.specs.Prelude.{◌≡◌, ℕ, suc, Bool, true, false, ◌==◌, ◌&&◌, ◌||◌, not, List, [], ◌∷◌}
-use Rattle.std.specs.Prelude.{◌++◌, ⊤, Option, None, Some, Result, Ok, Err, chars, codes, drop}
+use Rattle.std.specs.Prelude.{◌++◌, ⊤, Option, None, Some, Result, Ok, Err, chars, codes, drop, filter}
 use Rattle.std.specs.Prelude.{if◌then◌else◌, length, map, max, nat_eq, nat_lt, slice_index, take}
 use Rattle.std.specs.Prelude.{bytes_eq, min, unwrap_or, ◌+◌, ◌-◌, ◌^◌}
 use Rattle.std.specs.Char.{is_whitespace}
@@ -12,8 +12,8 @@ use Rattle.textwrap_patterns.specs.Changes.{before, number_of, text_before}
 use Rattle.textwrap_patterns.specs.Charsets.{decoded}
 use Rattle.textwrap_patterns.specs.Entries.{Said, Pattern, Changed, Exception, Left, Right, CompoundLeft}
 use Rattle.textwrap_patterns.specs.Entries.{CompoundRight, NextGroup, Nothing}
-use Rattle.textwrap_patterns.specs.Entries.{Wrong, begins, is_start, list_said}
-use Rattle.textwrap_patterns.specs.Entries.{number_or_fault, word_said}
+use Rattle.textwrap_patterns.specs.Entries.{Wrong, begins, is_list, is_start, item_said}
+use Rattle.textwrap_patterns.specs.Entries.{number_or_fault, whole_said}
 use Rattle.textwrap_patterns.specs.Listed.{Listed, exception_view, listed}
 use Rattle.textwrap_patterns.specs.Listed.{pattern_view}
 use Rattle.textwrap_patterns.specs.Written.{is_digit}
@@ -64,6 +64,24 @@ abbrev pub with_all : ℕ → List Said → Listed → Outcome
 with_all n [] h = Ok h
 with_all n (said ∷ more) h = and_then (with_said n said h) (with_all n more)
 
+-- ---- words
+
+abbrev pub is_empty : List ℕ → Bool
+is_empty [] = true
+is_empty (c ∷ cs) = false
+
+-- the words between blanks, and what they say one after another
+abbrev pub words_between : List ℕ → List (List ℕ)
+words_between text = filter (λ word. not (is_empty word)) (slice_split is_whitespace text)
+
+abbrev pub text_said : Section → List ℕ → List Said
+text_said section text = map (item_said section) (words_between text)
+
+-- this, or else what some words say
+abbrev pub said_or : List Said → Option Said → List Said
+said_or words None = words
+said_or words (Some said) = said ∷ []
+
 -- ---- lists
 
 -- the lines that begin exceptions and end them
@@ -86,7 +104,8 @@ list_after section line =
     else section
 
 abbrev pub listed_said : Section → List ℕ → List Said
-listed_said section line = if is_skipped line then [] else list_said section line ∷ []
+listed_said section line =
+    if is_skipped line then [] else said_or (text_said section (chars line)) (whole_said section line)
 
 -- ---- texts of TeX
 
@@ -145,16 +164,6 @@ closed section text = if is_closed text then Behind else section
 abbrev pub closed_text : List ℕ → List ℕ
 closed_text text = if is_closed text then take (before 0x7D text) text else text
 
--- what words say between which there are blanks
-abbrev pub words_said : Section → List (List ℕ) → List Said
-words_said section [] = []
-words_said section (word ∷ words) =
-    if length word == 0 then words_said section words
-    else word_said section word ∷ words_said section words
-
-abbrev pub text_said : Section → List ℕ → List Said
-text_said section text = words_said section (slice_split is_whitespace text)
-
 -- the command that reads another file
 abbrev pub has_input : List ℕ → Bool
 has_input line =
@@ -203,10 +212,6 @@ minimum_said comment =
     then Some (number_or_fault Right (first_number (trim (drop 6 comment))))
     else None
 
-abbrev pub said_if : Option Said → List Said
-said_if None = []
-said_if (Some said) = said ∷ []
-
 -- ---- lines
 
 -- a text of TeX begins with a comment or a command
@@ -228,19 +233,13 @@ abbrev pub is_preamble : Section → Bool
 is_preamble Preamble = true
 is_preamble _ = false
 
-abbrev pub is_list : Section → Bool
-is_list Start = true
-is_list Listing = true
-is_list Words = true
-is_list _ = false
-
 -- a line of a text of TeX, which in its header says how many letters stay, or begins this
 abbrev pub begins_minima : Section → List ℕ → Bool
 begins_minima section line = is_preamble section && names_minima (comment_in line)
 
 abbrev pub header_said : Section → List ℕ → List Said
 header_said section line =
-    if is_minima section then said_if (minimum_said (comment_in line))
+    if is_minima section then said_or [] (minimum_said (comment_in line))
     else if begins_minima section line then []
     else tex_said section (before_comment (chars line))
 

@@ -6,11 +6,12 @@ ghost use Rattle.textwrap_patterns.specs.Entries.{CompoundLeft, CompoundRight, L
 ghost use Rattle.textwrap_patterns.specs.Entries.{are_joints, beside_said};
 ghost use Rattle.textwrap_patterns.specs.Entries.{command_said, number_or_fault};
 ghost use Rattle.textwrap_patterns.specs.Entries.{entry_view, exception_said, exception_written};
-ghost use Rattle.textwrap_patterns.specs.Entries.{has_hyphen, has_digit, has_sign, has_slash};
-ghost use Rattle.textwrap_patterns.specs.Entries.{is_command, is_exception, is_joint, is_sign, is_start};
+ghost use Rattle.textwrap_patterns.specs.Entries.{charset_said, has_hyphen, has_digit, has_sign, has_slash};
+ghost use Rattle.textwrap_patterns.specs.Entries.{is_command, is_exception, is_joint, is_list, is_sign, is_start};
+ghost use Rattle.textwrap_patterns.specs.Entries.{is_unknown, item_said};
 ghost use Rattle.textwrap_patterns.specs.Changes.{number_of};
-ghost use Rattle.textwrap_patterns.specs.Entries.{changed_by, list_said, other_said, pattern_said};
-ghost use Rattle.textwrap_patterns.specs.Entries.{says_levels, slashed_said, word_said};
+ghost use Rattle.textwrap_patterns.specs.Entries.{changed_by, pattern_said};
+ghost use Rattle.textwrap_patterns.specs.Entries.{says_levels, slashed_said, whole_said, word_said};
 ghost use Rattle.textwrap_patterns.specs.Listed.{exception_view, pattern_view};
 
 use crate::changes::{Region, region_said, text_before, text_behind, without_changes};
@@ -65,17 +66,17 @@ pub enum Entry<A: Allocator> {
     Wrong(Fault),
 }
 
-/// What a line of a list says that is neither empty nor a comment.
-pub fn list_entry<A: Allocator + Copy>(
+/// What a line of a list says beside patterns and exceptions, where it is neither empty nor a comment.
+pub fn whole_entry<A: Allocator + Copy>(
     alloc: A,
     section: Section,
     line: &str,
-) -> Result<Entry<A>, AllocError>
-    ensures { IfOk result (λ entry. entry_view entry ≡ list_said section line.now) }
+) -> Result<Option<Entry<A>>, AllocError>
+    ensures { IfOk result (λ entry. option_map entry_view entry ≡ whole_said section line.now) }
 {
     match command_entry(alloc, line)? {
-        Some(entry) => Ok(entry),
-        None => other_entry(alloc, section, line),
+        Some(entry) => Ok(Some(entry)),
+        None => charset_entry(alloc, section, line),
     }
 }
 
@@ -191,43 +192,19 @@ pub fn number_of(digits: &[u8]) -> Option<usize>
     }
 }
 
-/// What a line says that begins with no word of libhyphen.
-fn other_entry<A: Allocator + Copy>(
+/// What the first line says of a charset. In a dictionary of libhyphen 2 letters stay behind a hyphen, if
+/// nothing else is said.
+fn charset_entry<A: Allocator + Copy>(
     alloc: A,
     section: Section,
     line: &str,
-) -> Result<Entry<A>, AllocError>
-    ensures { IfOk result (λ entry. entry_view entry ≡ other_said section line.now) }
+) -> Result<Option<Entry<A>>, AllocError>
+    ensures { IfOk result (λ entry. option_map entry_view entry ≡ charset_said section line.now) }
 {
     if is_start(section) && names_charset(&plain_name(alloc, line.as_bytes())?) {
-        // In a dictionary of libhyphen 2 letters stay behind a hyphen, if nothing else is said.
-        return Ok(Entry::Right(2));
+        return Ok(Some(Entry::Right(2)));
     }
-    if is_command(line.as_bytes()) {
-        return Ok(Entry::Wrong(Fault::Word));
-    }
-    word_entry(alloc, section, &characters_of(alloc, line)?)
-}
-
-/// Whether a line begins with two capital letters, and has neither a digit nor a hyphen behind them.
-fn is_command(line: &[u8]) -> bool
-    ensures { result ≡ is_command line.now }
-{
-    match line {
-        [first, second, rest @ ..] => {
-            first.is_ascii_uppercase() && second.is_ascii_uppercase() && !says_levels(rest)
-        }
-        _ => false,
-    }
-}
-
-/// Whether there is a digit or a hyphen among some bytes.
-fn says_levels(bytes: &[u8]) -> bool
-    ensures { result ≡ says_levels bytes.now }
-{
-    bytes
-        .iter()
-        .any(|byte| byte.is_ascii_digit() || *byte == b'-')
+    Ok(None)
 }
 
 /// Whether a section is that of the first line.
@@ -237,8 +214,55 @@ pub fn is_start(section: Section) -> bool
     matches!(section, Section::Start)
 }
 
-/// What a word says in a section.
-pub fn word_entry<A: Allocator + Copy>(
+/// Whether a section is one of a list.
+pub fn is_list(section: Section) -> bool
+    ensures { result ≡ is_list section }
+{
+    matches!(section, Section::Start | Section::Listing | Section::Words)
+}
+
+/// What a word between blanks says in a section.
+pub fn item_entry<A: Allocator + Copy>(
+    alloc: A,
+    section: Section,
+    word: &[char],
+) -> Result<Entry<A>, AllocError>
+    ensures { IfOk result (λ entry. entry_view entry ≡ item_said section word.now) }
+{
+    if is_unknown(section, word) {
+        return Ok(Entry::Wrong(Fault::Word));
+    }
+    word_entry(alloc, section, word)
+}
+
+/// Whether a word of a list says nothing of letters, and so is wrong.
+fn is_unknown(section: Section, word: &[char]) -> bool
+    ensures { result ≡ is_unknown section word.now }
+{
+    is_list(section) && (is_command(word) || matches!(word, ['#', ..]))
+}
+
+/// Whether a word begins with two capital letters, and has neither a digit nor a hyphen behind them.
+fn is_command(word: &[char]) -> bool
+    ensures { result ≡ is_command word.now }
+{
+    match word {
+        [first, second, rest @ ..] => {
+            first.is_ascii_uppercase() && second.is_ascii_uppercase() && !says_levels(rest)
+        }
+        _ => false,
+    }
+}
+
+/// Whether there is a digit or a hyphen in a text.
+fn says_levels(text: &[char]) -> bool
+    ensures { result ≡ says_levels text.now }
+{
+    text.iter().any(|ch| is_digit(*ch) || *ch == '-')
+}
+
+/// What a word says in a section, if it is known.
+fn word_entry<A: Allocator + Copy>(
     alloc: A,
     section: Section,
     word: &[char],

@@ -14,7 +14,7 @@ pub enum Fault {
     /// `NOHYPHEN` with other signs than hyphens and apostrophes.
     #[error("NOHYPHEN is supported for hyphens and apostrophes alone")]
     NoHyphen,
-    /// A line of capital letters that is no word of libhyphen.
+    /// A word of capital letters that is none of libhyphen, or one behind others that begins with `#`.
     #[error("the word is not known")]
     Word,
     /// A word of libhyphen, or a header of TeX, without a number of one digit or two.
@@ -23,8 +23,8 @@ pub enum Fault {
     /// A `/` in an exception, or without a replacement with `=` behind it, alone or with two numbers.
     #[error("a slash is in an exception, or no change with an equals sign stands behind it")]
     Replacement,
-    /// A blank, a brace, a backslash, a `%` or U+FFFD in a word.
-    #[error("a word has a blank, a brace, a backslash, a percent sign or no character in it")]
+    /// A brace, a backslash, a `%` or U+FFFD in a word.
+    #[error("a word has a brace, a backslash, a percent sign or no character in it")]
     Sign,
     /// A pattern of more than 255 letters.
     #[error("a pattern has more than 255 letters")]

@@ -1,12 +1,14 @@
 //! The letters of a word.
-ghost use Rattle.std.specs.Prelude.{◌≡◌, ◌≤◌, length, IfOk};
+ghost use Rattle.std.specs.Prelude.{◌≡◌, ◌<◌, ◌≤◌, length, take, IfNone, IfOk, IfSome};
 ghost use Rattle.textwrap_patterns.specs.Letters.{begins_letter, counts, folded, has_letters};
 ghost use Rattle.textwrap_patterns.specs.Letters.{is_hyphen_character, is_letter_or_mark};
 ghost use Rattle.textwrap_patterns.specs.Letters.{is_combining_mark};
 ghost use Rattle.textwrap_patterns.specs.Letters.{letters_of, lowered, run_len};
+ghost use Rattle.textwrap_text.specs.Units.{IsPrintable};
 
 use std::alloc::{AllocError, Allocator};
 use textwrap_text::characters::Characters;
+use textwrap_text::printable::is_printable;
 use unicode::properties::{is_alphabetic, is_grapheme_extend};
 
 /// A letter of a word, as patterns have it.
@@ -40,6 +42,55 @@ pub fn letters_of<A: Allocator>(alloc: A, word: &str) -> Result<Vec<Letter, A>, 
     Ok(letters)
 }
 
+/// Puts the letters of a word, which [`letters_of`] gives too, at the beginning of some room. Returns
+/// how many there are, or `None` where the room is too small for them. No memory is taken.
+pub fn put_letters(word: &str, room: &mut [Letter]) -> Option<usize>
+    ensures within { IfSome result (λ count. count ≤ length room.new) }
+    ensures letters { IfSome result (λ count. take count room.new ≡ letters_of word.now) }
+    ensures none { IfNone result (length room.old < length (letters_of word.now)) }
+{
+    if word.len() <= room.len() && is_printable(word.as_bytes()) {
+        put_printable(word.as_bytes(), room);
+        return Some(word.len());
+    }
+    put_characters(word, room)
+}
+
+/// The same for a word of printable ASCII, in which each byte is a letter.
+fn put_printable(word: &[u8], room: &mut [Letter])
+    requires printable { IsPrintable word.now }
+    requires room { length word.now ≤ length room.old }
+    ensures { take (length word.now) room.new ≡ letters_of word.now }
+{
+    for (at, byte) in word.iter().enumerate() {
+        let ch = byte.to_ascii_lowercase() as char;
+        room[at] = Letter { at, ch };
+    }
+}
+
+/// The same for any word, character by character.
+fn put_characters(word: &str, room: &mut [Letter]) -> Option<usize>
+    ensures within { IfSome result (λ count. count ≤ length room.new) }
+    ensures letters { IfSome result (λ count. take count room.new ≡ letters_of word.now) }
+    ensures none { IfNone result (length room.old < length (letters_of word.now)) }
+{
+    let mut count = 0;
+    for character in Characters::of(word) {
+        if character.is_visible && character.ch != '\u{ad}' {
+            if count >= room.len() {
+                return None;
+            }
+            let ch = folded(character.ch);
+            room[count] = Letter {
+                at: character.at,
+                ch,
+            };
+            count += 1;
+        }
+    }
+    Some(count)
+}
+
 /// How many letters stand at the beginning, where an apostrophe before a letter counts as one.
 pub fn run_len(letters: &[Letter]) -> usize
     ensures len { result ≡ run_len letters.now }
@@ -70,6 +121,13 @@ pub fn folded(ch: char) -> char
 fn lowered(ch: char) -> char
     ensures { result ≡ lowered ch }
 {
+    // For most letters no table has to be searched.
+    if ch < '\u{80}' {
+        return ch.to_ascii_lowercase();
+    }
+    if '\u{df}' <= ch && ch <= '\u{ff}' {
+        return ch;
+    }
     let mut cased = ch.to_lowercase();
     match (cased.next(), cased.next()) {
         (Some(lower), None) => lower,
@@ -85,6 +143,9 @@ pub fn is_letter(ch: char) -> bool
     if ch.is_ascii_lowercase() {
         return true;
     }
+    if '\u{df}' <= ch && ch <= '\u{24f}' && ch != '\u{f7}' {
+        return true;
+    }
     is_alphabetic(ch) || is_mark(ch)
 }
 
@@ -92,7 +153,7 @@ pub fn is_letter(ch: char) -> bool
 fn is_mark(ch: char) -> bool
     ensures { result ≡ is_combining_mark ch }
 {
-    if ch < '\u{80}' {
+    if ch < '\u{300}' {
         return false;
     }
     is_grapheme_extend(ch)

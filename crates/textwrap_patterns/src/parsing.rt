@@ -9,7 +9,7 @@ ghost use Rattle.textwrap_patterns.specs.Entries.{entry_view, is_start};
 ghost use Rattle.textwrap_patterns.specs.Parsing.{Reads, after_mark, before_comment, closed};
 ghost use Rattle.textwrap_patterns.specs.Parsing.{closed_text, comment_in, count_fault, end_fault, ended};
 ghost use Rattle.textwrap_patterns.specs.Parsing.{entered, first_number, has_input, header_after};
-ghost use Rattle.textwrap_patterns.specs.Parsing.{has_opening, header_said, is_group, is_list, is_minima, is_preamble};
+ghost use Rattle.textwrap_patterns.specs.Parsing.{has_opening, header_said, is_group, is_minima, is_preamble};
 ghost use Rattle.textwrap_patterns.specs.Parsing.{begins_exceptions, ends_exceptions, is_skipped, is_tex};
 ghost use Rattle.textwrap_patterns.specs.Parsing.{line_said, list_after};
 ghost use Rattle.textwrap_patterns.specs.Parsing.{listed_said, minimum_said, names_group, names_minima};
@@ -23,7 +23,8 @@ ghost use Rattle.textwrap_patterns.specs.declared.errors.ParseError.TheVariants.
 use crate::changes::{find, text_before};
 use crate::charsets::{charset_of, decoded};
 use crate::entries::{
-    Entry, Section, is_start, left_or_fault, list_entry, number_of, right_or_fault, word_entry,
+    Entry, Section, is_list, is_start, item_entry, left_or_fault, number_of, right_or_fault,
+    whole_entry,
 };
 use crate::errors::{Fault, ParseError};
 use crate::patterns::{Exception, Pattern};
@@ -239,8 +240,10 @@ impl<A: Allocator + Copy> Reading<A> {
         if is_skipped(line) {
             return Ok(());
         }
-        let entry = list_entry(alloc, section, line)?;
-        self.add(number, entry)
+        match whole_entry(alloc, section, line)? {
+            Some(entry) => self.add(number, entry),
+            None => self.read_words(alloc, number, section, &characters_of(alloc, line)?),
+        }
     }
 
     /// Reads a line of TeX without its comment, and returns the section behind it.
@@ -267,7 +270,7 @@ impl<A: Allocator + Copy> Reading<A> {
         Ok(after)
     }
 
-    /// Reads the words of a group.
+    /// Reads the words between blanks.
     fn read_words(
         &mut self,
         alloc: A,
@@ -281,7 +284,7 @@ impl<A: Allocator + Copy> Reading<A> {
         let words = words_of(alloc, text)?;
         for word in words.iter() {
             if !word.is_empty() {
-                let entry = word_entry(alloc, section, word)?;
+                let entry = item_entry(alloc, section, word)?;
                 self.add(number, entry)?;
             }
         }
@@ -465,12 +468,6 @@ fn is_tex(line: &[u8]) -> bool
         [first, ..] => *first == b'%' || *first == b'\\',
         [] => false,
     }
-}
-
-fn is_list(section: Section) -> bool
-    ensures { result ≡ is_list section }
-{
-    matches!(section, Section::Start | Section::Listing | Section::Words)
 }
 
 fn is_group(section: Section) -> bool

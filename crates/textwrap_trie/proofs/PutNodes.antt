@@ -4,8 +4,8 @@ use Rattle.textwrap_text.proofs.Common.{cond, eq-eqb, eqb, eqb-true, false, get_
 use Rattle.textwrap_text.proofs.Common.{List, ne_eqb, None, Option, refl, Some, suc, sym, take, take_more, true, ℕ}
 use Rattle.textwrap_text.proofs.Common.{⊎_elim, ◌*◌, ◌++◌, ◌/◌, ◌+◌, ◌<◌, ◌∙◌, ◌∷◌, ◌≡◌, ◌≢◌, ◌≤◌}
 use Rattle.std.proofs.lemmas.List.Elements.{All-push}
-use Rattle.std.specs.Prelude.{◌%◌}
-use Rattle.textwrap_trie.specs.Trie.{child_at, child_in, child_of, empty_slot, list_of, slot_at}
+use Rattle.std.specs.Prelude.{◌%◌, nat_lt}
+use Rattle.textwrap_trie.specs.Trie.{child_at, child_in, child_of, empty_slot, kind_of, list_of, place_of, slot_at}
 use Rattle.textwrap_trie.specs.Writing.{AreFree, child_for, HaveParents, IsKind, IsLater, IsNodeOf, slot_for}
 use Rattle.textwrap_trie.specs.declared.slots.Child.{Child}
 
@@ -14,30 +14,31 @@ AreCodes children = All (λ c. c.letter < 0x110000) children
 
 -- ---- what a slot holds
 
-pub empty-none : (letter : ℕ) → child_in empty_slot letter ≡ 0
-empty-none letter = always (eqb (suc letter) 0x1FFFFF)
+pub empty-none : (letter : ℕ) → child_in empty_slot letter ≡ empty_slot
+empty-none letter = always (eqb 0x1FFFFF (suc letter))
   where
-    always : (b : Bool) → child_in empty_slot letter ≡ 0
-    always b = grind arith
+    always : (b : Bool) → cond b empty_slot empty_slot ≡ empty_slot
+    always true = refl
+    always false = refl
 
-own-none : (list letter : ℕ) → child_in (list * 0x200000) letter ≡ 0
+own-none : (list letter : ℕ) → child_in (list * 0x800000) letter ≡ empty_slot
 own-none list letter =
-    let code : eqb ((list * 0x200000) % 0x200000) (suc letter) ≡ false = ne_eqb _ _ (omega arith) in
-    ap (λ b. cond b ((list * 0x200000) / 0x200000) 0) code
+    let code : eqb ((list * 0x800000) % 0x200000) (suc letter) ≡ false = ne_eqb _ _ (omega arith) in
+    ap (λ b. cond b (list * 0x800000) empty_slot) code
 
 held : (node letter : ℕ) → letter < 0x110000
-    → child_in (node * 0x200000 + suc letter) letter ≡ node
+    → child_in (node * 0x200000 + suc letter) letter ≡ node * 0x200000 + suc letter
 held node letter small =
     let code : eqb ((node * 0x200000 + suc letter) % 0x200000) (suc letter) ≡ true =
     eq-eqb _ _ (omega (arith, small)) in
-    ap (λ b. cond b ((node * 0x200000 + suc letter) / 0x200000) 0) code ∙ omega (arith, small)
+    ap (λ b. cond b (node * 0x200000 + suc letter) empty_slot) code
 
 not-held : (node letter other : ℕ) → letter < 0x110000 → letter ≢ other
-    → child_in (node * 0x200000 + suc letter) other ≡ 0
+    → child_in (node * 0x200000 + suc letter) other ≡ empty_slot
 not-held node letter other small differs =
     let code : eqb ((node * 0x200000 + suc letter) % 0x200000) (suc other) ≡ false =
     ne_eqb _ _ (λ same. differs (omega (arith, small, same))) in
-    ap (λ b. cond b ((node * 0x200000 + suc letter) / 0x200000) 0) code
+    ap (λ b. cond b (node * 0x200000 + suc letter) empty_slot) code
 
 -- ---- what children leave
 
@@ -103,25 +104,25 @@ found (c ∷ cs) place letter other small =
     (eq-eqb at (place + suc c.letter) (omega (arith, same)))
     ∙ next true
     ∙ ap (child_for cs letter) (ap (λ l. child_in word l) (sym same) ∙ held c.node c.letter here)
-    ∙ ap (λ b. child_for cs letter (cond b c.node (child_in other letter)))
+    ∙ ap (λ b. child_for cs letter (cond b word (child_in other letter)))
     (sym (eq-eqb c.letter letter same)))
     (λ (differs : c.letter ≢ letter).
     ap (λ b. child_in (slot_for cs place at (cond b word other)) letter)
     (ne_eqb at (place + suc c.letter) (λ same. differs (omega (arith, same))))
     ∙ next false
-    ∙ ap (λ b. child_for cs letter (cond b c.node (child_in other letter)))
+    ∙ ap (λ b. child_for cs letter (cond b word (child_in other letter)))
     (sym (ne_eqb c.letter letter differs)))
     (cases_eq c.letter letter)
 
 -- the children of a node at another place are as they were
 pub other-node : (children : List Child) (place base letter other : ℕ) → base ≢ place
     → AreCodes children
-    → All (λ c. base + suc letter ≡ place + suc c.letter → child_in other letter ≡ 0) children
+    → All (λ c. base + suc letter ≡ place + suc c.letter → child_in other letter ≡ empty_slot) children
     → child_in (slot_for children place (base + suc letter) other) letter ≡ child_in other letter
 other-node [] place base letter other differs small free = refl
 other-node (c ∷ cs) place base letter other differs small free =
     let Small = λ (d : Child). d.letter < 0x110000 in
-    let Free = λ (d : Child). base + suc letter ≡ place + suc d.letter → child_in other letter ≡ 0 in
+    let Free = λ (d : Child). base + suc letter ≡ place + suc d.letter → child_in other letter ≡ empty_slot in
     let here = step (eqb (base + suc letter) (place + suc c.letter)) refl
     (All-head Small c cs small) (All-head Free c cs free) in
     other-node cs place base letter _ differs (All-tail Small c cs small)
@@ -129,7 +130,7 @@ other-node (c ∷ cs) place base letter other differs small free =
     ∙ here
   where
     step : (b : Bool) → eqb (base + suc letter) (place + suc c.letter) ≡ b → c.letter < 0x110000
-        → (base + suc letter ≡ place + suc c.letter → child_in other letter ≡ 0)
+        → (base + suc letter ≡ place + suc c.letter → child_in other letter ≡ empty_slot)
         → child_in (cond b (c.node * 0x200000 + suc c.letter) other) letter ≡ child_in other letter
     step true is here none =
         let same = eqb-true _ _ is in
@@ -154,14 +155,20 @@ later-later one two three first second = record {
 
 -- ---- a node that is put
 
+-- the place of the list of a node of a kind
+abbrev list_by : ℕ → List ℕ → ℕ → Option ℕ
+list_by kind slots slot =
+    cond (eqb kind 1) (Some (place_of (slot_at slots (place_of slot))))
+    (cond (eqb kind 2) (Some (place_of slot)) None)
+
 module _ (old new : List ℕ) (place list : ℕ) (children : List Child) (parents : HaveParents old)
     (free : AreFree old place children) (small : AreCodes children)
     (put : (at : ℕ) → slot_at new at
-    ≡ slot_for children place at (cond (eqb at place) (list * 0x200000) (slot_at old at))) where
-  own-slot : slot_at new place ≡ list * 0x200000
+    ≡ slot_for children place at (cond (eqb at place) (list * 0x800000) (slot_at old at))) where
+  own-slot : slot_at new place ≡ list * 0x800000
   own-slot = put place
       ∙ kept-slot children place place _ (λ k c within same. omega (arith, same))
-      ∙ ap (λ b. cond b (list * 0x200000) (slot_at old place)) (eq-eqb place place refl)
+      ∙ ap (λ b. cond b (list * 0x800000) (slot_at old place)) (eq-eqb place place refl)
 
   own-some : slot_at new place ≢ empty_slot
   own-some none = let same = sym own-slot ∙ none in omega (arith, same)
@@ -171,19 +178,19 @@ module _ (old new : List ℕ) (place list : ℕ) (children : List Child) (parent
       let at = base + suc letter in
       ap (λ s. child_in s letter) (put at)
       ∙ other-node children place base letter _ differs small (λ k c within is.
-      ap (λ b. child_in (cond b (list * 0x200000) (slot_at old at)) letter)
+      ap (λ b. child_in (cond b (list * 0x800000) (slot_at old at)) letter)
       (ne_eqb at place (λ same. omega (arith, is, same)))
       ∙ ap (λ a. child_in (slot_at old a) letter) is
       ∙ ap (λ s. child_in s letter) (free.others k c within) ∙ empty-none letter)
       ∙ ⊎_elim
-      {C = child_in (cond (eqb at place) (list * 0x200000) (slot_at old at)) letter
+      {C = child_in (cond (eqb at place) (list * 0x800000) (slot_at old at)) letter
       ≡ child_in (slot_at old at) letter}
       (λ (same : at ≡ place).
-      ap (λ b. child_in (cond b (list * 0x200000) (slot_at old at)) letter) (eq-eqb at place same)
+      ap (λ b. child_in (cond b (list * 0x800000) (slot_at old at)) letter) (eq-eqb at place same)
       ∙ own-none list letter ∙ sym (empty-none letter)
       ∙ ap (λ s. child_in s letter) (sym free.own) ∙ ap (λ a. child_in (slot_at old a) letter) (sym same))
       (λ (apart : at ≢ place).
-      ap (λ b. child_in (cond b (list * 0x200000) (slot_at old at)) letter) (ne_eqb at place apart))
+      ap (λ b. child_in (cond b (list * 0x800000) (slot_at old at)) letter) (ne_eqb at place apart))
       (cases_eq at place)
 
   not-here : (at : ℕ) → slot_at old at ≢ empty_slot → at ≢ place
@@ -193,7 +200,7 @@ module _ (old new : List ℕ) (place list : ℕ) (children : List Child) (parent
   kept-other at some =
       put at
       ∙ kept-slot children place at _ (λ k c within same. some (ap (slot_at old) same ∙ free.others k c within))
-      ∙ ap (λ b. cond b (list * 0x200000) (slot_at old at)) (ne_eqb at place (not-here at some))
+      ∙ ap (λ b. cond b (list * 0x800000) (slot_at old at)) (ne_eqb at place (not-here at some))
 
   was-empty : (at : ℕ) → slot_at new at ≡ empty_slot → slot_at old at ≡ empty_slot
   was-empty at none = ⊎_elim {C = slot_at old at ≡ empty_slot} (λ (is : slot_at old at ≡ empty_slot). is)
@@ -211,13 +218,13 @@ module _ (old new : List ℕ) (place list : ℕ) (children : List Child) (parent
     children = λ at letter some. others at letter (not-here at some);
   }
 
-  put-children : (letter : ℕ) → child_at new place letter ≡ child_for children letter 0
+  put-children : (letter : ℕ) → child_at new place letter ≡ child_for children letter empty_slot
   put-children letter =
       let at = place + suc letter in
       ap (λ s. child_in s letter) (put at)
       ∙ found children place letter _ small
       ∙ ap (child_for children letter)
-      (ap (λ b. child_in (cond b (list * 0x200000) (slot_at old at)) letter)
+      (ap (λ b. child_in (cond b (list * 0x800000) (slot_at old at)) letter)
       (ne_eqb at place (λ same. omega (arith, same)))
       ∙ parents place letter free.own)
 
@@ -226,58 +233,63 @@ module _ (old new : List ℕ) (place list : ℕ) (children : List Child) (parent
   put-node None kind node is has = record {
     parents = put-parents;
     later = put-later;
-    list = λ later after. grind (arith, is, has);
-    child = λ later letter after.
-        let odd : eqb (node % 2) 0 ≡ false = ne_eqb _ _ (omega (arith, is, has)) in
-        let at : node / 4 ≡ place = omega (arith, is, has) in
-        ap (λ b. cond b 0 (child_at later (node / 4) letter)) odd
-        ∙ ap (λ p. child_at later p letter) at
-        ∙ after.children place letter own-some ∙ put-children letter;
+    list = λ after later code small.
+        let slot = node * 0x200000 + code in
+        let is_kind : kind_of slot ≡ 0 = omega (arith, is, has, small) in
+        ap (λ n. list_by n after slot) is_kind;
+    child = λ after letter later code small.
+        let slot = node * 0x200000 + code in
+        let is_kind : kind_of slot ≡ 0 = omega (arith, is, has, small) in
+        ap (λ n. cond (nat_lt n 2) (child_at after (place_of slot) letter) empty_slot) is_kind
+        ∙ ap (λ p. child_at after p letter) (omega (arith, is, has, small))
+        ∙ later.children place letter own-some ∙ put-children letter;
   }
   put-node (Some n) kind node is has = record {
     parents = put-parents;
     later = put-later;
-    list = λ later after.
-        let some : eqb (node / 2 % 2) 0 ≡ false = ne_eqb _ _ (omega (arith, is, has.0)) in
-        let odd : eqb (node % 2) 0 ≡ false = ne_eqb _ _ (omega (arith, is, has.0)) in
-        let at : node / 4 ≡ place = omega (arith, is, has.0) in
-        let own = after.kept place own-some ∙ own-slot in
-        ap (λ b. cond b None (Some (cond (eqb (node % 2) 0) (node / 4) (slot_at later (node / 4) / 0x200000)))) some
-        ∙ ap (λ b. Some (cond b (node / 4) (slot_at later (node / 4) / 0x200000))) odd
-        ∙ ap (λ p. Some (slot_at later p / 0x200000)) at
-        ∙ ap (λ s. Some (s / 0x200000)) own
+    list = λ after later code small.
+        let slot = node * 0x200000 + code in
+        let is_kind : kind_of slot ≡ 1 = omega (arith, is, has.0, small) in
+        ap (λ n. list_by n after slot) is_kind
+        ∙ ap (λ p. Some (place_of (slot_at after p))) (omega (arith, is, has.0, small))
+        ∙ ap (λ s. Some (place_of s)) (later.kept place own-some ∙ own-slot)
         ∙ ap Some (omega (arith, has.1));
-    child = λ later letter after.
-        let odd : eqb (node % 2) 0 ≡ false = ne_eqb _ _ (omega (arith, is, has.0)) in
-        let at : node / 4 ≡ place = omega (arith, is, has.0) in
-        ap (λ b. cond b 0 (child_at later (node / 4) letter)) odd
-        ∙ ap (λ p. child_at later p letter) at
-        ∙ after.children place letter own-some ∙ put-children letter;
+    child = λ after letter later code small.
+        let slot = node * 0x200000 + code in
+        let is_kind : kind_of slot ≡ 1 = omega (arith, is, has.0, small) in
+        ap (λ n. cond (nat_lt n 2) (child_at after (place_of slot) letter) empty_slot) is_kind
+        ∙ ap (λ p. child_at after p letter) (omega (arith, is, has.0, small))
+        ∙ later.children place letter own-some ∙ put-children letter;
   }
 
 -- a node without children, in any slots
-pub leaf-none : (slots : List ℕ) → HaveParents slots → IsNodeOf None [] slots slots 0
+pub leaf-none : (slots : List ℕ) → HaveParents slots → IsNodeOf None [] slots slots 3
 leaf-none slots parents = record {
   parents = parents;
   later = later-same slots;
-  list = λ after is. refl;
-  child = λ after letter is. refl;
+  list = λ after later code small.
+      let is_kind : kind_of (3 * 0x200000 + code) ≡ 3 = omega (arith, small) in
+      ap (λ n. list_by n after (3 * 0x200000 + code)) is_kind;
+  child = λ after letter later code small.
+      let slot = 3 * 0x200000 + code in
+      let is_kind : kind_of slot ≡ 3 = omega (arith, small) in
+      ap (λ n. cond (nat_lt n 2) (child_at after (place_of slot) letter) empty_slot) is_kind;
 }
 
 pub leaf-some : (slots : List ℕ) (place node : ℕ) → node ≡ place * 4 + 2 → HaveParents slots
     → IsNodeOf (Some place) [] slots slots node
-leaf-some slots place node is parents =
-    let some : eqb (node / 2 % 2) 0 ≡ false = ne_eqb _ _ (omega (arith, is)) in
-    let even : eqb (node % 2) 0 ≡ true = eq-eqb _ _ (omega (arith, is)) in
-    record {
-      parents = parents;
-      later = later-same slots;
-      list = λ after later.
-          ap (λ b. cond b None (Some (cond (eqb (node % 2) 0) (node / 4) (slot_at after (node / 4) / 0x200000)))) some
-          ∙ ap (λ b. Some (cond b (node / 4) (slot_at after (node / 4) / 0x200000))) even
-          ∙ ap Some (omega (arith, is));
-      child = λ after letter later. ap (λ b. cond b 0 (child_at after (node / 4) letter)) even;
-    }
+leaf-some slots place node is parents = record {
+  parents = parents;
+  later = later-same slots;
+  list = λ after later code small.
+      let slot = node * 0x200000 + code in
+      let is_kind : kind_of slot ≡ 2 = omega (arith, is, small) in
+      ap (λ n. list_by n after slot) is_kind ∙ ap Some (omega (arith, is, small));
+  child = λ after letter later code small.
+      let slot = node * 0x200000 + code in
+      let is_kind : kind_of slot ≡ 2 = omega (arith, is, small) in
+      ap (λ n. cond (nat_lt n 2) (child_at after (place_of slot) letter) empty_slot) is_kind;
+}
 
 pub no-parents : HaveParents []
 no-parents = λ place letter none. empty-none letter

@@ -3,8 +3,8 @@ use Rattle.textwrap_text.proofs.Common.{[], All, All-drop, All-head, All-tail, A
 use Rattle.textwrap_text.proofs.Common.{ap, append-nil, append_assoc, arith, cases_eq, cond, drop, eq-eqb}
 use Rattle.textwrap_text.proofs.Common.{eqb, get_or, get_or-drop, get_or_default, length}
 use Rattle.textwrap_text.proofs.Common.{length-append, length-drop, List, ne_eqb, None, Option}
-use Rattle.textwrap_text.proofs.Common.{refl, Some, subst, sym, take, take-append-drop, ℕ, ⊎_elim}
-use Rattle.textwrap_text.proofs.Common.{◌++◌, ◌+◌, ◌-◌, ◌<◌, ◌∙◌, ◌∷◌, ◌≡◌, ◌≢◌, ◌≤◌}
+use Rattle.textwrap_text.proofs.Common.{refl, Some, subst, suc, sym, take, take-append-drop, ℕ, ⊎_elim}
+use Rattle.textwrap_text.proofs.Common.{◌*◌, ◌++◌, ◌+◌, ◌-◌, ◌<◌, ◌∙◌, ◌∷◌, ◌≡◌, ◌≢◌, ◌≤◌}
 use Rattle.std.proofs.lemmas.List.Elements.{All-push}
 use Rattle.std.specs.Option.{option_map}
 use Rattle.textwrap_text.proofs.Lists.Parts.{all-right}
@@ -13,13 +13,13 @@ use Rattle.textwrap_trie.proofs.Keys.{entry_for-all_ended, entry_for-append, ent
 use Rattle.textwrap_trie.proofs.Keys.{entry_for-other, first_of_two, letters-rise, sorted-group}
 use Rattle.textwrap_trie.proofs.Keys.{sorted-right, sorted-take}
 use Rattle.textwrap_trie.specs.Entries.{AreSortedFrom, entry_for, IsGroupOf, letter_at}
-use Rattle.textwrap_trie.specs.Trie.{numbers_at, numbers_below}
+use Rattle.textwrap_trie.specs.Trie.{empty_slot, numbers_at, numbers_below}
 use Rattle.textwrap_trie.specs.Writing.{child_for, HaveParents, IsLater, IsListOf, IsNodeOf, IsTrie}
 use Rattle.textwrap_trie.specs.declared.entries.TrieEntry.{TrieEntry}
 use Rattle.textwrap_trie.specs.declared.slots.Child.{Child}
 
--- below no node there are no numbers
-pub below-none : (key slots lists : List ℕ) → numbers_below key slots lists 0 ≡ None
+-- below an empty slot there are no numbers
+pub below-none : (key slots lists : List ℕ) → numbers_below key slots lists empty_slot ≡ None
 below-none [] slots lists = refl
 below-none (c ∷ cs) slots lists = below-none cs slots lists
 
@@ -37,7 +37,7 @@ pub record HasWritten {A : Type 0} (depth : ℕ) (numbers : Option ℕ) (entries
   pub list : (more : List ℕ)
       → option_map (numbers_at (lists ++ more)) numbers ≡ entry_for depth entries []
   pub below : (after more : List ℕ) (letter : ℕ) (key : List ℕ) → IsLater slots after
-      → numbers_below key after (lists ++ more) (child_for children letter 0)
+      → numbers_below key after (lists ++ more) (child_for children letter empty_slot)
       ≡ entry_for depth done (letter ∷ key)
   pub fresh : (d : TrieEntry A) → 0 < length left
       → All (λ child. child.letter < letter_at depth (get_or left 0 d)) children
@@ -49,13 +49,14 @@ child_for-other : (children : List Child) (letter other : ℕ)
 child_for-other [] letter other differ = refl
 child_for-other (child ∷ children) letter other differ =
     let differs = λ (c : Child). c.letter ≢ letter in
-    ap (λ b. child_for children letter (cond b child.node other))
+    ap (λ b. child_for children letter (cond b (child.node * 0x200000 + suc child.letter) other))
     (ne_eqb child.letter letter (All-head differs child children differ))
     ∙ child_for-other children letter other (All-tail differs child children differ)
 
 child_for-more : (children : List Child) (last : Child) (letter other : ℕ)
     → child_for (children ++ last ∷ []) letter other
-    ≡ cond (eqb last.letter letter) last.node (child_for children letter other)
+    ≡ cond (eqb last.letter letter) (last.node * 0x200000 + suc last.letter)
+    (child_for children letter other)
 child_for-more [] last letter other = refl
 child_for-more (child ∷ children) last letter other = child_for-more children last letter _
 
@@ -119,7 +120,7 @@ module _ {A : Type 0} (depth : ℕ) (numbers : Option ℕ) (len letter : ℕ) (e
   not_before : (key : List ℕ) → None ≡ entry_for depth so_far.done (letter ∷ key)
   not_before key =
       sym (below-none key slots (lists ++ []))
-      ∙ ap (numbers_below key slots (lists ++ [])) (sym (child_for-other children letter 0 other-letters))
+      ∙ ap (numbers_below key slots (lists ++ [])) (sym (child_for-other children letter empty_slot other-letters))
       ∙ so_far.below slots [] letter key (later-same slots)
 
   letter-above : (d : TrieEntry A) → 0 < length (drop len left)
@@ -127,7 +128,7 @@ module _ {A : Type 0} (depth : ℕ) (numbers : Option ℕ) (len letter : ℕ) (e
   letter-above d some = grind (arith, length-drop, get_or-drop, letters-rise, left-sorted)
 
   module _ (node : ℕ) (next_slots next_lists added : List ℕ) (parents : HaveParents next_slots)
-      (later : IsLater slots next_slots) (grown : next_lists ≡ lists ++ added)
+      (coded : letter < 0x110000) (later : IsLater slots next_slots) (grown : next_lists ≡ lists ++ added)
       (trie : IsTrie (depth + 1) (take len left) next_slots next_lists node) where
     carried : (more : List ℕ) → next_lists ++ more ≡ lists ++ (added ++ more)
     carried more = ap (λ w. w ++ more) grown ∙ append_assoc lists added more
@@ -136,24 +137,24 @@ module _ {A : Type 0} (depth : ℕ) (numbers : Option ℕ) (len letter : ℕ) (e
     child = record { letter = letter; node = node }
 
     below-letter : (after more key : List ℕ) → IsLater next_slots after
-        → numbers_below key after (next_lists ++ more) (child_for (children ++ child ∷ []) letter 0)
+        → numbers_below key after (next_lists ++ more) (child_for (children ++ child ∷ []) letter empty_slot)
         ≡ entry_for depth (so_far.done ++ take len left) (letter ∷ key)
     below-letter after more key is_later =
-        ap (numbers_below key after (next_lists ++ more)) (child_for-more children child letter 0
-        ∙ ap (λ b. cond b node (child_for children letter 0)) (eq-eqb letter letter refl))
-        ∙ trie after more key is_later
+        ap (numbers_below key after (next_lists ++ more)) (child_for-more children child letter empty_slot
+        ∙ ap (λ b. cond b (node * 0x200000 + suc letter) (child_for children letter empty_slot)) (eq-eqb letter letter refl))
+        ∙ trie after more key is_later (suc letter) (omega (arith, coded))
         ∙ sym (entry_for-group depth letter (take len left) key group-longer group-same)
         ∙ ap (λ o. first_of_two o (entry_for depth (take len left) (letter ∷ key)))
         (not_before key)
         ∙ sym (entry_for-append depth so_far.done (take len left) (letter ∷ key))
 
     below-other : (after more key : List ℕ) (other : ℕ) → IsLater next_slots after → letter ≢ other
-        → numbers_below key after (next_lists ++ more) (child_for (children ++ child ∷ []) other 0)
+        → numbers_below key after (next_lists ++ more) (child_for (children ++ child ∷ []) other empty_slot)
         ≡ entry_for depth (so_far.done ++ take len left) (other ∷ key)
     below-other after more key other is_later differs =
-        ap (numbers_below key after (next_lists ++ more)) (child_for-more children child other 0
-        ∙ ap (λ b. cond b node (child_for children other 0)) (ne_eqb letter other differs))
-        ∙ ap (λ w. numbers_below key after w (child_for children other 0)) (carried more)
+        ap (numbers_below key after (next_lists ++ more)) (child_for-more children child other empty_slot
+        ∙ ap (λ b. cond b (node * 0x200000 + suc letter) (child_for children other empty_slot)) (ne_eqb letter other differs))
+        ∙ ap (λ w. numbers_below key after w (child_for children other empty_slot)) (carried more)
         ∙ so_far.below after (added ++ more) other key (later-later slots next_slots after later is_later)
         ∙ sym (first-alone (entry_for depth so_far.done (other ∷ key)) _
         (entry_for-other depth letter other (take len left) key group-longer group-same differs))
@@ -176,10 +177,10 @@ module _ {A : Type 0} (depth : ℕ) (numbers : Option ℕ) (len letter : ℕ) (e
           ap (λ w. option_map (numbers_at w) numbers) (carried more) ∙ so_far.list (added ++ more);
       below = λ after more other key is_later.
           ⊎_elim
-          {C = numbers_below key after (next_lists ++ more) (child_for (children ++ child ∷ []) other 0)
+          {C = numbers_below key after (next_lists ++ more) (child_for (children ++ child ∷ []) other empty_slot)
           ≡ entry_for depth (so_far.done ++ take len left) (other ∷ key)}
           (λ (same : letter ≡ other). subst (λ (l : ℕ).
-          numbers_below key after (next_lists ++ more) (child_for (children ++ child ∷ []) l 0)
+          numbers_below key after (next_lists ++ more) (child_for (children ++ child ∷ []) l empty_slot)
           ≡ entry_for depth (so_far.done ++ take len left) (l ∷ key)) same
           (below-letter after more key is_later))
           (λ (differs : letter ≢ other). below-other after more key other is_later differs)
@@ -223,9 +224,9 @@ pub written-end : {A : Type 0} (depth : ℕ) (numbers : Option ℕ) (node : ℕ)
 written-end depth numbers node entries children old_slots slots new_slots old_lists lists so_far later is_node = by
   where
     by : IsTrie depth entries new_slots lists node
-    by after more [] is_later =
-        ap (option_map (numbers_at (lists ++ more))) (is_node.list after is_later) ∙ so_far.list more
-    by after more (c ∷ cs) is_later =
-        ap (numbers_below cs after (lists ++ more)) (is_node.child after c is_later)
+    by after more [] is_later code small =
+        ap (option_map (numbers_at (lists ++ more))) (is_node.list after is_later code small) ∙ so_far.list more
+    by after more (c ∷ cs) is_later code small =
+        ap (numbers_below cs after (lists ++ more)) (is_node.child after c is_later code small)
         ∙ so_far.below after more c cs (later-later slots new_slots after later is_later)
         ∙ ap (λ es. entry_for depth es (c ∷ cs)) (sym (append-nil so_far.done) ∙ sym so_far.split)

@@ -1,7 +1,7 @@
 -- What stands in a list of numbers once it is written.
 use Rattle.textwrap_text.proofs.Common.{[], ap, append-nil, append_assoc, arith, drop, drop_all, get_or}
 use Rattle.textwrap_text.proofs.Common.{length, length-append, List, None, Option, refl, Some, sym}
-use Rattle.textwrap_text.proofs.Common.{ℕ, ◌++◌, ◌+◌, ◌<◌, ◌∙◌, ◌∷◌, ◌≡◌, ◌≤◌}
+use Rattle.textwrap_text.proofs.Common.{ℕ, ◌*◌, ◌++◌, ◌+◌, ◌<◌, ◌∙◌, ◌∷◌, ◌≡◌, ◌≤◌}
 use Rattle.std.proofs.lemmas.List.{get_or_at}
 use Rattle.std.specs.Option.{option_map}
 use Rattle.textwrap_trie.proofs.ListsWithin.{numbers_at-written, rest-written}
@@ -77,15 +77,16 @@ whole-written node root slots lists old pushed sloted new at first second third 
         ∙ ap (λ w. numbers_at w (length pushed)) (behind more)
         ∙ numbers_at-written pushed slots (lists ++ more)
 
-pub whole-keys : {A : Type 0} (entries : List (TrieEntry A)) (node root : ℕ)
+pub whole-keys : {A : Type 0} (entries : List (TrieEntry A)) (node slot root : ℕ)
     (slots lists written_slots written_lists old new more key : List ℕ)
-    → slots ≡ written_slots → lists ≡ written_lists → IsWhole node slots lists old new root
+    → slot ≡ node * 0x200000 + 0 → slots ≡ written_slots → lists ≡ written_lists
+    → IsWhole slot slots lists old new root
     → IsTrie 0 entries written_slots written_lists node
     → numbers_for key (new ++ more) root ≡ entry_for 0 entries key
-whole-keys entries node root slots lists written_slots written_lists old new more key one two whole trie =
+whole-keys entries node slot root slots lists written_slots written_lists old new more key is one two whole trie =
     ap (λ s. numbers_below key s (lists_of (new ++ more) root) (get_or (new ++ more) root 0))
     (whole.slots_are more ∙ one)
     ∙ ap (λ l. numbers_below key written_slots l (get_or (new ++ more) root 0))
     (whole.lists_are more ∙ ap (λ l. l ++ more) two)
-    ∙ ap (numbers_below key written_slots (written_lists ++ more)) (whole.root_is more)
-    ∙ trie written_slots more key (later-same written_slots)
+    ∙ ap (numbers_below key written_slots (written_lists ++ more)) (whole.root_is more ∙ is)
+    ∙ trie written_slots more key (later-same written_slots) 0 (omega arith)

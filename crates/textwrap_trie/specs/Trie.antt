@@ -1,46 +1,52 @@
--- A trie in a list of numbers. At its place stands its root, then how many slots it has, then these, then
--- lists of numbers, each behind its length.
+-- A trie in a list of numbers. At its place stands the slot of its root, then how many slots it has, then
+-- these, then lists of numbers, each behind its length.
 --
--- A node is told by a number: a place, times 4, and 2 more if it has numbers, and 1 more if it has
--- children; 0 is no node. Where it has no children, its place is that of its list of numbers. Else its
--- place is that of a slot of its own, in which the place of that list stands, and its child for a letter
--- stands so many slots behind that one as the letter's code says, the letter and 1.
---
--- A slot holds a node, or the place of a list, times 2^21, and a code: that of the letter, or 0 in the
--- slot of a node's own. So a child is that of the node whose place is as far before it as its code says.
+-- A slot holds a node: a code, 2^21 times a kind, and 2^23 times a place. A node of kind 0 has children, of
+-- kind 1 children and numbers, of kind 2 numbers, and of kind 3 neither. Without children its place is that
+-- of its list of numbers. Else it is that of a slot of its own, whose place is that of the list; and the
+-- child for a letter stands so many slots behind that one as its code says, the letter and 1. So a slot
+-- with a child is that of the node whose place is as far before it as the code says.
 use Rattle.std.specs.Option.{option_map}
 use Rattle.std.specs.Prelude.{ℕ, suc, ◌+◌, ◌/◌, ◌%◌, ◌==◌, List, [], ◌∷◌, Option, None, Some, drop}
-use Rattle.std.specs.Prelude.{if◌then◌else◌, length, max, slice_index, slice_index_or, take, unwrap_or}
+use Rattle.std.specs.Prelude.{if◌then◌else◌, length, max, nat_lt, slice_index, slice_index_or, take, unwrap_or}
 
 -- the list that stands at a place: how many numbers it has, then these
 abbrev pub numbers_at : List ℕ → ℕ → List ℕ
 numbers_at words at = take (slice_index words at) (drop (suc at) words)
 
--- what an empty slot holds: a code that no letter has
+abbrev pub kind_of : ℕ → ℕ
+kind_of slot = slot / 0x200000 % 4
+
+abbrev pub place_of : ℕ → ℕ
+place_of slot = slot / 0x800000
+
+-- an empty slot: of kind 3, with a code that no letter has
 abbrev pub empty_slot : ℕ
-empty_slot = 0x1FFFFF
+empty_slot = 0x7FFFFF
 
 -- the slot at a place: those past the end are empty
 abbrev pub slot_at : List ℕ → ℕ → ℕ
 slot_at slots at = slice_index_or slots at empty_slot
 
--- the node in a slot, if that has the code of a letter, else 0
+-- the slot, if it has the code of a letter, else an empty one
 abbrev pub child_in : ℕ → ℕ → ℕ
-child_in slot letter = if slot % 0x200000 == suc letter then slot / 0x200000 else 0
+child_in slot letter = if slot % 0x200000 == suc letter then slot else empty_slot
 
--- the child for a letter of the node at a place, or 0
+-- the child for a letter of a node with children, by its place
 abbrev pub child_at : List ℕ → ℕ → ℕ → ℕ
 child_at slots place letter = child_in (slot_at slots (place + suc letter)) letter
 
--- the child of a node for a letter, or 0
+-- the child of a node for a letter
 abbrev pub child_of : List ℕ → ℕ → ℕ → ℕ
-child_of slots node letter = if node % 2 == 0 then 0 else child_at slots (node / 4) letter
+child_of slots node letter =
+    if nat_lt (kind_of node) 2 then child_at slots (place_of node) letter else empty_slot
 
 -- the place of a node's list of numbers
 abbrev pub list_of : List ℕ → ℕ → Option ℕ
 list_of slots node =
-    if node / 2 % 2 == 0 then None
-    else Some (if node % 2 == 0 then node / 4 else slot_at slots (node / 4) / 0x200000)
+    if kind_of node == 1 then Some (place_of (slot_at slots (place_of node)))
+    else if kind_of node == 2 then Some (place_of node)
+    else None
 
 -- the numbers of a node
 abbrev pub numbers_of : List ℕ → List ℕ → ℕ → Option (List ℕ)

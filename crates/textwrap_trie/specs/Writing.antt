@@ -1,7 +1,7 @@
 -- What stands in the slots and the lists of a trie once a part of it is written, whatever is written
 -- behind that.
 use Rattle.std.specs.Option.{option_map}
-use Rattle.std.specs.Prelude.{◌≡◌, ◌≢◌, ℕ, suc, ◌+◌, ◌*◌, ◌==◌, All, List, [], ◌∷◌, ◌++◌, Option, None, Some}
+use Rattle.std.specs.Prelude.{◌≡◌, ◌≢◌, ℕ, suc, ◌+◌, ◌*◌, ◌<◌, ◌==◌, All, List, [], ◌∷◌, ◌++◌, Option, None, Some}
 use Rattle.std.specs.Prelude.{if◌then◌else◌}
 use Rattle.textwrap_trie.specs.Entries.{entry_for}
 use Rattle.textwrap_trie.specs.Trie.{child_at, child_of, empty_slot, list_of, lists_of}
@@ -10,11 +10,13 @@ use Rattle.std.specs.Prelude.{slice_index}
 use Rattle.textwrap_trie.specs.declared.entries.TrieEntry.{TrieEntry}
 use Rattle.textwrap_trie.specs.declared.slots.Child.{Child}
 
--- the node of the last child with a letter, or another one
+-- the slot of the last child with a letter, or another one
 abbrev pub child_for : List Child → ℕ → ℕ → ℕ
 child_for [] letter other = other
 child_for (child ∷ children) letter other =
-    child_for children letter (if child.letter == letter then child.node else other)
+    child_for children letter (if child.letter == letter
+    then child.node * 0x200000 + suc child.letter
+    else other)
 
 -- what children leave in a slot that held another one, where their parent has this place
 abbrev pub slot_for : List Child → ℕ → ℕ → ℕ → ℕ
@@ -32,7 +34,7 @@ pub record AreFree (slots : List ℕ) (place : ℕ) (children : List Child) : Ty
 -- where no node is, no slot holds a child of one
 abbrev pub HaveParents : List ℕ → Type 0
 HaveParents slots =
-    (place letter : ℕ) → slot_at slots place ≡ empty_slot → child_at slots place letter ≡ 0
+    (place letter : ℕ) → slot_at slots place ≡ empty_slot → child_at slots place letter ≡ empty_slot
 
 -- the nodes of some slots are in others as they were
 pub record IsLater (old new : List ℕ) : Type 0 where
@@ -52,30 +54,34 @@ pub record IsListOf (numbers : Option (List ℕ)) (old new : List ℕ) (place : 
   pub grown : new ≡ old ++ added
   pub list : (more : List ℕ) → option_map (numbers_at (new ++ more)) place ≡ numbers
 
--- what stands in the own slot of a node with children, and what is added to its place: whether it has
--- numbers at a place
+-- the kind of a node with children, and the place in its own slot: whether it has numbers at a place
 abbrev pub IsKind : Option ℕ → ℕ → ℕ → Type 0
-IsKind None list kind = kind ≡ 1
-IsKind (Some at) list kind = (kind ≡ 3) × (list ≡ at)
+IsKind None list kind = kind ≡ 0
+IsKind (Some at) list kind = (kind ≡ 1) × (list ≡ at)
+
+-- what holds of a node, told by its kind and 4 times its place, with any code
+abbrev pub WithCodes : ℕ → (ℕ → Type 0) → Type 0
+WithCodes node Holds = (code : ℕ) → code < 0x200000 → Holds (node * 0x200000 + code)
 
 -- a node has this place of its numbers, and these children
 pub record IsNodeOf (numbers : Option ℕ) (children : List Child) (old new : List ℕ) (node : ℕ) : Type 0 where
   pub parents : HaveParents new
   pub later : IsLater old new
-  pub list : (after : List ℕ) → IsLater new after → list_of after node ≡ numbers
+  pub list : (after : List ℕ) → IsLater new after
+      → WithCodes node (λ slot. list_of after slot ≡ numbers)
   pub child : (after : List ℕ) (letter : ℕ) → IsLater new after
-      → child_of after node letter ≡ child_for children letter 0
+      → WithCodes node (λ slot. child_of after slot letter ≡ child_for children letter empty_slot)
 
 -- the keys below a node are those of entries, from a letter on
 abbrev pub IsTrie : {A : Type 0} → ℕ → List (TrieEntry A) → List ℕ → List ℕ → ℕ → Type 0
 IsTrie depth entries slots lists node =
     (later more key : List ℕ) → IsLater slots later
-    → numbers_below key later (lists ++ more) node ≡ entry_for depth entries key
+    → WithCodes node (λ slot. numbers_below key later (lists ++ more) slot ≡ entry_for depth entries key)
 
--- at a place stands a trie with this root, these slots and these lists
-pub record IsWhole (node : ℕ) (slots lists old new : List ℕ) (root : ℕ) : Type 0 where
+-- at a place stands a trie with this slot of its root, these slots and these lists
+pub record IsWhole (slot : ℕ) (slots lists old new : List ℕ) (root : ℕ) : Type 0 where
   pub added : List ℕ
   pub grown : new ≡ old ++ added
-  pub root_is : (more : List ℕ) → slice_index (new ++ more) root ≡ node
+  pub root_is : (more : List ℕ) → slice_index (new ++ more) root ≡ slot
   pub slots_are : (more : List ℕ) → slots_of (new ++ more) root ≡ slots
   pub lists_are : (more : List ℕ) → lists_of (new ++ more) root ≡ lists ++ more

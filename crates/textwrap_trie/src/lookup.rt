@@ -1,11 +1,12 @@
 //! What a trie has for a key, and for the beginnings of a text.
-ghost use Rattle.std.specs.Prelude.{◌≡◌, ℕ, ◌<◌, ◌≤◌, length, max, None, Some, MatchOption, slice_index};
+ghost use Rattle.std.specs.Prelude.{◌≡◌, ℕ, ◌<◌, ◌≤◌, ◌^◌, length, max, None, Some, MatchOption, slice_index};
+ghost use Rattle.std.specs.Prelude.{false, nat_lt};
 ghost use Rattle.textwrap_base.specs.Minima.{counted};
-ghost use Rattle.textwrap_trie.specs.Trie.{child_of, level_at, level_below, level_from, list_of};
-ghost use Rattle.textwrap_trie.specs.Trie.{lists_of, numbers_for, numbers_of, slots_of};
+ghost use Rattle.textwrap_trie.specs.Trie.{child_at, child_of, empty_slot, kind_of, level_at, level_below};
+ghost use Rattle.textwrap_trie.specs.Trie.{level_from, lists_of, numbers_for, numbers_of, slots_of};
 
 use crate::numbers::{list_and_rest, number_at, numbers_at, raise};
-use crate::slots::{CODES, slot_at};
+use crate::slots::{CODES, EMPTY, PLACE, slot_at};
 use textwrap_base::minima::Steps;
 
 /// The numbers of a key in the trie at a place, or `None` where it does not have that key. The call
@@ -57,24 +58,37 @@ fn raise_along(
 {
     let mut node = root;
     for (i, letter) in text.iter().enumerate() {
-        raise_to(levels, slots, lists, node);
-        node = child_of(slots, node, *letter);
-        if node == 0 {
-            return i + 1;
+        if !raise_to(levels, slots, lists, node) {
+            return i;
+        }
+        match child_at(slots, node / PLACE, *letter) {
+            Some(child) => node = child,
+            None => return i + 1,
         }
     }
     raise_to(levels, slots, lists, node);
     text.len()
 }
 
-/// Raises each level to the number at its place that a node has.
+/// Raises each level to the number at its place that a node has. Returns whether it has children.
 #[inline]
-fn raise_to(levels: &mut [usize], slots: &[usize], lists: &[usize], node: usize)
-    ensures { (k : ℕ) → k < length levels.old → slice_index levels.new k
+fn raise_to(levels: &mut [usize], slots: &[usize], lists: &[usize], node: usize) -> bool
+    ensures levels { (k : ℕ) → k < length levels.old → slice_index levels.new k
         ≡ max (slice_index levels.old k) (level_at slots.now lists.now node k) }
+    ensures inner { result ≡ nat_lt (kind_of node) 2 }
 {
-    if let Some(numbers) = numbers_of(slots, lists, node) {
-        raise(levels, numbers);
+    match node / CODES % 4 {
+        0 => true,
+        1 => {
+            let own = slot_at(slots, node / PLACE);
+            raise(levels, numbers_at(lists, own / PLACE));
+            true
+        }
+        2 => {
+            raise(levels, numbers_at(lists, node / PLACE));
+            false
+        }
+        _ => false,
     }
 }
 
@@ -90,45 +104,40 @@ fn slots_and_lists(words: &[usize], root: usize) -> (&[usize], &[usize])
     list_and_rest(words, root + 1)
 }
 
-/// The child of a node for a letter, or 0.
+/// The child for a letter of a node with children, by its place.
 #[inline]
-fn child_of(slots: &[usize], node: usize, letter: char) -> usize
-    ensures { result ≡ child_of slots.now node letter }
+fn child_at(slots: &[usize], place: usize, letter: char) -> Option<usize>
+    requires { place < 2 ^ 62 }
+    ensures { MatchOption result (child_at slots.now place letter ≡ empty_slot)
+        (λ child. child_at slots.now place letter ≡ child) }
 {
-    if node % 2 == 0 {
-        return 0;
-    }
     let code = letter as usize + 1;
-    let slot = slot_at(slots, node / 4 + code);
+    let slot = slot_at(slots, place + code);
     if slot % CODES == code {
-        slot / CODES
+        Some(slot)
     } else {
-        0
+        None
     }
 }
 
+/// The child of a node for a letter.
+fn child_of(slots: &[usize], node: usize, letter: char) -> usize
+    ensures { result ≡ child_of slots.now node letter }
+{
+    if node / CODES % 4 > 1 {
+        return EMPTY;
+    }
+    child_at(slots, node / PLACE, letter).unwrap_or(EMPTY)
+}
+
 /// The numbers that a node has, or `None`.
-#[inline]
 fn numbers_of<'w>(slots: &[usize], lists: &'w [usize], node: usize) -> Option<&'w [usize]>
     ensures { MatchOption result (numbers_of slots.now lists.now node ≡ None)
         (λ numbers. numbers_of slots.now lists.now node ≡ Some numbers.now) }
 {
-    match list_of(slots, node) {
-        Some(at) => Some(numbers_at(lists, at)),
-        None => None,
-    }
-}
-
-/// The place of a node's list of numbers, or `None` where it has none.
-#[inline]
-fn list_of(slots: &[usize], node: usize) -> Option<usize>
-    ensures { result ≡ list_of slots.now node }
-{
-    if node / 2 % 2 == 0 {
-        None
-    } else if node % 2 == 0 {
-        Some(node / 4)
-    } else {
-        Some(slot_at(slots, node / 4) / CODES)
+    match node / CODES % 4 {
+        1 => Some(numbers_at(lists, slot_at(slots, node / PLACE) / PLACE)),
+        2 => Some(numbers_at(lists, node / PLACE)),
+        _ => None,
     }
 }

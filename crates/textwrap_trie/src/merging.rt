@@ -10,7 +10,7 @@ ghost use Rattle.textwrap_trie.specs.declared.merging.Rule.TheVariants.{First, G
 use crate::entries::TrieEntry;
 use crate::lists::no_lists;
 use crate::numbers::raise;
-use crate::slots::no_slots;
+use crate::slots::{no_slots, slot_of};
 use crate::writing::{push_trie, write_trie};
 use std::alloc::{AllocError, Allocator};
 
@@ -54,7 +54,7 @@ pub fn push_entries<A: Allocator + Copy>(
         0,
         longest_key(&merged),
     )?;
-    write_trie(words, node, &slots.words, &lists.words)
+    write_trie(words, slot_of(node, 0)?, &slots.words, &lists.words)
 }
 
 /// The entries with one for all that have the same key. They are in the order of their keys.

@@ -6,11 +6,14 @@ ghost use Rattle.textwrap_trie.specs.Writing.{AreFree, HaveParents, IsKind, IsNo
 
 use std::alloc::{AllocError, Allocator};
 
-/// What an empty slot holds: a code that no letter has.
-const EMPTY: usize = 0x1F_FFFF;
+/// An empty slot: of a kind that has neither children nor numbers, with a code that no letter has.
+pub(crate) const EMPTY: usize = 0x7F_FFFF;
 
 /// From so many on a number is no code.
 pub(crate) const CODES: usize = 0x20_0000;
+
+/// What a place is times in a slot.
+pub(crate) const PLACE: usize = 0x80_0000;
 
 /// From so many on a place is too far for a node.
 const PLACES: usize = 0x200_0000_0000;
@@ -18,11 +21,19 @@ const PLACES: usize = 0x200_0000_0000;
 /// How many places are tried for a node before it is put behind all others.
 const TRIES: usize = 256;
 
-/// A letter, and a node.
+/// A letter, and a node: its kind, and 4 times its place.
 #[derive(Clone, Copy, Debug)]
 pub(crate) struct Child {
     pub(crate) letter: char,
     pub(crate) node: usize,
+}
+
+/// The child for a letter.
+pub(crate) fn make_child(letter: char, node: usize) -> Child
+    ensures child { result ≡ record { letter = letter; node = node } }
+    ensures code { letter < 0x110000 }
+{
+    Child { letter, node }
 }
 
 /// The slots of a trie.
@@ -82,11 +93,11 @@ fn leaf(numbers: Option<usize>) -> Result<usize, AllocError>
 {
     match numbers {
         Some(place) => node_at(place, 2),
-        None => Ok(0),
+        None => Ok(3),
     }
 }
 
-/// The node at a place, with what is added for its numbers and for its children.
+/// The node at a place, of a kind.
 ///
 /// # Errors
 /// [`AllocError`] where the place is 2^41 or more.
@@ -113,11 +124,11 @@ fn child_slot(child: Child) -> Result<usize, AllocError>
     slot_of(child.node, child.letter as usize + 1)
 }
 
-/// A slot with a node, or the place of a list, and a code.
+/// A slot with a node and a code.
 ///
 /// # Errors
 /// [`AllocError`] where it does not fit.
-fn slot_of(node: usize, code: usize) -> Result<usize, AllocError>
+pub(crate) fn slot_of(node: usize, code: usize) -> Result<usize, AllocError>
     requires { code < 2 ^ 21 }
     ensures { IfOk result (λ slot. slot ≡ node * 0x200000 + code) }
 {
@@ -179,19 +190,19 @@ fn put_node<A: Allocator>(
 {
     let (list, kind) = list_and_kind(numbers);
     let node = node_at(place, kind)?;
-    put(slots, place, slot_of(list, 0)?)?;
+    put(slots, place, slot_of(node_at(list, 0)?, 0)?)?;
     put_children(slots, place, children)?;
     Ok(node)
 }
 
-/// What stands in the own slot of a node with children, and what is added to its place.
+/// The place in the own slot of a node with children, and its kind.
 fn list_and_kind(numbers: Option<usize>) -> (usize, usize)
     ensures kind { IsKind numbers result.0 result.1 }
     ensures below { result.1 < 4 }
 {
     match numbers {
-        Some(list) => (list, 3),
-        None => (0, 1),
+        Some(list) => (list, 1),
+        None => (0, 0),
     }
 }
 

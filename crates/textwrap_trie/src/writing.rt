@@ -7,7 +7,7 @@ ghost use Rattle.textwrap_trie.specs.Writing.{HaveParents, IsLater, IsListOf, Is
 
 use crate::entries::{TrieEntry, ended_len, group_len};
 use crate::lists::{Lists, push_list, write_list};
-use crate::slots::{Child, Slots, push_node};
+use crate::slots::{Slots, make_child, push_node};
 use std::alloc::{AllocError, Allocator};
 
 /// Writes a trie of these entries, whose keys are taken from a letter on, and have at most so many
@@ -40,7 +40,7 @@ pub(crate) fn push_trie<A: Allocator + Copy>(
         let letter = left[0].key.as_slice()[depth];
         let (group, others) = left.split_at(group_len(left, depth));
         let node = push_trie(alloc, slots, lists, group, depth + 1, height - 1)?;
-        children.push(Child { letter, node })?;
+        children.push(make_child(letter, node))?;
         left = others;
     }
     push_node(slots, numbers, &children)
@@ -68,21 +68,21 @@ fn push_numbers_of<A: Allocator>(
     }
 }
 
-/// Appends a trie: its root, its slots behind their length, and its lists. Returns its place.
+/// Appends a trie: the slot of its root, its slots behind their length, and its lists. Returns its place.
 ///
 /// # Errors
 /// [`AllocError`] where memory runs out.
 pub(crate) fn write_trie<A: Allocator>(
     words: &mut Vec<usize, A>,
-    node: usize,
+    slot: usize,
     slots: &[usize],
     lists: &[usize],
 ) -> Result<usize, AllocError>
-    ensures { IfOk result (λ root. IsWhole node slots.now lists.now words.old.items
+    ensures { IfOk result (λ root. IsWhole slot slots.now lists.now words.old.items
         words.new.items root) }
 {
     let root = words.as_slice().len();
-    words.push(node)?;
+    words.push(slot)?;
     write_list(words, slots)?;
     words.extend_from_slice(lists)?;
     Ok(root)

@@ -36,12 +36,12 @@ const UNORDERED: &str = "\\patterns{ m1a z1a c1a y1a b1a x1a e1a w1a d1a v1a g1a
 /// What stands in the table of texts, and how many allocations it takes.
 #[rattlefmt::skip]
 const READ: &[((&str, &str, &str, &[usize]), usize)] = &[
-    (("a list", "hy3ph\nhe2n\n1na\nta-ble\n# none\nLEFTHYPHENMIN 2", "hyphenation", &[2]), 70),
+    (("a list", "hy3ph\nhe2n\n1na\nta-ble\n# none\nLEFTHYPHENMIN 2", "hyphenation", &[2]), 74),
     (("groups of TeX, with many letters at one place", UNORDERED, "lebamale", &[3, 5]), 278),
-    (("patterns of the same letters", "1bl\n2bl\n1bl2\n", "tablets", &[]), 32),
-    (("a charset", "iso 8859-1\nhe2n\nb1c", "abcd", &[2]), 36),
-    (("letters that change", "a1bb1c1d/bb=,2,2", "abbcdefg", &[4]), 38),
-    (("two groups", "UTF-8\nb1c\nNEXTLEVEL\nc1d\nb2c", "abcdef", &[2, 3]), 54),
+    (("patterns of the same letters", "1bl\n2bl\n1bl2\n", "tablets", &[]), 35),
+    (("a charset", "iso 8859-1\nhe2n\nb1c", "abcd", &[2]), 38),
+    (("letters that change", "a1bb1c1d/bb=,2,2", "abbcdefg", &[4]), 39),
+    (("two groups", "UTF-8\nb1c\nNEXTLEVEL\nc1d\nb2c", "abcdef", &[2, 3]), 57),
 ];
 
 /// The letters of the patterns that are counted.

@@ -1,32 +1,30 @@
-use Rattle.std.proofs.Common.{ap, arith, drop, ◌+◌, ◌∙◌}
-use Rattle.textwrap_trie.proofs.LevelsRaised.{level-next, level-none}
-use Rattle.textwrap_trie.specs.Trie.{level_below}
+use Rattle.std.proofs.Common.{arith, ◌∙◌}
+use Rattle.textwrap_trie.proofs.LevelsRaised.{child-inner, child-leaf, level-last}
 use Rattle.textwrap_trie.proofs.lookup.raise_along.Goals as goal
 
-pub loop-i-preserved : goal.loop-i-preserved
-loop-i-preserved c k within =
-    let next = level-next c.args.text.now c.args.slots.now c.args.lists.now c.loop-i.node k c.loop-i.i
-    c.index-text-i.result c.child_of-node.result c.loop-i-test.true c.index-text-i.is
-    c.child_of-node.ensures in
+pub returns-then-not-raise_to-clause-levels : goal.returns-then-not-raise_to-clause-levels
+returns-then-not-raise_to-clause-levels c k within =
+    let none = child-leaf c.args.slots.now c.loop-i.node c.index-text-i.result c.raise_to.result
+    c.raise_to.ensures.inner c.if-not-raise_to.true in
+    let last = level-last c.args.text.now c.args.slots.now c.args.lists.now c.loop-i.node k c.loop-i.i
+    c.index-text-i.result c.loop-i-test.true c.index-text-i.is none in
     omega (
       arith,
-      next,
-      c.raise_to.ensures k (omega (arith, within, c.loop-i.auto.levels)),
+      last,
+      c.raise_to.ensures.levels k (omega (arith, within, c.loop-i.auto.levels)),
       c.loop-i.invariant k within,
     )
 
-pub returns-then-node-eq0-clause-levels : goal.returns-then-node-eq0-clause-levels
-returns-then-node-eq0-clause-levels c k within =
-    let rest = drop (c.loop-i.i + 1) c.args.text.now in
-    let next = level-next c.args.text.now c.args.slots.now c.args.lists.now c.loop-i.node k c.loop-i.i
-    c.index-text-i.result c.child_of-node.result c.loop-i-test.true c.index-text-i.is
-    c.child_of-node.ensures in
-    let none = ap (λ n. level_below rest c.args.slots.now c.args.lists.now n k) c.if-node-eq0.true
-    ∙ level-none rest c.args.slots.now c.args.lists.now k in
+pub returns-in-None-clause-levels : goal.returns-in-None-clause-levels
+returns-in-None-clause-levels c k within =
+    let none = child-inner c.args.slots.now c.loop-i.node c.index-text-i.result c.raise_to.result
+    c.raise_to.ensures.inner c.if-not-raise_to.false
+    ∙ c.in-None.ensures in
+    let last = level-last c.args.text.now c.args.slots.now c.args.lists.now c.loop-i.node k c.loop-i.i
+    c.index-text-i.result c.loop-i-test.true c.index-text-i.is none in
     omega (
       arith,
-      next,
-      none,
-      c.raise_to.ensures k (omega (arith, within, c.loop-i.auto.levels)),
+      last,
+      c.raise_to.ensures.levels k (omega (arith, within, c.loop-i.auto.levels)),
       c.loop-i.invariant k within,
     )

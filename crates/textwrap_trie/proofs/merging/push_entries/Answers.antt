@@ -55,9 +55,9 @@ returns-clause-first g c = λ rule.
     (ranks_by nat_list_cmp_total (λ (e : TrieEntry g.row.A.Denot). e.key.items))
     (answers_always _ _ _ (λ f a r q k. search rules))) in
     IfOk-weaker c.write_trie.result _ _ (λ root whole more key.
-    whole-keys c.deref-2.result.now c.in_ok-node.node root c.deref-4.result.now c.deref-5.result.now
+    whole-keys c.deref-2.result.now c.in_ok-node.node c.in_ok-slot_of.field-0 root c.deref-4.result.now c.deref-5.result.now
     c.push_trie.new.slots.words.items c.push_trie.new.lists.words.items c.args.words.now.items words
-    more key c.deref-4.ensures.value c.deref-5.ensures.value whole c.in_ok-node.ensures.trie
+    more key c.in_ok-slot_of.ensures c.deref-4.ensures.value c.deref-5.ensures.value whole c.in_ok-node.ensures.trie
     ∙ ap (λ (es : List (TrieEntry g.row.A.Denot)). entry_for 0 es key) c.deref-2.ensures.value ∙ same key)
     c.write_trie.ensures
 
@@ -74,9 +74,9 @@ returns-clause-greatest g c = λ rule.
     c.in_ok-sort_by.ensures.permutation in
     IfOk-weaker c.write_trie.result _ _ (λ root whole more text place.
     levels-entries text (words ++ more) root place merged c.in_ok-merged.ensures.sorted (λ key.
-    whole-keys c.deref-2.result.now c.in_ok-node.node root c.deref-4.result.now c.deref-5.result.now
+    whole-keys c.deref-2.result.now c.in_ok-node.node c.in_ok-slot_of.field-0 root c.deref-4.result.now c.deref-5.result.now
     c.push_trie.new.slots.words.items c.push_trie.new.lists.words.items c.args.words.now.items words
-    more key c.deref-4.ensures.value c.deref-5.ensures.value whole c.in_ok-node.ensures.trie
+    more key c.in_ok-slot_of.ensures c.deref-4.ensures.value c.deref-5.ensures.value whole c.in_ok-node.ensures.trie
     ∙ ap (λ (es : List (TrieEntry g.row.A.Denot)). entry_for 0 es key) c.deref-2.ensures.value)
     ∙ same text place)
     c.write_trie.ensures

@@ -10,7 +10,8 @@ returns g c =
     let children = c.args.children.now in
     let place = c.args.place in
     let list = c.list_and_kind-list.result.0 in
-    let own : c.in_ok-slot_of.field-0 ≡ list * 0x200000 = omega (arith, c.in_ok-slot_of.ensures) in
+    let own : c.in_ok-slot_of.field-0 ≡ list * 0x800000 =
+    omega (arith, c.in_ok-slot_of.ensures, c.in_ok-node_at.ensures.node) in
     put-node old c.put_children.new.slots.items place list children c.requires.parents c.requires.free
     c.in_ok-put_children.ensures.letters
     (λ at. c.in_ok-put_children.ensures.put at

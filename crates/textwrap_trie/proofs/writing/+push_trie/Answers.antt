@@ -69,14 +69,14 @@ loop-left-preserved g t c =
     c.as_slice.result.now some c.loop-left.invariant.longer
     c.as_slice.ensures.value c.index-as_slice-depth.is in
     let (added, grown) = c.in_ok-node.ensures.grown in
-    rw (c.split_at.ensures.back, c.in_ok-push.ensures.items)
+    rw (c.split_at.ensures.back, c.in_ok-push.ensures.items, c.make_child.ensures.child)
     (written-next c.args.depth c.in_ok-numbers.numbers
     c.group_len.result c.index-as_slice-depth.result c.args.entries.now left
     c.loop-left.children.items c.args.slots.now.words.items c.loop-left.slots.words.items
     c.args.lists.now.words.items c.loop-left.lists.words.items
     c.index-left-0.result c.requires.sorted c.group_len.ensures c.loop-left.invariant letter
     c.in_ok-node.node c.push_trie.new.slots.words.items c.push_trie.new.lists.words.items added
-    c.in_ok-node.ensures.parents c.in_ok-node.ensures.later grown
+    c.in_ok-node.ensures.parents c.make_child.ensures.code c.in_ok-node.ensures.later grown
     (rw c.split_at.ensures.front at c.in_ok-node.ensures.trie))
 
 pub returns-clause-parents : goal.returns-clause-parents

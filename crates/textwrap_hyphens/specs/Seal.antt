@@ -5,7 +5,7 @@ use Rattle.std.specs.Prelude.{length, nat_le, slice_index, take}
 
 -- "Twh" and a number, which is raised where the layout changes
 abbrev pub version : ℕ
-version = 0x54776804
+version = 0x54776805
 
 -- the nth number from the end
 abbrev pub from_end : ℕ → List ℕ → ℕ

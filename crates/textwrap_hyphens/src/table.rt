@@ -12,7 +12,7 @@ use textwrap_patterns::written::are_inner;
 use textwrap_trie::lookup::{numbers_for, raise_levels};
 
 /// What the first number of a table says: "Twh", and a number that is raised where the layout changes.
-pub(crate) const VERSION: usize = 0x5477_6804;
+pub(crate) const VERSION: usize = 0x5477_6805;
 
 /// A dictionary of hyphenation in numbers that somebody holds. They hold no address of memory, so
 /// they may be copied, and kept in a file.

@@ -1,4 +1,5 @@
 pub mod Entries
 pub mod Merging
 pub mod Trie
+pub mod Tries
 pub mod Writing

@@ -70,18 +70,33 @@ level_below (c ∷ cs) slots lists node place =
 
 -- ---- in the list of numbers
 
+-- a trie: its root, its slots and its lists
+pub record TrieNumbers : Type 0 where
+  pub root : ℕ
+  pub slots : List ℕ
+  pub lists : List ℕ
+
 abbrev pub slots_of : List ℕ → ℕ → List ℕ
-slots_of words root = numbers_at words (root + 1)
+slots_of words at = numbers_at words (at + 1)
 
 abbrev pub lists_of : List ℕ → ℕ → List ℕ
-lists_of words root = drop (root + 2 + length (slots_of words root)) words
+lists_of words at = drop (at + 2 + length (slots_of words at)) words
 
--- the numbers of a key in the trie at a place
+-- the trie at a place
+abbrev pub trie_at : List ℕ → ℕ → TrieNumbers
+trie_at words at =
+    record { root = slice_index words at; slots = slots_of words at; lists = lists_of words at }
+
+-- the numbers of a key in a trie
+abbrev pub numbers_in : TrieNumbers → List ℕ → Option (List ℕ)
+numbers_in trie key = numbers_below key trie.slots trie.lists trie.root
+
+-- the greatest number at a place that a key of a trie has with which a text begins
+abbrev pub level_in : TrieNumbers → List ℕ → ℕ → ℕ
+level_in trie text place = level_below text trie.slots trie.lists trie.root place
+
 abbrev pub numbers_for : List ℕ → List ℕ → ℕ → Option (List ℕ)
-numbers_for key words root =
-    numbers_below key (slots_of words root) (lists_of words root) (slice_index words root)
+numbers_for key words at = numbers_in (trie_at words at) key
 
--- the greatest number at a place that a key of the trie has with which a text begins
 abbrev pub level_from : List ℕ → List ℕ → ℕ → ℕ → ℕ
-level_from text words root place =
-    level_below text (slots_of words root) (lists_of words root) (slice_index words root) place
+level_from text words at place = level_in (trie_at words at) text place

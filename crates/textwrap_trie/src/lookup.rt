@@ -3,44 +3,60 @@ ghost use Rattle.std.specs.Prelude.{◌≡◌, ℕ, ◌<◌, ◌≤◌, ◌^◌,
 ghost use Rattle.std.specs.Prelude.{false, nat_lt};
 ghost use Rattle.textwrap_base.specs.Minima.{counted};
 ghost use Rattle.textwrap_trie.specs.Trie.{child_at, child_of, empty_slot, kind_of, level_at, level_below};
-ghost use Rattle.textwrap_trie.specs.Trie.{level_from, lists_of, numbers_for, numbers_of, slots_of};
+ghost use Rattle.textwrap_trie.specs.Trie.{level_in, lists_of, numbers_in, numbers_of, slots_of, trie_at};
 
 use crate::numbers::{list_and_rest, number_at, numbers_at, raise};
 use crate::slots::{CODES, EMPTY, PLACE, slot_at};
 use textwrap_base::minima::Steps;
 
-/// The numbers of a key in the trie at a place, or `None` where it does not have that key. The call
-/// always succeeds.
-pub fn numbers_for<'w>(words: &'w [usize], root: usize, key: &[char]) -> Option<&'w [usize]>
-    ensures { MatchOption result (numbers_for key.now words.now root ≡ None)
-        (λ numbers. numbers_for key.now words.now root ≡ Some numbers.now) }
-{
-    let (slots, lists) = slots_and_lists(words, root);
-    let mut node = number_at(words, root);
-    for letter in key {
-        node = child_of(slots, node, *letter);
-    }
-    numbers_of(slots, lists, node)
+/// A trie in numbers that somebody holds.
+#[derive(Clone, Copy, Debug)]
+pub struct Trie<'w> {
+    root: usize,
+    slots: &'w [usize],
+    lists: &'w [usize],
 }
 
-/// Raises levels to the numbers of all keys of the trie at a place with which a text begins, each to
-/// that at its place. For each letter with which some key goes on, it is looked up once. The call
-/// always succeeds.
-pub fn raise_levels(
-    words: &[usize],
-    root: usize,
-    text: &[char],
-    levels: &mut [usize],
-    lookups: &mut Steps,
-)
-    ensures levels { (k : ℕ) → k < length levels.old → slice_index levels.new k
-        ≡ max (slice_index levels.old k) (level_from text.now words.now root k) }
-    ensures lookups { lookups.new ≤ counted lookups.old (length text.now) }
-    ensures never_less { lookups.old ≤ lookups.new }
-{
-    let (slots, lists) = slots_and_lists(words, root);
-    let looked_up = raise_along(slots, lists, number_at(words, root), text, levels);
-    lookups.add(looked_up as u128);
+impl<'w> Trie<'w> {
+    ghost use Rattle.textwrap_trie.specs.Tries.{trie_view};
+
+    /// The trie at a place of numbers. Where none stands there, it is one that means nothing, but
+    /// nothing outside of the numbers is read. The call always succeeds.
+    pub fn at(words: &'w [usize], at: usize) -> Trie<'w>
+        ensures { trie_view result ≡ trie_at words.now at }
+    {
+        let (slots, lists) = slots_and_lists(words, at);
+        Trie {
+            root: number_at(words, at),
+            slots,
+            lists,
+        }
+    }
+
+    /// The numbers of a key, or `None` where the trie does not have that key. The call always
+    /// succeeds.
+    pub fn numbers_for(&self, key: &[char]) -> Option<&'w [usize]>
+        ensures { MatchOption result (numbers_in (trie_view self.now) key.now ≡ None)
+            (λ numbers. numbers_in (trie_view self.now) key.now ≡ Some numbers.now) }
+    {
+        let mut node = self.root;
+        for letter in key {
+            node = child_of(self.slots, node, *letter);
+        }
+        numbers_of(self.slots, self.lists, node)
+    }
+
+    /// Raises levels to the numbers of all keys with which a text begins, each to that at its place.
+    /// For each letter with which some key goes on, it is looked up once. The call always succeeds.
+    pub fn raise_levels(&self, text: &[char], levels: &mut [usize], lookups: &mut Steps)
+        ensures levels { (k : ℕ) → k < length levels.old → slice_index levels.new k
+            ≡ max (slice_index levels.old k) (level_in (trie_view self.now) text.now k) }
+        ensures lookups { lookups.new ≤ counted lookups.old (length text.now) }
+        ensures never_less { lookups.old ≤ lookups.new }
+    {
+        let looked_up = raise_along(self.slots, self.lists, self.root, text, levels);
+        lookups.add(looked_up as u128);
+    }
 }
 
 /// Raises levels to the numbers of all keys below a node with which a text begins. Returns how many

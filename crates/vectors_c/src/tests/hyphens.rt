@@ -15,10 +15,10 @@ use textwrap_calls::columns::TextwrapGaps;
 use textwrap_calls::dictionary::TextwrapDictionary;
 use textwrap_calls::options::TextwrapOptions;
 use textwrap_calls::status::{DONE, NOT_UTF8, TOO_SMALL, UNKNOWN_OPTIONS};
-use textwrap_more_calls::tables::TextwrapColumn;
 use textwrap_calls::texts::TextwrapText;
 use textwrap_more_calls::hyphens::reading::{textwrap_patterns_check, textwrap_patterns_read};
 use textwrap_more_calls::hyphens::status::{DAMAGED_TABLE, WRONG_PATTERNS};
+use textwrap_more_calls::tables::TextwrapColumn;
 
 /// The patterns of `hy-phen-ation`.
 const PATTERNS: &[u8] = b"hy3ph\nhe2n\nhena4\nhen5at\n1na\nn2at\n1tio\n2io\no2n\n";

@@ -11,12 +11,12 @@ use std::alloc::{AllocError, Global};
 use std::process::Abort;
 use textwrap_calls::options::TextwrapOptions;
 use textwrap_calls::status::{DONE, TOO_SMALL};
-use textwrap_more_calls::tables::{TextwrapCell, TextwrapColumn, textwrap_table_of_lines};
 use textwrap_calls::texts::TextwrapText;
 use textwrap_calls::wrapping::TextwrapLine;
 use textwrap_more_calls::fragments::TextwrapFragment;
 use textwrap_more_calls::pieces::TextwrapPiece;
 use textwrap_more_calls::steps::{textwrap_lines_at, textwrap_pieces_at};
+use textwrap_more_calls::tables::{TextwrapCell, TextwrapColumn, textwrap_table_of_lines};
 
 /// What a call tells, its status and how many, and one of them, if there was memory for it.
 type OneTold = Result<((u32, usize), usize), AllocError>;

@@ -4,8 +4,8 @@ use super::plain::{AT_4, AT_5, AT_6, BARS, BEFORE, DEFAULTS, LinesCall, UNKNOWN_
 use textwrap_calls::columns::TextwrapGaps;
 use textwrap_calls::options::TextwrapOptions;
 use textwrap_calls::status::{DONE, NOT_UTF8, TOO_SMALL, UNKNOWN_OPTIONS};
-use textwrap_more_calls::tables::{TextwrapCell, TextwrapColumn};
 use textwrap_calls::texts::TextwrapText;
+use textwrap_more_calls::tables::{TextwrapCell, TextwrapColumn};
 
 /// A line is a slice of the text, or with an indent a text of its own in the room. Where there is no
 /// room for all, the first of them are told, and how many they are.

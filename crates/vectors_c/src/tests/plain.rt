@@ -17,9 +17,6 @@ use textwrap_calls::line_lists::{
 use textwrap_calls::options::{TextwrapOptions, VERSION};
 use textwrap_calls::refilling::{TextwrapLayout, textwrap_refill, textwrap_unfill};
 use textwrap_calls::reflowing::{TextwrapReflowOptions, textwrap_reflow};
-use textwrap_more_calls::tables::{
-    TextwrapCell, TextwrapColumn, textwrap_table, textwrap_table_of_lines,
-};
 use textwrap_calls::texts::TextwrapText;
 use textwrap_calls::widths::textwrap_strip_ansi_escape_sequences;
 use textwrap_calls::wrapping::{TextwrapLine, textwrap_wrap};
@@ -38,6 +35,9 @@ use textwrap_more_calls::pieces::{
 };
 use textwrap_more_calls::steps::{
     TextwrapSteps, textwrap_ends_at, textwrap_lines_at, textwrap_pieces_at,
+};
+use textwrap_more_calls::tables::{
+    TextwrapCell, TextwrapColumn, textwrap_table, textwrap_table_of_lines,
 };
 use textwrap_more_calls::text_steps::{textwrap_fill_at, textwrap_wrap_at};
 

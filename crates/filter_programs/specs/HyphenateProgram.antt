@@ -2,7 +2,7 @@
 use Rattle.std.specs.Prelude.{◌≡◌, ◌⊎◌, ◌==◌, ◌&&◌, ◌||◌, ℕ, Bool, List, [], ◌∷◌, codes, decimal, false}
 use Rattle.std.specs.Prelude.{Option, None, Err, IfSome}
 use Rattle.clap.specs.Words.{Row}
-use Rattle.text_filters.specs.Files.{bytes_at}
+use Rattle.text_files.specs.Files.{bytes_at}
 use Rattle.text_filters.specs.Messages.{AboutText, joined_texts, message_line, value_texts}
 use Rattle.text_filters.specs.Program.{IsFault, OnlySays, ReportsInput, Says, SaysUnless, Serves}
 use Rattle.text_filters.specs.Program.{World}

@@ -8,7 +8,7 @@ use std::env::Env;
 use std::io::ErrorKind;
 use std::process::ExitCode;
 use std::{env, io};
-use text_filters::disk::Disk;
+use text_files::disk::Disk;
 use text_filters::program::{Ending, complain};
 use text_filters::tool::{Tool, execute};
 use textwrap_program::arguments::words_after_name;

@@ -1,10 +1,10 @@
 //! What a program does with a file.
-ghost use Rattle.text_filters.specs.Files.{bytes_at};
+ghost use Rattle.text_files.specs.Files.{bytes_at};
 ghost use Rattle.text_filters.specs.Inputs.{ChecksFile, Replaces};
 
 use std::alloc::Global;
+use text_files::files::Files;
 use text_filters::faults::Fault;
-use text_filters::files::Files;
 use text_filters::filter::Filter;
 use text_filters::inputs::{Treated, check_file};
 use text_filters::replacing::replace_file;

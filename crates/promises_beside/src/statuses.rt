@@ -10,7 +10,7 @@ use filter_programs::hyphenate::program::Hyphenate;
 use filter_programs::reflow::program::Reflow;
 use std::alloc::Global;
 use std::io::{Read, Write};
-use text_filters::files::Files;
+use text_files::files::Files;
 use text_filters::program::Ending;
 use text_filters::streams::{ReadWhole, WriteWhole};
 use text_filters::tool::execute;

@@ -6,8 +6,8 @@ use Rattle.std.specs.Str.{bytes_eq}
 use Rattle.textwrap_program.specs.Filling.{ReadsAll, WritesPrefix}
 use Rattle.textwrap_program.specs.Program.{TriesLine}
 use Rattle.text_filters.specs.Faults.{IsOfOutput}
-use Rattle.text_filters.specs.Files.{Folder, KeepsFiles, bytes_at}
-use Rattle.text_filters.proofs.FileLemmas.{KeepsFiles-refl}
+use Rattle.text_files.specs.Files.{Folder, KeepsFiles, bytes_at}
+use Rattle.text_files.proofs.FileLemmas.{KeepsFiles-refl}
 use Rattle.unified_diff.specs.Differences.{IsDiffText}
 use Rattle.text_filters.specs.Inputs.{Checks, Differs, Prints, Reads, ReadsText, Replaces}
 use Rattle.text_filters.specs.declared.faults.Fault.{Fault}

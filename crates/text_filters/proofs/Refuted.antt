@@ -3,14 +3,14 @@
 use Rattle.std.proofs.Common.{◌≡◌, [], ◌∷◌, ap, Bool, false, true, inl, refl, subst, sym, List, ℕ, Some}
 use Rattle.std.proofs.lemmas.Bool.{false≢true}
 use Rattle.std.specs.Prelude.{⊤}
-use Rattle.text_filters.specs.Files.{Absent, FolderEntry, File, Folder, PutsOver, PutsSynced}
-use Rattle.text_filters.specs.Files.{FolderSteps}
-use Rattle.text_filters.specs.Rights.{Granted, HasKeptRights, IsNoWider, kept, mode_of}
+use Rattle.text_files.specs.Files.{Absent, FolderEntry, File, Folder, PutsOver, PutsSynced}
+use Rattle.text_files.specs.Files.{FolderSteps}
+use Rattle.text_files.specs.Rights.{Granted, HasKeptRights, IsNoWider, kept, mode_of}
 use Rattle.text_filters.specs.Streams.{IsPossible, NoReason}
 use Rattle.text_filters.specs.declared.faults.Fault.TheVariants.{Output}
 use Rattle.text_filters.specs.declared.faults.Reason.{Reason}
 use Rattle.text_filters.specs.declared.faults.Reason.TheVariants.{NoSpace}
-use Rattle.text_filters.specs.declared.rights.Rights.{Rights}
+use Rattle.text_files.specs.declared.rights.Rights.{Rights}
 
 -- a program that runs as the super-user
 abbrev of_root : Rights

@@ -9,8 +9,8 @@ use Rattle.text_filters.specs.declared.faults.Reason.TheVariants.{NotFound, NotP
 use Rattle.text_filters.specs.declared.faults.Reason.TheVariants.{ReadOnly, IsPipe, IsDevice, TooLong}
 use Rattle.text_filters.specs.declared.faults.Reason.TheVariants.{Busy, TooManyDrafts, NoSpace, Closed}
 use Rattle.text_filters.specs.declared.faults.Reason.TheVariants.{Other}
-use Rattle.text_filters.specs.declared.files.FileKind.{FileKind}
-use Rattle.text_filters.specs.declared.files.FileKind.TheVariants.{Regular, Folder, Pipe, Device}
+use Rattle.text_files.specs.declared.files.FileKind.{FileKind}
+use Rattle.text_files.specs.declared.files.FileKind.TheVariants.{Regular, Folder, Pipe, Device}
 
 abbrev pub file_reason : ErrorKind → Reason
 file_reason kind.NotFound = NotFound

@@ -7,7 +7,7 @@ use Rattle.std.specs.Io.KnownBytes.{Appends, Keeps}
 use Rattle.textwrap_program.specs.Filling.{ReadsAll, WritesPrefix}
 use Rattle.textwrap_program.specs.Program.{TriesLine, line_feed}
 use Rattle.unified_diff.specs.Differences.{IsDiffText}
-use Rattle.text_filters.specs.Files.{Folder, KeepsFiles, ReplacesFile, bytes_at}
+use Rattle.text_files.specs.Files.{Folder, KeepsFiles, ReplacesFile, bytes_at}
 use Rattle.text_filters.specs.Filter.{Work}
 use Rattle.text_filters.specs.declared.faults.Fault.{Fault}
 use Rattle.text_filters.specs.declared.faults.Fault.TheVariants.{Read, NotUtf8, Memory, Output, Write}

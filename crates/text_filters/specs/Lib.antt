@@ -1,8 +1,6 @@
 pub mod Words
 pub mod Faults
 pub mod Streams
-pub mod Rights
-pub mod Files
 pub mod Filter
 pub mod Inputs
 pub mod Arguments

@@ -6,7 +6,7 @@ use Rattle.std.specs.Io.KnownBytes.{Appends, Keeps}
 use Rattle.clap.specs.declared.error.kind.ErrorKind.{ErrorKind}
 use Rattle.clap.specs.declared.error.kind.ErrorKind.TheVariants.{DisplayHelp, DisplayVersion, OutOfMemory}
 use Rattle.textwrap_program.specs.Filling.{WritesPrefix}
-use Rattle.text_filters.specs.Files.{Folder, bytes_at}
+use Rattle.text_files.specs.Files.{Folder, bytes_at}
 use Rattle.text_filters.specs.Filter.{Work}
 use Rattle.text_filters.specs.Inputs.{Checks, ChecksFile, Differs, DiffersFile, Prints, PrintsFile}
 use Rattle.text_filters.specs.Inputs.{Replaces}

@@ -2,8 +2,8 @@
 ghost use Rattle.std.specs.Prelude.{◌≡◌};
 ghost use Rattle.text_filters.specs.Faults.{draft_fault, file_reason, kind_reason, opening_fault, output_reason};
 
-use crate::files::FileKind;
 use std::io::ErrorKind;
+use text_files::files::FileKind;
 use textwrap_program::filling::RunError;
 
 /// Why an input was not treated.

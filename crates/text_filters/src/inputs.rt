@@ -5,16 +5,16 @@ ghost use Rattle.textwrap_program.specs.Filling.{WritesPrefix};
 ghost use Rattle.textwrap_program.specs.Program.{TriesLine, line_feed};
 ghost use Rattle.text_filters.specs.Faults.{IsOfOutput};
 ghost use Rattle.text_filters.specs.Streams.{AnyReason, IsPossible, NoReason};
-ghost use Rattle.text_filters.specs.Files.{bytes_at};
+ghost use Rattle.text_files.specs.Files.{bytes_at};
 ghost use Rattle.text_filters.specs.Inputs.{Checks, ChecksFile, Differs, DiffersFile};
 ghost use Rattle.text_filters.specs.Inputs.{Prints, PrintsFile, Reads, Filters};
 
 use crate::faults::{Fault, file_reason};
-use crate::files::Files;
 use crate::filter::{Filter, Made};
 use crate::streams::{ReadWhole, WriteWhole};
 use simdutf8::compat::from_utf8;
 use std::alloc::Global;
+use text_files::files::Files;
 use unified_diff::differences::diff_text;
 
 /// What became of an input.

@@ -3,15 +3,12 @@
 #![tactic(auto)]
 
 pub mod arguments;
-pub mod disk;
 pub mod faults;
-pub mod files;
 pub mod filter;
 pub mod inputs;
 pub mod laws;
 pub mod program;
 pub mod replacing;
-pub mod rights;
 pub mod streams;
 pub mod tool;
 pub mod words;

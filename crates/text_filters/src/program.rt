@@ -14,7 +14,6 @@ ghost use Rattle.text_filters.specs.Streams.{AnyReason, IsPossible, faults_of};
 
 use crate::arguments::{Inputs, Mode, value_of};
 use crate::faults::{Fault, Reason};
-use crate::files::Files;
 use crate::filter::Filter;
 use crate::inputs::{
     Treated, check_file, check_input, diff_file, diff_input, print_file, print_input,
@@ -26,6 +25,7 @@ use clap::error::ErrorKind;
 use itoa::Buffer;
 use std::alloc::Global;
 use std::fmt::Display;
+use text_files::files::Files;
 
 /// The name of the standard input among the arguments.
 const STANDARD_INPUT_NAME: &str = "-";

@@ -1,18 +1,18 @@
 //! How a file is replaced.
 ghost use Rattle.std.specs.Prelude.{◌≡◌, Some, IfErr, IfOk, OnErr, OnOk};
 ghost use Rattle.text_filters.specs.Faults.{IsOfDraft, IsOfReading};
-ghost use Rattle.text_filters.specs.Files.{Drafts, HasRights, IsEmptyDraft, IsGivenRights, KeepsFiles};
-ghost use Rattle.text_filters.specs.Files.{LeadsTo, PutsEmpty, ReplacesPlace, FolderSteps, bytes_at};
+ghost use Rattle.text_files.specs.Files.{Drafts, HasRights, IsEmptyDraft, IsGivenRights, KeepsFiles};
+ghost use Rattle.text_files.specs.Files.{LeadsTo, PutsEmpty, ReplacesPlace, FolderSteps, bytes_at};
 ghost use Rattle.text_filters.specs.Inputs.{Replaces};
 ghost use Rattle.text_filters.specs.Streams.{AnyReason, IsPossible, NoReason};
 
 use crate::faults::{Fault, Reason, draft_fault, kind_reason, opening_fault};
-use crate::files::{FileKind, Files, Opened};
 use crate::filter::Filter;
 use crate::inputs::{Treated, read_filtered};
-use crate::rights::Rights;
 use std::alloc::Global;
 use std::io::{self, ErrorKind};
+use text_files::files::{FileKind, Files, Opened};
+use text_files::rights::Rights;
 use textwrap_program::filling::write_whole;
 
 /// How many drafts are made in one folder at a time.

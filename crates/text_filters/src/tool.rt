@@ -6,11 +6,11 @@ ghost use Rattle.text_filters.specs.Messages.{about_view};
 ghost use Rattle.text_filters.specs.Streams.{faults_of};
 ghost use Rattle.text_filters.specs.Tool.{ExecutesTool, ServesWords, ToolText};
 
-use crate::files::Files;
 use crate::program::{About, Ending, complain, explain_parse};
 use crate::streams::{ReadWhole, WriteWhole};
 use clap::{ArgMatches, Command};
 use std::alloc::{AllocError, Global};
+use text_files::files::Files;
 
 /// A program over files and texts.
 pub trait Tool {

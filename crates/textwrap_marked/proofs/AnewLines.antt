@@ -11,7 +11,7 @@ use Rattle.textwrap_marked.proofs.Common.{zero, ◌&&◌, ◌++◌, ap₂, map, 
 use Rattle.textwrap_marked.proofs.ReturnsOff.{return-ends, returns-off, return_if}
 use Rattle.textwrap_marked.proofs.TextBlocks.{AreOneBlock, last_line}
 use Rattle.textwrap_marked.proofs.{Common.ap, Common.⊤, Feedless.IsFeedless, Feedless.NoFeed}
-use Rattle.textwrap_marks.specs.Prefixes.{prefix_ends}
+use Rattle.textwrap_marked_lines.specs.Prefixes.{prefix_ends}
 use Rattle.textwrap_text.proofs.Common.{All-take}
 
 abbrev pub returns_by : LineEnding → Bool

@@ -7,24 +7,26 @@ pub use Rattle.std.proofs.{Common.ap₂, Math.Bool.and-false, Math.Bool.or-false
 pub use Rattle.std.specs.Prelude.{is_some}
 pub use Rattle.textwrap_base.specs.Division.{IsDivision}
 pub use Rattle.textwrap_layout.specs.Paragraph.{covered}
-pub use Rattle.textwrap_marked.specs.Blocks.{behind_block, first_block, is_beside, with_line, goes_on}
-pub use Rattle.textwrap_marked.specs.Hanging.{hanging_comments, hanging_bullets, blanks}
+pub use Rattle.textwrap_marked_lines.specs.Blocks.{behind_block, first_block, is_beside, with_line}
+pub use Rattle.textwrap_marked_lines.specs.Blocks.{goes_on, blocks, stays}
+pub use Rattle.textwrap_marked_lines.specs.Hanging.{hanging_comments, hanging_bullets, blanks}
 pub use Rattle.textwrap_marked.specs.Laws.{piece_words, text_parts, AreShown, IsSameBy, Part}
 pub use Rattle.textwrap_marked.specs.Laws.{words_between_white, parts_of_blocks, AreSameParts, lines_alone}
-pub use Rattle.textwrap_marked.specs.Lines.{LineText, as_title, fence_at, is_ended, passed}
-pub use Rattle.textwrap_marked.specs.Lines.{lines_of_text, line_as_read, stands_apart, with_titles, entered}
-pub use Rattle.textwrap_marked.specs.Lines.{marked_line_view, line_from_words, without_returns, first_state}
-pub use Rattle.textwrap_marked.specs.Lines.{read_lines, StateText, has_words, is_return, new_fence, is_deep}
+pub use Rattle.textwrap_marked_lines.specs.Lines.{LineText, as_title, fence_at, is_ended, passed}
+pub use Rattle.textwrap_marked_lines.specs.Lines.{lines_of_text, line_as_read, stands_apart, with_titles}
+pub use Rattle.textwrap_marked_lines.specs.Lines.{entered, marked_line_view, line_from_words}
+pub use Rattle.textwrap_marked_lines.specs.Lines.{without_returns, first_state, read_lines, StateText}
+pub use Rattle.textwrap_marked_lines.specs.Lines.{has_words, is_return, new_fence, is_deep}
 pub use Rattle.textwrap_marked.specs.Pieces.{with_blank, with_words, is_cut, pieces}
 pub use Rattle.textwrap_marked.specs.Pieces.{words_of_lines, joined_view, onto_front, piece_view, cuts_from}
-pub use Rattle.textwrap_marked.specs.Reading.{lines_ahead, lines_left}
+pub use Rattle.textwrap_marked_lines.specs.Reading.{lines_ahead, lines_left}
 pub use Rattle.textwrap_marked.specs.Reflow.{AreFilled, IsOfBlock, ending_if, kept_line, line_text}
 pub use Rattle.textwrap_marked.specs.Reflow.{IsReflowedFrom, filled_ending, AreOfBlocks, break_white}
 pub use Rattle.textwrap_marked.specs.Reflow.{dividing_algorithm, IsReflowedBehind, byte_order_mark, printed}
 pub use Rattle.textwrap_marked.specs.Reflow.{shown_lines, filled_end, first_room, later_room, line_texts}
 pub use Rattle.textwrap_marked.specs.Within.{AreOfBlocksWithin, range_behind, touches}
 pub use Rattle.textwrap_marked.specs.declared.{pieces.JoinedPiece.JoinedPiece, within.LineRange.LineRange}
-pub use Rattle.textwrap_marked.specs.{Blocks.blocks, Blocks.stays, FirstFit.fitting_view, FirstFit.left}
+pub use Rattle.textwrap_marked.specs.FirstFit.{fitting_view, left}
 pub use Rattle.textwrap_marks.proofs.Common.{Bool, List, refl, take, true, ◌++◌, ◌==◌, ◌||◌, ◌-◌, ◌<◌, ◌∙◌}
 pub use Rattle.textwrap_marks.proofs.Common.{contains, is_white, list_any, length, codes, false, subst, sym}
 pub use Rattle.textwrap_marks.proofs.Common.{false_from_ne_true, is_comment_at, SpacedText, cases_Bool, not}
@@ -32,13 +34,15 @@ pub use Rattle.textwrap_marks.proofs.Common.{has_letter, prefix_len, true≢fals
 pub use Rattle.textwrap_marks.proofs.Common.{◌∷◌, ◌≡◌, [], ap, ℕ}
 pub use Rattle.textwrap_marks.proofs.ListLemmas.{told-apart, each-flat, flat-each, any-none, none-any}
 pub use Rattle.textwrap_marks.specs.Marks.{is_comment_opening, is_bullet, is_quote}
-pub use Rattle.textwrap_marks.specs.Prefixes.{bullets_len, comment_len, quotes_len, is_box}
+pub use Rattle.textwrap_marked_lines.specs.Prefixes.{bullets_len, comment_len, quotes_len, is_box}
 pub use Rattle.textwrap_marks.specs.Signs.{closes_early, begins_text, has_columns, first_word, last_white}
 pub use Rattle.textwrap_marks.specs.Signs.{deeper_by, last_word, is_key}
 pub use Rattle.textwrap_marks.specs.Signs.{words_before_last, opens_paragraph, is_column_word, closes_block}
 pub use Rattle.textwrap_marks.specs.Words.{spaced_words, spaced_text, has_bytes, has_byte}
 pub use Rattle.textwrap_marks.specs.declared.options.ReflowOptions.{ReflowOptions}
-pub use Rattle.textwrap_marks.{proofs.ListLemmas.or-left, specs.Columns.marks_of, specs.Fences.FenceText}
+pub use Rattle.textwrap_marks.proofs.ListLemmas.{or-left}
+pub use Rattle.textwrap_marked_lines.specs.Columns.{marks_of}
+pub use Rattle.textwrap_marked_lines.specs.Fences.{FenceText}
 pub use Rattle.textwrap_text.proofs.Common.{Some, cond, drop, zero, ◌&&◌, All, inl, inr, map, suc, ◌+◌, ◌≢◌}
 pub use Rattle.textwrap_text.proofs.Common.{ends_with, All-cons, All-head, All-tail, drop_all, eqb-true}
 pub use Rattle.textwrap_text.proofs.Common.{flat_map, is_blank, take_all, All-map, All-nil, reverse, IsUtf8}

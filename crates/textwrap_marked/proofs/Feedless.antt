@@ -10,7 +10,7 @@ use Rattle.textwrap_marked.proofs.Common.{slice_split_none, hanging_bullets, joi
 use Rattle.textwrap_marked.proofs.Common.{text_width, StateText, all-right, each-flat, flat-each, All-nil}
 use Rattle.textwrap_marked.proofs.LaterLines.{read-split, read_marks, line-read, read-line}
 use Rattle.textwrap_marked.proofs.{HangingForms.bullets-all, TextBlocks.read-all, TextBlocks.read}
-use Rattle.textwrap_marked.specs.Hanging.{hanging_mark}
+use Rattle.textwrap_marked_lines.specs.Hanging.{hanging_mark}
 use Rattle.textwrap_text.proofs.Common.{All-take}
 
 abbrev pub NoFeed : ℕ → Type 0

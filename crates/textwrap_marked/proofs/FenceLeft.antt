@@ -16,7 +16,9 @@ use Rattle.textwrap_marked.proofs.HangingKinds.{before-full, full-before, IsFull
 use Rattle.textwrap_marked.proofs.LaterLines.{read-spaced, read-split, text-parts, IsRead}
 use Rattle.textwrap_marked.proofs.SpacedBack.{spaced-first, words-white, AreSpaced, spaced-in, IsPlain}
 use Rattle.textwrap_marked.proofs.{LineKinds.one_if, SpacedBack.IsWhite}
-use Rattle.textwrap_marks.{proofs.WordCuts.comment_is, specs.Columns.behind_white, specs.Fences.is_left_by}
+use Rattle.textwrap_marked_lines.proofs.FirstWords.{comment_is}
+use Rattle.textwrap_marked_lines.specs.Columns.{behind_white}
+use Rattle.textwrap_marked_lines.specs.Fences.{is_left_by}
 use Rattle.textwrap_text.proofs.{Common.not-true, Lists.Parts.starts_with-true}
 
 -- nothing, or white first

@@ -14,10 +14,10 @@ use Rattle.textwrap_marked.proofs.LaterLines.{read-spaced, read_kinds, read_mark
 use Rattle.textwrap_marked.proofs.SpacedBack.{spaced-first, AreSpaced, spaced-in, IsPlain, IsWhite, IsInk}
 use Rattle.textwrap_marked.proofs.{Common.ap, Common.ℕ, Common.⊤, OpenBehind.text-letter}
 use Rattle.textwrap_marked.proofs.{LineKinds.has_opening_in, LineKinds.line_by, ParagraphLines.all-spaced}
-use Rattle.textwrap_marked.specs.Lines.{is_in_block}
+use Rattle.textwrap_marked_lines.specs.Lines.{is_in_block}
 use Rattle.textwrap_marks.proofs.Letterless.{quote-plain, star-plain}
-use Rattle.textwrap_marks.specs.Fences.{is_closed_by, is_left_by, opened}
-use Rattle.textwrap_marks.specs.{Columns.behind_white, declared.fences.FenceKind.FenceKind}
+use Rattle.textwrap_marked_lines.specs.Fences.{is_closed_by, is_left_by, opened}
+use Rattle.textwrap_marked_lines.specs.{Columns.behind_white, declared.fences.FenceKind.FenceKind}
 
 -- a word that no text begins with
 abbrev pub IsMarkWord : List ℕ → Type 0

@@ -9,7 +9,9 @@ use Rattle.textwrap_marked.proofs.Common.{suc, sym, ◌+◌, ◌-◌, ◌<◌, �
 use Rattle.textwrap_marked.proofs.Common.{with_line, WordText, sizes_of, goes_on, printed, touches, arith}
 use Rattle.textwrap_marked.proofs.Common.{word_of, get_or, length, nat_lt, pieces, false, stays, subst, ℕ}
 use Rattle.textwrap_marked.proofs.Common.{words_of_lines, ReflowOptions, append_assoc, behind_block, Bool}
-use Rattle.textwrap_marked.specs.{Blocks.later_len, Reflow.IsOfLines, declared.line.MarkedLine.MarkedLine}
+use Rattle.textwrap_marked_lines.specs.Blocks.{later_len}
+use Rattle.textwrap_marked.specs.Reflow.{IsOfLines}
+use Rattle.textwrap_marked_lines.specs.declared.line.MarkedLine.{MarkedLine}
 
 pub blocks-first : (line : LineText) (lines : List LineText)
     → blocks (line ∷ lines) ≡ (line ∷ take (later_len line lines) lines)

@@ -11,7 +11,7 @@ use Rattle.textwrap_marked.proofs.LineKinds.{hanging_of, HaveKinds, kinds-cut, l
 use Rattle.textwrap_marked.proofs.OpenBehind.{behind-free, behind_text, apart-free, starred_at, block_at}
 use Rattle.textwrap_marked.proofs.SpacedBack.{IsLineText, AreSpaced, line-text}
 use Rattle.textwrap_marked.proofs.{LineKinds.one_if, LineKinds.Kinds, LineKinds.kinds, OpenBehind.begun}
-use Rattle.textwrap_marks.proofs.WordCuts.{comment_is}
+use Rattle.textwrap_marked_lines.proofs.FirstWords.{comment_is}
 
 -- ---- what is read of a line
 

@@ -31,7 +31,6 @@ pub mod PrintedLines
 pub mod PrintedText
 pub mod PrintedWidths
 pub mod ReadBack
-pub mod ReadLemmas
 pub mod Refuted
 pub mod ReturnsOff
 pub mod SameParts

@@ -10,9 +10,9 @@ use Rattle.textwrap_marked.proofs.Common.{take, true, ◌&&◌, ◌++◌, ◌==�
 use Rattle.textwrap_marked.proofs.Common.{without_returns, is_comment_at, length-append, append_assoc, Bool}
 use Rattle.textwrap_marked.proofs.SpacedBack.{begins-plain, BeginsPlain, IsLineText, lead_words, line-back}
 use Rattle.textwrap_marked.proofs.{Common.◌≡◌, Common.◌≤◌, Common.[], Common.ap, SpacedBack.with_lead}
-use Rattle.textwrap_marked.specs.Lines.{is_chosen}
-use Rattle.textwrap_marks.specs.Prefixes.{prefix_ends, lead_len}
-use Rattle.textwrap_marks.specs.declared.prefixes.PrefixEnds.{PrefixEnds}
+use Rattle.textwrap_marked_lines.specs.Lines.{is_chosen}
+use Rattle.textwrap_marked_lines.specs.Prefixes.{prefix_ends, lead_len}
+use Rattle.textwrap_marked_lines.specs.declared.prefixes.PrefixEnds.{PrefixEnds}
 use Rattle.textwrap_text.proofs.Common.{length-take-le, drop_at, eq-eqb}
 
 -- ---- what is read of words by kind

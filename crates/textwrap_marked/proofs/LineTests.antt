@@ -7,8 +7,8 @@ use Rattle.textwrap_marked.proofs.Common.{bytes_eq-Decides, opens_paragraph, Ref
 use Rattle.textwrap_marked.proofs.Common.{nat_eq, nat_lt, codes, false, Bool, List, None, Some, cond, refl}
 use Rattle.textwrap_marked.proofs.Common.{true, ◌&&◌, ◌==◌, ◌||◌, not, sym, ◌-◌, ◌<◌, ◌∙◌, ◌∷◌, ◌≡◌, [], ap}
 use Rattle.textwrap_marked.proofs.OpenBehind.{behind_text, IsOpen}
-use Rattle.textwrap_marked.specs.Lines.{begins_code}
-use Rattle.textwrap_marks.specs.Columns.{DepthText, is_deeper, depth_of}
+use Rattle.textwrap_marked_lines.specs.Lines.{begins_code}
+use Rattle.textwrap_marked_lines.specs.Columns.{DepthText, is_deeper, depth_of}
 use Rattle.textwrap_marks.specs.Signs.{is_rule_characters, is_example_key, is_rule}
 use Rattle.textwrap_marks.specs.Words.{is_letter_or_digit}
 use Rattle.textwrap_text.proofs.Common.{and_right, list_all}

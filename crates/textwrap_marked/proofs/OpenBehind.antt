@@ -11,12 +11,13 @@ use Rattle.textwrap_marked.proofs.Common.{passed, arith, codes, false, List, Non
 use Rattle.textwrap_marked.proofs.Common.{told-apart, true≢false, FenceText, StateText, and-false, is_key}
 use Rattle.textwrap_marked.proofs.Common.{true, ◌&&◌, ◌==◌, ◌||◌, sym, ◌∙◌, ◌∷◌, ◌≡◌, [], ap, ℕ}
 use Rattle.textwrap_marked.proofs.LineKinds.{has_opening_in, hanging_of, line_by, Kinds}
-use Rattle.textwrap_marked.specs.Lines.{is_in_block, is_prompted, new_before, is_before, new_by}
-use Rattle.textwrap_marks.specs.Fences.{opens_formula, has_pre_end, opened_by, opened, run_of}
+use Rattle.textwrap_marked_lines.specs.Lines.{is_in_block, is_prompted, new_before, is_before, new_by}
+use Rattle.textwrap_marked_lines.specs.Fences.{opens_formula, has_pre_end, opened_by, opened, run_of}
 use Rattle.textwrap_marks.specs.Signs.{is_comment_behind, opens_session, any_contains, is_directive}
 use Rattle.textwrap_marks.specs.Signs.{is_for_tools, is_sign_byte, opens_code, is_sign, is_gap}
-use Rattle.textwrap_marks.specs.declared.fences.FenceKind.TheVariants.{Formula, Code, Pre}
-use Rattle.textwrap_marks.{proofs.Letterless.no-session, specs.Columns.depth_of}
+use Rattle.textwrap_marked_lines.specs.declared.fences.FenceKind.TheVariants.{Formula, Code, Pre}
+use Rattle.textwrap_marks.proofs.Letterless.{no-session}
+use Rattle.textwrap_marked_lines.specs.Columns.{depth_of}
 use Rattle.textwrap_text.proofs.Common.{slice_index, and_parts}
 
 -- ---- the first word of a text

@@ -11,7 +11,7 @@ use Rattle.textwrap_marked.proofs.Common.{subst, Bool, List, cond, refl, true, �
 use Rattle.textwrap_marked.proofs.Common.{suffix_len-le-length, words_of_lines, ReflowOptions, All-weaker}
 use Rattle.textwrap_marked.proofs.Common.{◌-◌, ◌<◌, ◌∙◌, ◌∷◌, ◌≡◌, ◌≤◌, [], ap}
 use Rattle.textwrap_marked.specs.Laws.{AreAsWide, AreWithin, IsAsWide, IsWithin}
-use Rattle.textwrap_marks.specs.Columns.{text_columns}
+use Rattle.textwrap_marked_lines.specs.Columns.{text_columns}
 use Rattle.textwrap_text.proofs.Common.{reverse-append}
 
 abbrev pub EndsInBlank : List ℕ → Type 0

@@ -12,7 +12,8 @@ use Rattle.textwrap_marked.proofs.Common.{shown_lines, slice_split, with_titles,
 use Rattle.textwrap_marked.proofs.{Common.◌∙◌, Common.◌∷◌, Common.◌≡◌, Common.ℕ, TextBack.text-back}
 use Rattle.textwrap_marked.specs.Laws.{AreNewParts}
 use Rattle.textwrap_words.proofs.Common.{Algorithm as DividingAlgorithm}
-use Rattle.textwrap_marks.specs.{Columns.text_columns, declared.options.Algorithm.Algorithm}
+use Rattle.textwrap_marked_lines.specs.Columns.{text_columns}
+use Rattle.textwrap_marks.specs.declared.options.Algorithm.{Algorithm}
 use Rattle.textwrap_words.proofs.Common.{ByFirstFit}
 
 divided-one : (algorithm : DividingAlgorithm) (widths : List ℕ) (xs : List WordText)

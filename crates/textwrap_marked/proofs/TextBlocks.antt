@@ -13,7 +13,9 @@ use Rattle.textwrap_marked.proofs.OpenBehind.{behind_text, no-columns}
 use Rattle.textwrap_marked.proofs.SpacedBack.{spaced-plain, IsPlain}
 use Rattle.textwrap_marked.proofs.SpreadWords.{front-more, last-more, last_text}
 use Rattle.textwrap_marked.proofs.{HangingForms.IsHanging, ParagraphLines.later-line}
-use Rattle.textwrap_marked.{proofs.Common.ap, proofs.LaterLines.IsOfText, specs.Lines.is_title}
+use Rattle.textwrap_marked.proofs.Common.{ap}
+use Rattle.textwrap_marked.proofs.LaterLines.{IsOfText}
+use Rattle.textwrap_marked_lines.specs.Lines.{is_title}
 use Rattle.textwrap_marks.{proofs.ListLemmas.or-right, specs.Signs.ends_early}
 
 -- the last of some texts is that of those behind others

@@ -1,7 +1,7 @@
 -- Whether a text has marks that are filled.
 use Rattle.std.specs.Prelude.{ℕ, Bool, drop, if◌then◌else◌, List, nat_eq}
 use Rattle.std.specs.List.{list_any, starts_with}
-use Rattle.textwrap_marked.specs.Lines.{lines_of_text}
+use Rattle.textwrap_marked_lines.specs.Lines.{lines_of_text}
 use Rattle.textwrap_marked.specs.Reflow.{byte_order_mark}
 use Rattle.textwrap_marks.specs.declared.options.ReflowOptions.{ReflowOptions}
 

@@ -13,9 +13,9 @@ use Rattle.textwrap_layout.specs.Paragraph.{covered}
 use Rattle.textwrap_layout.specs.Text.{HasWholeSequences}
 use Rattle.textwrap_display.specs.Justifying.{gaps, line_words}
 use Rattle.textwrap_text.specs.declared.line_ending.LineEnding.{LineEnding}
-use Rattle.textwrap_marked.specs.Blocks.{blocks, is_beside, stays}
-use Rattle.textwrap_marks.specs.Columns.{text_columns}
-use Rattle.textwrap_marked.specs.Lines.{LineText, lines_of_text, without_returns}
+use Rattle.textwrap_marked_lines.specs.Blocks.{blocks, is_beside, stays}
+use Rattle.textwrap_marked_lines.specs.Columns.{text_columns}
+use Rattle.textwrap_marked_lines.specs.Lines.{LineText, lines_of_text, without_returns}
 use Rattle.textwrap_marked.specs.Pieces.{pieces, words_of_lines}
 use Rattle.textwrap_marked.specs.Reflow.{byte_order_mark, filled_end, filled_ending, first_room}
 use Rattle.textwrap_marked.specs.Reflow.{IsReflowed, kept_line, kept_text, later_room, printed}

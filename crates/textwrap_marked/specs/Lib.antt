@@ -1,10 +1,6 @@
-pub mod Reading
-pub mod Blocks
 pub mod Pieces
 pub mod FirstFit
 pub mod Reflow
 pub mod Choosing
 pub mod Within
 pub mod Laws
-pub mod Hanging
-pub mod Lines

@@ -6,7 +6,7 @@ use Rattle.std.specs.List.{ends_with, flat_map}
 use Rattle.textwrap_text.specs.Blanks.{blank, final_blanks, without_final_blanks}
 use Rattle.textwrap_base.specs.Cost.{PricedSizes}
 use Rattle.textwrap_words.specs.Words.{WordText, sizes_of}
-use Rattle.textwrap_marked.specs.Lines.{LineText}
+use Rattle.textwrap_marked_lines.specs.Lines.{LineText}
 use Rattle.textwrap_marks.specs.Signs.{may_go_on}
 use Rattle.textwrap_marks.specs.declared.options.ReflowOptions.{ReflowOptions}
 use Rattle.textwrap_marked.specs.declared.pieces.JoinedWords.{JoinedWords}

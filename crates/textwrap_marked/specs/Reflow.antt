@@ -11,9 +11,9 @@ use Rattle.textwrap_display.specs.Justifying.{justified}
 use Rattle.textwrap_layout.specs.Paragraph.{covered, line_bytes}
 use Rattle.textwrap_text.specs.declared.line_ending.LineEnding.{LineEnding}
 use Rattle.textwrap_text.specs.declared.line_ending.LineEnding.TheVariants.{CRLF, LF}
-use Rattle.textwrap_marked.specs.Blocks.{blocks, is_beside, stays}
-use Rattle.textwrap_marks.specs.Columns.{text_columns}
-use Rattle.textwrap_marked.specs.Lines.{LineText, lines_of_text, without_returns}
+use Rattle.textwrap_marked_lines.specs.Blocks.{blocks, is_beside, stays}
+use Rattle.textwrap_marked_lines.specs.Columns.{text_columns}
+use Rattle.textwrap_marked_lines.specs.Lines.{LineText, lines_of_text, without_returns}
 use Rattle.textwrap_marked.specs.Pieces.{pieces, words_of_lines}
 use Rattle.textwrap_marks.specs.Signs.{last_white}
 use Rattle.textwrap_marks.specs.declared.options.Algorithm.{Algorithm}

@@ -3,8 +3,8 @@ use Rattle.std.specs.Prelude.{◌≡◌, ℕ, ◌+◌, ◌-◌, ◌&&◌, ◌||�
 use Rattle.std.specs.Prelude.{List, [], ◌∷◌, ◌++◌, drop, length}
 use Rattle.std.specs.List.{starts_with}
 use Rattle.textwrap_text.specs.LineEnding.{ending_bytes}
-use Rattle.textwrap_marked.specs.Blocks.{blocks, is_beside, stays}
-use Rattle.textwrap_marked.specs.Lines.{LineText, lines_of_text}
+use Rattle.textwrap_marked_lines.specs.Blocks.{blocks, is_beside, stays}
+use Rattle.textwrap_marked_lines.specs.Lines.{LineText, lines_of_text}
 use Rattle.textwrap_marked.specs.Reflow.{IsOfBlock, byte_order_mark, filled_ending}
 use Rattle.textwrap_marks.specs.declared.options.ReflowOptions.{ReflowOptions}
 use Rattle.textwrap_marked.specs.declared.within.LineRange.{LineRange}

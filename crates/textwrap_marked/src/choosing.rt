@@ -2,10 +2,10 @@
 ghost use Rattle.std.specs.Prelude.{◌≡◌, IfOk, Some};
 ghost use Rattle.std.specs.List.{list_any};
 ghost use Rattle.textwrap_marked.specs.Choosing.{has_chosen};
-ghost use Rattle.textwrap_marked.specs.Reading.{lines_ahead};
+ghost use Rattle.textwrap_marked_lines.specs.Reading.{lines_ahead};
 
-use crate::reading::LinesAhead;
 use std::alloc::{AllocError, Global};
+use textwrap_marked_lines::reading::LinesAhead;
 use textwrap_marks::options::ReflowOptions;
 use textwrap_text::starts::without_start;
 

@@ -9,7 +9,7 @@ ghost use Rattle.textwrap_layout.specs.Paragraph.{covered, line_bytes};
 ghost use Rattle.textwrap_words.specs.Words.{WordText, sizes_of, word_of};
 ghost use Rattle.textwrap_words.specs.Cuts.{AreCuts, parts_between};
 ghost use Rattle.textwrap_marks.specs.declared.options.Algorithm.TheVariants.{LeastCost};
-ghost use Rattle.textwrap_marked.specs.Lines.{marked_line_view};
+ghost use Rattle.textwrap_marked_lines.specs.Lines.{marked_line_view};
 ghost use Rattle.textwrap_marked.specs.Pieces.{piece_view};
 ghost use Rattle.textwrap_marked.specs.Reflow.{break_white, ending_if, filled_end};
 ghost use Rattle.textwrap_marked.specs.Reflow.{filled_ends, AreFilled, kept_line};
@@ -17,12 +17,12 @@ ghost use Rattle.textwrap_marked.specs.Reflow.{kept_text, line_text, line_texts,
 
 use crate::first_fit::push_by_first_fit;
 use crate::least_cost::divide_at_least_cost;
-use crate::lines::{MarkedLine, without_returns};
 use crate::pieces::{JoinedPiece, JoinedWords, joined_of, pieces_between};
 use std::alloc::{AllocError, Global};
 use textwrap_display::justify;
 use textwrap_lines::LineEnding;
-use textwrap_marks::columns::columns;
+use textwrap_marked_lines::columns::columns;
+use textwrap_marked_lines::lines::{MarkedLine, without_returns};
 use textwrap_marks::options::{Algorithm, ReflowOptions};
 use textwrap_marks::signs::last_white;
 use textwrap_marks::words::ends_with;

@@ -7,15 +7,15 @@ ghost use Rattle.textwrap_words.specs.Words.{WordText, sizes_of, word_of};
 ghost use Rattle.textwrap_marks.specs.Words.{spaced_words};
 ghost use Rattle.textwrap_marked.specs.FirstFit.{columns_with, fresh_line, has_no_room, left, left_of_pieces};
 ghost use Rattle.textwrap_marked.specs.FirstFit.{fitting_view, shown_line, with_piece_of};
-ghost use Rattle.textwrap_marked.specs.Lines.{marked_line_view};
+ghost use Rattle.textwrap_marked_lines.specs.Lines.{marked_line_view};
 ghost use Rattle.textwrap_marked.specs.Pieces.{pieces, words_of_lines};
 ghost use Rattle.textwrap_marked.specs.Reflow.{first_room, later_room, printed, shown_lines};
 
 use crate::filling::room_behind;
-use crate::lines::MarkedLine;
 use crate::pieces::is_cut_behind;
 use std::alloc::{AllocError, Global};
 use textwrap_display::justify;
+use textwrap_marked_lines::lines::MarkedLine;
 use textwrap_marks::options::ReflowOptions;
 use textwrap_marks::words::SpacedWords;
 use textwrap_text::blanks::split_final_blanks;

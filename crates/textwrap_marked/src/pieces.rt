@@ -1,7 +1,7 @@
 //! The text of a paragraph's words, where it may be cut, and the pieces between the cuts.
 ghost use Rattle.std.specs.Prelude.{◌≡◌, ℕ, ◌+◌, ◌≤◌, ◌<◌, ◌^◌, ◌++◌, [], List, length, map, IfOk, OnOk};
 ghost use Rattle.std.specs.Option.{option_map};
-ghost use Rattle.textwrap_marked.specs.Lines.{marked_line_view};
+ghost use Rattle.textwrap_marked_lines.specs.Lines.{marked_line_view};
 ghost use Rattle.textwrap_marked.specs.Pieces.{AreInRow, IsJoined, is_cut_behind, is_kept_together};
 ghost use Rattle.textwrap_marked.specs.Pieces.{joined_view, piece_priced, piece_view, with_cut, with_next};
 ghost use Rattle.textwrap_marked.specs.Pieces.{with_words, words_of_lines};
@@ -10,9 +10,9 @@ ghost use Rattle.textwrap_text.specs.Blanks.{final_blanks, without_final_blanks}
 ghost use Rattle.textwrap_words.specs.Cuts.{AreCuts, parts_between};
 ghost use Rattle.textwrap_words.specs.Words.{sizes_of, word_of};
 
-use crate::lines::MarkedLine;
 use std::alloc::{AllocError, Global};
 use textwrap_base::inner::PrefixSums;
+use textwrap_marked_lines::lines::MarkedLine;
 use textwrap_marks::options::ReflowOptions;
 use textwrap_marks::signs::may_go_on;
 use textwrap_marks::words::SpacedWords;

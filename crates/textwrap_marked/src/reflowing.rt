@@ -1,17 +1,17 @@
 //! Filling the paragraphs of a text again.
 ghost use Rattle.std.specs.Prelude.{◌≡◌, ℕ, ◌++◌, false, List, map, IfOk, OnOk, Some, string_bytes};
 ghost use Rattle.textwrap_base.specs.Errors.{Overflowed};
-ghost use Rattle.textwrap_marked.specs.Blocks.{blocks, is_beside, stays};
-ghost use Rattle.textwrap_marked.specs.Lines.{marked_line_view};
-ghost use Rattle.textwrap_marked.specs.Reading.{lines_left};
+ghost use Rattle.textwrap_marked_lines.specs.Blocks.{blocks, is_beside, stays};
+ghost use Rattle.textwrap_marked_lines.specs.Lines.{marked_line_view};
+ghost use Rattle.textwrap_marked_lines.specs.Reading.{lines_left};
 ghost use Rattle.textwrap_marked.specs.Reflow.{ending_of_line, filled_ending, AreOfBlocks, IsOfLines};
 ghost use Rattle.textwrap_marked.specs.Reflow.{IsReflowed, IsReflowedFrom};
 
-use crate::blocks::{BlocksAhead, are_fields};
 use crate::filling::{push_filled, push_kept};
-use crate::lines::MarkedLine;
 use std::alloc::Global;
 use textwrap_lines::LineEnding;
+use textwrap_marked_lines::blocks::{BlocksAhead, are_fields};
+use textwrap_marked_lines::lines::MarkedLine;
 use textwrap_marks::options::ReflowOptions;
 use textwrap_marks::words::{ends_with, split_at};
 use textwrap_text::starts::without_start;

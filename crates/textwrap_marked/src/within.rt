@@ -1,14 +1,14 @@
 //! Filling only the paragraphs at some lines of a text.
 ghost use Rattle.std.specs.Prelude.{◌≡◌, ℕ, ◌++◌, false, List, IfOk, OnOk, Some, string_bytes};
 ghost use Rattle.textwrap_base.specs.Errors.{Overflowed};
-ghost use Rattle.textwrap_marked.specs.Blocks.{blocks};
-ghost use Rattle.textwrap_marked.specs.Reading.{lines_left};
+ghost use Rattle.textwrap_marked_lines.specs.Blocks.{blocks};
+ghost use Rattle.textwrap_marked_lines.specs.Reading.{lines_left};
 ghost use Rattle.textwrap_marked.specs.Within.{AreOfBlocksWithin, IsReflowedWithin, IsReflowedWithinFrom};
 ghost use Rattle.textwrap_marked.specs.Within.{range_behind, touches};
 
-use crate::blocks::BlocksAhead;
 use crate::reflowing::{filled_ending, is_beside, push_block};
 use std::alloc::Global;
+use textwrap_marked_lines::blocks::BlocksAhead;
 use textwrap_marks::options::ReflowOptions;
 use textwrap_text::starts::without_start;
 use textwrap_words::wrap_algorithms::WrapError;

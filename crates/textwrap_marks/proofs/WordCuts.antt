@@ -11,8 +11,6 @@ use Rattle.textwrap_marks.proofs.SpacedLemmas.{behind-shorter, first_spaced, bef
 use Rattle.textwrap_marks.proofs.SpacedLemmas.{white-small, words-turn, word_len}
 use Rattle.textwrap_marks.specs.Signs.{words_before_last, first_word, is_rule, last_of}
 use Rattle.textwrap_marks.specs.Words.{spaced_text, has_bytes, with_byte}
-use Rattle.textwrap_marks.specs.declared.fences.FenceRun.{FenceRun}
-use Rattle.textwrap_marks.specs.{Fences.is_long_run, Prefixes.comment_len, Prefixes.lead_len}
 use Rattle.textwrap_text.proofs.Common.{IsCharBoundary-after_ascii, IsCharBoundary-start, IsCharBoundary}
 use Rattle.textwrap_text.proofs.Common.{length-append, append-nil, drop_all, take_all, cond, zero, suc}
 
@@ -298,23 +296,7 @@ pub first-word-is : (text : List ℕ) → take (word_len text) text ≡ first_wo
 first-word-is [] = refl
 first-word-is (c ∷ cs) = ap first_word (sym (words-turn (c ∷ cs) (omega arith)))
 
-pub lead_is : (ws : List SpacedText) → 0 < length ws
-    → lead_len ws ≡ cond (has_bytes (first_word ws)) 0 1
-lead_is [] some = absurd (omega (arith, some))
-lead_is (w ∷ ws) some = refl
-
-pub comment_is : (options : ReflowOptions) (in_block : Bool) (ws : List SpacedText) → 0 < length ws
-    → comment_len options in_block ws ≡ cond (is_comment_at options in_block (first_word ws)) 1 0
-comment_is options in_block [] some = absurd (omega (arith, some))
-comment_is options in_block (w ∷ ws) some = refl
-
 pub rule_others : (ws : List SpacedText) → (length ws == 1) ≡ false → is_rule ws ≡ false
 rule_others [] is = refl
 rule_others (w ∷ []) is = absurd (true≢false is)
 rule_others (w ∷ v ∷ ws) is = refl
-
-pub run_others : (run : FenceRun) (ws : List SpacedText) → (length ws == 1) ≡ false
-    → is_long_run run ws ≡ false
-run_others run [] is = refl
-run_others run (w ∷ []) is = absurd (true≢false is)
-run_others run (w ∷ v ∷ ws) is = refl

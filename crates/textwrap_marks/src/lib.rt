@@ -1,11 +1,8 @@
-//! What is read of a line in which marks stand before the words: its words, its columns, its marks, the
-//! prefix that they make up, the signs in it, and the fences of code.
+//! What is read of the words of a line in which marks stand before them: which are marks, and the signs
+//! by which a reader tells running text from all else.
 #![tactic(auto)]
 
-pub mod columns;
-pub mod fences;
 pub mod marks;
 pub mod options;
-pub mod prefixes;
 pub mod signs;
 pub mod words;

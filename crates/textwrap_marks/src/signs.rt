@@ -90,7 +90,7 @@ pub fn last_white(text: &str) -> &str
 
 /// The only word of a text, if it has one and no other.
 #[tactic(auto, using(crate::proofs::WordCuts::words_some))]
-pub(crate) fn only_word(text: &str) -> Option<SpacedWord<'_>>
+pub fn only_word(text: &str) -> Option<SpacedWord<'_>>
     ensures { MatchOption result ((length (spaced_words text.now) == 1) ≡ false)
         (λ word. spaced_words text.now ≡ spaced_view word ∷ []) }
 {

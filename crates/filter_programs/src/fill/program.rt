@@ -6,7 +6,7 @@ use crate::fill::arguments::{HELP, VERSION, command, request_in};
 use crate::fill::words::spelled_out;
 use clap::{ArgMatches, Command};
 use std::alloc::{AllocError, Global};
-use text_filters::files::Files;
+use text_files::files::Files;
 use text_filters::program::{About, Ending, Run, complain_of, serve};
 use text_filters::streams::{ReadWhole, WriteWhole};
 use text_filters::tool::Tool;

@@ -1,12 +1,12 @@
 //! The file of a dictionary.
 ghost use Rattle.std.specs.Prelude.{◌≡◌};
-ghost use Rattle.text_filters.specs.Files.{bytes_at};
+ghost use Rattle.text_files.specs.Files.{bytes_at};
 ghost use Rattle.textwrap_hyphens.specs.Table.{patterns_view};
 ghost use Rattle.filter_programs.specs.HyphenateDictionary.{IsDictionary, ReadsDictionary, with_asked_minima};
 
 use std::alloc::Global;
+use text_files::files::Files;
 use text_filters::faults::{Fault, opening_fault};
-use text_filters::files::Files;
 use text_filters::streams::ReadWhole;
 use textwrap_hyphens::dictionary::Patterns;
 use textwrap_patterns::errors::{self, ParseError};

@@ -5,7 +5,7 @@ ghost use Rattle.filter_programs.specs.ReflowProgram.{reflow_tool};
 use crate::reflow::arguments::{HELP, Unfit, VERSION, command, request_in};
 use clap::{ArgMatches, Command};
 use std::alloc::{AllocError, Global};
-use text_filters::files::Files;
+use text_files::files::Files;
 use text_filters::program::{About, Ending, Run, complain_of, serve};
 use text_filters::streams::{ReadWhole, WriteWhole};
 use text_filters::tool::Tool;

@@ -1,7 +1,7 @@
 use Rattle.std.proofs.Common.{◌∙◌, subst, sym, Some}
 use Rattle.std.specs.Io.KnownBytes.{Appends}
-use Rattle.text_filters.proofs.FileLemmas.{PutsEmpty-put}
-use Rattle.text_filters.specs.Files.{HasRights, IsGivenRights, PutsEmpty, FolderSteps}
+use Rattle.text_files.proofs.FileLemmas.{PutsEmpty-put}
+use Rattle.text_files.specs.Files.{HasRights, IsGivenRights, PutsEmpty, FolderSteps}
 use Rattle.text_filters.proofs.replacing.complete.Goals as goal
 
 pub returns-in-Ok-clause-put : goal.returns-in-Ok-clause-put

@@ -1,4 +1,4 @@
-use Rattle.text_filters.proofs.FileLemmas.{Drafts-tried, KeepsFiles-tried}
+use Rattle.text_files.proofs.FileLemmas.{Drafts-tried, KeepsFiles-tried}
 use Rattle.text_filters.proofs.replacing.new_draft.Goals as goal
 
 pub returns-in_default-2-clause-made : goal.returns-in_default-2-clause-made

@@ -1,4 +1,4 @@
-use Rattle.text_filters.specs.Files.{KeepsFiles}
+use Rattle.text_files.specs.Files.{KeepsFiles}
 use Rattle.text_filters.proofs.replacing.new_draft.Given as goal
 
 -- the files are as they were, but for drafts that were left over

@@ -1,6 +1,6 @@
 use Rattle.std.proofs.Common.{subst, sym}
-use Rattle.text_filters.specs.Files.{ReplacesPlace}
-use Rattle.text_filters.proofs.FileLemmas.{KeepsFiles-dropped, ReplacesPlace-put}
+use Rattle.text_files.specs.Files.{ReplacesPlace}
+use Rattle.text_files.proofs.FileLemmas.{KeepsFiles-dropped, ReplacesPlace-put}
 use Rattle.text_filters.proofs.replacing.put_bytes.Goals as goal
 
 pub returns-in-Ok-complete-clause-ok : goal.returns-in-Ok-complete-clause-ok

@@ -2,7 +2,7 @@ use Rattle.std.proofs.Common.{inl, inr, refl, subst}
 use Rattle.std.specs.String.{string_bytes}
 use Rattle.text_filters.proofs.InputLemmas.{ReadsText-of, compared-other, compared-same}
 use Rattle.text_filters.proofs.InputLemmas.{replaces-unread}
-use Rattle.text_filters.specs.Files.{ReplacesPlace}
+use Rattle.text_files.specs.Files.{ReplacesPlace}
 use Rattle.text_filters.proofs.replacing.replace_file.Goals as goal
 
 pub returns-in-Err-clause-replaced : goal.returns-in-Err-clause-replaced

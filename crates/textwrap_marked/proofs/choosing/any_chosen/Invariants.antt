@@ -1,6 +1,6 @@
 use Rattle.textwrap_marked.proofs.choosing.any_chosen.Given as goal
 use Rattle.textwrap_marked.proofs.Common.{lines_ahead, list_any, Some, ◌≡◌}
-use Rattle.textwrap_marked.specs.Reading.{bytes_ahead}
+use Rattle.textwrap_marked_lines.specs.Reading.{bytes_ahead}
 
 -- none of the lines so far is such
 abbrev pub invariant-loop-ahead : goal.invariant-loop-ahead

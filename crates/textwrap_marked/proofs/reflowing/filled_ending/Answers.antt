@@ -1,5 +1,6 @@
 use Rattle.textwrap_marked.proofs.reflowing.filled_ending.Goals as goal
-use Rattle.textwrap_marked.proofs.{Common.sym, Common.◌∙◌, Common.ap, ReadLemmas.fed-is}
+use Rattle.textwrap_marked.proofs.Common.{sym, ◌∙◌, ap}
+use Rattle.textwrap_marked_lines.proofs.ReadLemmas.{fed-is}
 use Rattle.textwrap_marked.specs.Reflow.{ending_of_line, first_ending}
 
 pub returns-in-None : goal.returns-in-None

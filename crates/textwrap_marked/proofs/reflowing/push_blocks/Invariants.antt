@@ -1,7 +1,7 @@
 use Rattle.textwrap_marked.proofs.reflowing.push_blocks.Given as goal
 use Rattle.textwrap_marked.proofs.Common.{Some, ◌++◌, ℕ}
 use Rattle.textwrap_marked.proofs.Common.{string_bytes, AreOfBlocks, lines_left, blocks, false, List, ◌≡◌}
-use Rattle.textwrap_marked.specs.Reading.{measure_left}
+use Rattle.textwrap_marked_lines.specs.Reading.{measure_left}
 
 -- with whatever becomes of the blocks that are left, it is what becomes of all
 abbrev pub invariant-loop-ahead : goal.invariant-loop-ahead

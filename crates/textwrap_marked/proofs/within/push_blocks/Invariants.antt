@@ -1,7 +1,7 @@
 use Rattle.textwrap_marked.proofs.within.push_blocks.Given as goal
 use Rattle.textwrap_marked.proofs.Common.{AreOfBlocksWithin, range_behind, string_bytes, lines_left, List}
 use Rattle.textwrap_marked.proofs.Common.{blocks, false, Some, ◌++◌, ◌≡◌, ℕ}
-use Rattle.textwrap_marked.specs.Reading.{measure_left}
+use Rattle.textwrap_marked_lines.specs.Reading.{measure_left}
 
 -- behind so many lines, with whatever becomes of the blocks that are left, it is what becomes of all
 abbrev pub invariant-loop-ahead : goal.invariant-loop-ahead

@@ -9,8 +9,8 @@ use std::io::Write;
 use std::os::unix::fs::{MetadataExt, PermissionsExt, lchown, symlink};
 use std::process::Abort;
 use std::{env, fs, io, process, rt};
-use text_filters::disk::Disk;
-use text_filters::files::{FileKind, Files};
+use text_files::disk::Disk;
+use text_files::files::{FileKind, Files};
 use text_filters::tool::execute;
 use textwrap_vectors::streams::{Sink, SinkFault};
 

@@ -5,7 +5,7 @@ use super::plain::{
 };
 use std::io::ErrorKind;
 use std::process::Abort;
-use text_filters::files::FileKind;
+use text_files::files::FileKind;
 use textwrap_vectors::streams::{FeedFault, SinkFault};
 
 const COUNT: &[u8] = b"one two three four\n";

@@ -2,8 +2,8 @@
 use std::alloc::{AllocError, Global};
 use std::io;
 use std::io::ErrorKind;
-use text_filters::files::{FileKind, Files, Opened};
-use text_filters::rights::{FileMode, Rights};
+use text_files::files::{FileKind, Files, Opened};
+use text_files::rights::{FileMode, Rights};
 use textwrap_vectors::streams::{Feed, FeedFault, Sink, SinkFault};
 
 /// How many bytes the readers give at a time.

@@ -1,7 +1,0 @@
-use Rattle.textwrap_marked.proofs.hanging.any_opening.Given as goal
-use Rattle.textwrap_marked.proofs.Common.{is_comment_opening, spaced_words, list_any, ◌≡◌}
-
--- none of the words so far passes
-abbrev pub invariant-loop-word : goal.invariant-loop-word
-invariant-loop-word l = list_any (λ w. is_comment_opening w.word) l.word-iterator
-    ≡ list_any (λ w. is_comment_opening w.word) (spaced_words l.text)

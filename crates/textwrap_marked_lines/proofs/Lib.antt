@@ -1,0 +1,2 @@
+pub mod FirstWords
+pub mod ReadLemmas

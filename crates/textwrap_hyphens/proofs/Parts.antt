@@ -1,4 +1,10 @@
 -- The parts of a compound, one after another.
+use Rattle.std.specs.Prelude.{None, unwrap_or}
+use Rattle.textwrap_hyphens.proofs.Common.{cases_Bool, map-append}
+use Rattle.textwrap_hyphens.specs.Points.{points_at, points_in}
+use Rattle.textwrap_patterns.specs.declared.letters.Letter.{Letter}
+use Rattle.textwrap_text.proofs.Lists.Elements.{points-more}
+use Rattle.textwrap_hyphens.specs.Hyphenation.{places_from, places_of}
 use Rattle.std.specs.Prelude.{◌%◌, ◌==◌}
 use Rattle.std.proofs.lemmas.List.Elements.{filter-append}
 use Rattle.std.proofs.lemmas.List.FromFn.{get_or-map-range_with_len, length-map-range_with_len}
@@ -62,3 +68,22 @@ pub part-next : (test : ℕ → Bool) (from place : ℕ) (front items more : Lis
     → more ≡ cond b (items ++ place ∷ []) items
     → more ≡ front ++ filter test (range_with_len (from + 1) (place + 1 - from - 1))
 part-next test from place front items more b ahead so_far passes is = grind (arith, range-next)
+
+-- ---- points
+
+-- what stands behind the places of a range that pass a test, and behind the next
+pub behind-next : (test : ℕ → Bool) (f : ℕ → ℕ) (place : ℕ) (front items more : List ℕ) (b : Bool)
+    → 1 ≤ place → items ≡ front ++ map f (filter test (range_with_len 1 (place - 1))) → b ≡ test place
+    → more ≡ cond b (items ++ f place ∷ []) items
+    → more ≡ front ++ map f (filter test (range_with_len 1 (place + 1 - 1)))
+behind-next test f place front items more b start so_far passes is =
+    grind (arith, cases_Bool, append_assoc, map-append, points-more test place _ _ b start refl passes refl)
+
+-- the points of a run that is no exception
+pub run-points : (h : Hyphenation) (run : List Letter) (letters places : List ℕ)
+    → letters ≡ map (λ c. c.ch) run → h.exception letters ≡ None
+    → places_from h letters 0 (joints_of h letters) ≡ places → points_in h run ≡ points_at run places
+run-points h run letters places is none from =
+    ap (λ cs. points_at run (places_of h cs)) (sym is)
+    ∙ ap (λ e. points_at run (unwrap_or e (places_from h letters 0 (joints_of h letters)))) none
+    ∙ ap (points_at run) from

@@ -1,10 +1,10 @@
 //! The levels of the places of a word.
-ghost use Rattle.std.specs.Prelude.{◌≡◌, ℕ, ◌+◌, ◌-◌, ◌*◌, ◌%◌, ◌==◌, ◌<◌, ◌≤◌, filter, length, max};
+ghost use Rattle.std.specs.Prelude.{◌≡◌, ℕ, ◌+◌, ◌-◌, ◌*◌, ◌%◌, ◌==◌, ◌<◌, ◌≤◌, All, List, filter, length};
 ghost use Rattle.std.specs.Prelude.{slice_index, IfOk};
 ghost use Rattle.std.specs.List.{range_with_len};
 ghost use Rattle.textwrap_base.specs.Minima.{counted};
 ghost use Rattle.textwrap_hyphens.specs.Hyphenation.{is_odd, joints_of};
-ghost use Rattle.textwrap_hyphens.specs.Levels.{dotted, level, levels_of};
+ghost use Rattle.textwrap_hyphens.specs.Levels.{dotted, levels_of};
 ghost use Rattle.textwrap_hyphens.specs.Table.{held, levels_by};
 
 use crate::table::{PatternTable, PatternTrie};
@@ -111,16 +111,23 @@ pub(crate) fn is_odd(levels: &[usize], place: usize) -> bool
     levels[place + 1] % 2 == 1
 }
 
-/// Raises the levels of all places of a dotted word to those that its patterns give them.
-fn raise_all(levels: &mut [usize], dotted: &[char], patterns: &PatternTrie<'_>, lookups: &mut Steps)
-    requires { length levels.old ≡ length dotted.now + 1 }
-    ensures levels { (k : ℕ) → k < length levels.old → slice_index levels.new k
-        ≡ max (slice_index levels.old k) (level (levels_by patterns.now) dotted.now k) }
-    ensures lookups { lookups.new ≤ counted lookups.old (length dotted.now * patterns.now.longest) }
+/// Raises the levels of all places of a word between two dots, which are 0, to those that its patterns
+/// give them.
+pub(crate) fn raise_all(
+    levels: &mut [usize],
+    whole: &[char],
+    patterns: &PatternTrie<'_>,
+    lookups: &mut Steps,
+)
+    requires len { length levels.old ≡ length whole.now + 1 }
+    requires zero { All (λ level. level ≡ 0) levels.old }
+    ensures levels { (letters : List ℕ) → whole.now ≡ dotted letters
+        → levels.new ≡ levels_of (levels_by patterns.now) letters }
+    ensures lookups { lookups.new ≤ counted lookups.old (length whole.now * patterns.now.longest) }
     ensures never_less { lookups.old ≤ lookups.new }
 {
     for at in 0..levels.len() {
-        let text = &dotted[at..];
+        let text = &whole[at..];
         patterns.raise_from(&mut levels[at..], text, lookups);
     }
 }

@@ -1,23 +1,27 @@
 //! The points at which a dictionary has a hyphen.
-ghost use Rattle.std.specs.Prelude.{◌≡◌, ◌++◌, ◌<◌, ◌≤◌, ◌&&◌, All, length, map, not};
+ghost use Rattle.std.specs.Prelude.{◌≡◌, ℕ, ◌++◌, ◌+◌, ◌<◌, ◌≤◌, ◌&&◌, All, List, length, map, not, take};
 ghost use Rattle.std.specs.Prelude.{slice_index, IfOk, OnOk};
 ghost use Rattle.std.specs.List.{list_any};
 ghost use Rattle.textwrap_words.specs.Cuts.{AreInnerCuts};
-ghost use Rattle.textwrap_patterns.specs.Letters.{is_hyphen_character};
+ghost use Rattle.textwrap_patterns.specs.Letters.{is_hyphen_character, letters_of};
 ghost use Rattle.textwrap_patterns.specs.Places.{AreInnerPlaces};
 ghost use Rattle.textwrap_hyphens.specs.Hyphenation.{is_allowed, is_far, is_place, joints_of, part};
 ghost use Rattle.textwrap_hyphens.specs.Hyphenation.{part_places, places_from, places_of};
-ghost use Rattle.textwrap_hyphens.specs.Levels.{levels_of};
+ghost use Rattle.textwrap_hyphens.specs.Levels.{dot, dotted, levels_of};
 ghost use Rattle.textwrap_hyphens.specs.Points.{hyphenation_points, is_behind_soft, pattern_points, points_at};
 ghost use Rattle.textwrap_hyphens.specs.Points.{points_in, points_past, soft_places, soft_points};
 ghost use Rattle.textwrap_hyphens.specs.Table.{held};
 
-use crate::levels::{is_odd, joints, levels};
+use crate::levels::{is_odd, joints, levels, raise_all};
 use crate::table::PatternTable;
 use std::alloc::{AllocError, Allocator};
+use textwrap_base::minima::Steps;
 use textwrap_patterns::letters::{
-    Letter, counts, has_letters, is_hyphen, is_letter, letters_of, run_len,
+    Letter, counts, has_letters, is_hyphen, is_letter, letters_of, put_letters, run_len,
 };
+
+/// For so many letters there is room that needs no memory.
+const ROOM: usize = 32;
 
 /// The offsets in bytes at which a word has a hyphen by a dictionary. They increase, inside the
 /// word, and are character boundaries.
@@ -52,12 +56,29 @@ fn found_points<A: Allocator + Copy>(
 ) -> Result<Vec<usize, A>, AllocError>
     ensures { IfOk result (λ points. points.items ≡ hyphenation_points (held patterns.now) word.now) }
 {
+    let mut room = [Letter { at: 0, ch: '.' }; ROOM];
+    if let Some(count) = put_letters(word, &mut room) {
+        return points_of(alloc, word.as_bytes(), &room[..count], patterns);
+    }
     let letters = letters_of(alloc, word)?;
-    let points = soft_points(alloc, word.as_bytes(), &letters, patterns)?;
+    points_of(alloc, word.as_bytes(), &letters, patterns)
+}
+
+/// The same for a word whose letters are known.
+fn points_of<A: Allocator + Copy>(
+    alloc: A,
+    word: &[u8],
+    letters: &[Letter],
+    patterns: &PatternTable<'_>,
+) -> Result<Vec<usize, A>, AllocError>
+    requires { letters.now ≡ letters_of word.now }
+    ensures { IfOk result (λ points. points.items ≡ hyphenation_points (held patterns.now) word.now) }
+{
+    let points = soft_points(alloc, word, letters, patterns)?;
     if !points.is_empty() {
         return Ok(points);
     }
-    pattern_points(alloc, &letters, patterns)
+    pattern_points(alloc, letters, patterns)
 }
 
 /// The points that soft hyphens give, if they are asked for.
@@ -162,9 +183,75 @@ fn push_points<A: Allocator + Copy>(
     ensures { OnOk result (points.new.items
         ≡ points.old.items ++ points_in (held patterns.now) run.now) }
 {
+    if run.len() <= ROOM && patterns.joints().is_none() {
+        let mut room = ['.'; ROOM + 2];
+        put_between(run, &mut room);
+        let whole = &room[..run.len() + 2];
+        return push_places(points, run, &whole[1..run.len() + 1], whole, patterns);
+    }
     let letters = letters_in(alloc, run)?;
     let places = places(alloc, &letters, patterns)?;
     push_begins(points, run, &places)
+}
+
+/// Puts the letters of a run between dots.
+fn put_between(run: &[Letter], room: &mut [char])
+    requires dots { All (λ c. c ≡ dot) room.old }
+    requires room { length run.now + 2 ≤ length room.old }
+    ensures { take (length run.now + 2) room.new ≡ dotted (map (λ c. c.ch) run.now) }
+{
+    for (at, letter) in run.iter().enumerate() {
+        room[at + 1] = letter.ch;
+    }
+}
+
+/// The same by a dictionary without joints, for few letters, which stand between two dots: no memory is
+/// needed for what is between.
+fn push_places<A: Allocator>(
+    points: &mut Vec<usize, A>,
+    run: &[Letter],
+    letters: &[char],
+    whole: &[char],
+    patterns: &PatternTable<'_>,
+) -> Result<(), AllocError>
+    requires few { length run.now ≤ ROOM }
+    requires letters { letters.now ≡ map (λ c. c.ch) run.now }
+    requires whole { whole.now ≡ dotted letters.now }
+    requires joints { (text : List ℕ) (place : ℕ) → (held patterns.now).joint_from text place ≡ 0 }
+    ensures { OnOk result (points.new.items
+        ≡ points.old.items ++ points_in (held patterns.now) run.now) }
+{
+    if let Some(places) = patterns.exception(letters) {
+        return push_begins(points, run, places);
+    }
+    if !has_letters(letters, patterns.left().saturating_add(patterns.right())) {
+        return Ok(());
+    }
+    let mut room = [0; ROOM + 3];
+    let levels = &mut room[..whole.len() + 1];
+    raise_all(levels, whole, &patterns.patterns(), &mut Steps::new());
+    push_odd(points, run, letters, levels, patterns)
+}
+
+/// Adds where the letters of a run begin that stand behind places with these levels.
+fn push_odd<A: Allocator>(
+    points: &mut Vec<usize, A>,
+    run: &[Letter],
+    letters: &[char],
+    levels: &[usize],
+    patterns: &PatternTable<'_>,
+) -> Result<(), AllocError>
+    requires letters { letters.now ≡ map (λ c. c.ch) run.now }
+    requires levels { levels.now ≡ levels_of (held patterns.now).level_from letters.now }
+    ensures { OnOk result (points.new.items ≡ points.old.items
+        ++ points_at run.now (part_places (held patterns.now) letters.now 0 (length letters.now))) }
+{
+    for place in 1..letters.len() {
+        if is_place(place, 0, letters.len(), letters, levels, patterns) {
+            points.push(run[place].at)?;
+        }
+    }
+    Ok(())
 }
 
 /// The letters of a run.
@@ -280,6 +367,7 @@ fn push_part<A: Allocator + Copy>(
 }
 
 /// Whether a place of a part of a word has an odd level there, and is far enough from its ends.
+#[inline(always)]
 fn is_place(
     place: usize,
     from: usize,
@@ -298,6 +386,7 @@ fn is_place(
 }
 
 /// Whether a place of a part of a word has enough letters between it and a joint, and is allowed.
+#[inline(always)]
 fn is_far(
     place: usize,
     from: usize,

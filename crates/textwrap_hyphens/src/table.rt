@@ -9,7 +9,7 @@ ghost use Rattle.textwrap_hyphens.specs.Table.{held, levels_by};
 
 use textwrap_base::minima::Steps;
 use textwrap_patterns::written::are_inner;
-use textwrap_trie::lookup::{numbers_for, raise_levels};
+use textwrap_trie::lookup::Trie;
 
 /// What the first number of a table says: "Twh", and a number that is raised where the layout changes.
 pub(crate) const VERSION: usize = 0x5477_6805;
@@ -133,7 +133,7 @@ impl<'t> PatternTable<'t> {
         ensures { MatchOption result ((held self.now).exception letters.now ≡ None)
             (λ places. (held self.now).exception letters.now ≡ Some places.now) }
     {
-        match numbers_for(self.words, from_end(self.words, 6), letters) {
+        match Trie::at(self.words, from_end(self.words, 6)).numbers_for(letters) {
             Some(places) => inner_places(letters.len(), places),
             None => None,
         }
@@ -164,8 +164,7 @@ impl<'t> PatternTable<'t> {
             return None;
         }
         Some(PatternTrie {
-            words: self.words,
-            root: from_end(self.words, 10),
+            trie: Trie::at(self.words, from_end(self.words, 10)),
             longest: from_end(self.words, 9),
         })
     }
@@ -176,8 +175,7 @@ impl<'t> PatternTable<'t> {
         ensures longest { result.longest ≡ (held self.now).longest }
     {
         PatternTrie {
-            words: self.words,
-            root: from_end(self.words, 5),
+            trie: Trie::at(self.words, from_end(self.words, 5)),
             longest: from_end(self.words, 4),
         }
     }
@@ -186,8 +184,7 @@ impl<'t> PatternTable<'t> {
 /// The patterns of a dictionary: a trie, and how many letters the longest of them has.
 #[derive(Clone, Copy, Debug)]
 pub(crate) struct PatternTrie<'t> {
-    words: &'t [usize],
-    root: usize,
+    trie: Trie<'t>,
     longest: usize,
 }
 
@@ -201,7 +198,7 @@ impl PatternTrie<'_> {
         ensures never_less { lookups.old ≤ lookups.new }
     {
         let text = &text[..self.longest.min(text.len())];
-        raise_levels(self.words, self.root, text, levels, lookups);
+        self.trie.raise_levels(text, levels, lookups);
     }
 }
 

@@ -6,7 +6,6 @@ pub mod FirstTexLines
 pub mod FirstWords
 pub mod FirstWrong
 pub mod Gaps
-pub mod PrintableLetters
 pub mod Said
 pub mod Sections
 pub mod Skipped

@@ -53,27 +53,6 @@ pub fn put_letters(word: &str, room: &mut [Letter]) -> Option<usize>
         put_printable(word.as_bytes(), room);
         return Some(word.len());
     }
-    put_characters(word, room)
-}
-
-/// The same for a word of printable ASCII, in which each byte is a letter.
-fn put_printable(word: &[u8], room: &mut [Letter])
-    requires printable { IsPrintable word.now }
-    requires room { length word.now ≤ length room.old }
-    ensures { take (length word.now) room.new ≡ letters_of word.now }
-{
-    for (at, byte) in word.iter().enumerate() {
-        let ch = byte.to_ascii_lowercase() as char;
-        room[at] = Letter { at, ch };
-    }
-}
-
-/// The same for any word, character by character.
-fn put_characters(word: &str, room: &mut [Letter]) -> Option<usize>
-    ensures within { IfSome result (λ count. count ≤ length room.new) }
-    ensures letters { IfSome result (λ count. take count room.new ≡ letters_of word.now) }
-    ensures none { IfNone result (length room.old < length (letters_of word.now)) }
-{
     let mut count = 0;
     for character in Characters::of(word) {
         if character.is_visible && character.ch != '\u{ad}' {
@@ -89,6 +68,18 @@ fn put_characters(word: &str, room: &mut [Letter]) -> Option<usize>
         }
     }
     Some(count)
+}
+
+/// The same for a word of printable ASCII, in which each byte is a letter.
+fn put_printable(word: &[u8], room: &mut [Letter])
+    requires printable { IsPrintable word.now }
+    requires room { length word.now ≤ length room.old }
+    ensures { take (length word.now) room.new ≡ letters_of word.now }
+{
+    for (at, byte) in word.iter().enumerate() {
+        let ch = byte.to_ascii_lowercase() as char;
+        room[at] = Letter { at, ch };
+    }
 }
 
 /// How many letters stand at the beginning, where an apostrophe before a letter counts as one.

@@ -23,10 +23,13 @@ const OTHERS: [&str; 6] = ["\u{e4}1\u{df}", "\u{df}1e", "\u{130}1i", "1d1'a", ".
 /// rule that it shows.
 #[rattlefmt::skip]
 const REFUSED: &[(&str, &str, &[usize], usize)] = &[
-    ("letters, those of the run, between dots, levels, places, points", "hyphenation", &[2, 6], 6),
-    ("each run of letters", "hyphenation/hyphenation", &[2, 6, 14, 18], 10),
-    ("an exception has no levels", "table", &[1, 4], 4),
-    ("a word without letters", "-", &[], 1),
+    ("points alone", "hyphenation", &[2, 6], 1),
+    ("each run of letters", "hyphenation/hyphenation", &[2, 6, 14, 18], 1),
+    ("letters, and points twice", "hyphenation/hyphenation/hyphenation/hyphenation", &[2, 6, 14, 18, 26, 30, 38, 42], 3),
+    ("letters, those of the run, between dots, levels, places and points twice", "hyphenationhyphenationhyphenationhyphenation", &[2, 6, 13, 17, 24, 28, 35, 39], 8),
+    ("an exception", "table", &[1, 4], 1),
+    ("a word without letters", "-", &[], 0),
+    ("a word without points", "than", &[], 0),
 ];
 
 /// Patterns in no order, so that memory is needed to sort them.
@@ -36,12 +39,12 @@ const UNORDERED: &str = "\\patterns{ m1a z1a c1a y1a b1a x1a e1a w1a d1a v1a g1a
 /// What stands in the table of texts, and how many allocations it takes.
 #[rattlefmt::skip]
 const READ: &[((&str, &str, &str, &[usize]), usize)] = &[
-    (("a list", "hy3ph\nhe2n\n1na\nta-ble\n# none\nLEFTHYPHENMIN 2", "hyphenation", &[2]), 74),
-    (("groups of TeX, with many letters at one place", UNORDERED, "lebamale", &[3, 5]), 278),
-    (("patterns of the same letters", "1bl\n2bl\n1bl2\n", "tablets", &[]), 35),
-    (("a charset", "iso 8859-1\nhe2n\nb1c", "abcd", &[2]), 38),
-    (("letters that change", "a1bb1c1d/bb=,2,2", "abbcdefg", &[4]), 39),
-    (("two groups", "UTF-8\nb1c\nNEXTLEVEL\nc1d\nb2c", "abcdef", &[2, 3]), 57),
+    (("a list", "hy3ph\nhe2n\n1na\nta-ble\n# none\nLEFTHYPHENMIN 2", "hyphenation", &[2]), 75),
+    (("groups of TeX, with many letters at one place", UNORDERED, "lebamale", &[3, 5]), 242),
+    (("patterns of the same letters", "1bl\n2bl\n1bl2\n", "tablets", &[]), 37),
+    (("a charset", "iso 8859-1\nhe2n\nb1c", "abcd", &[2]), 39),
+    (("letters that change", "a1bb1c1d/bb=,2,2", "abbcdefg", &[4]), 38),
+    (("two groups", "UTF-8\nb1c\nNEXTLEVEL\nc1d\nb2c", "abcdef", &[2, 3]), 67),
 ];
 
 /// The letters of the patterns that are counted.
@@ -118,9 +121,10 @@ fn has_lookups(alloc: Global, word: &str, patterns: &Patterns, wanted: u128) -> 
 fn look_ups_are_counted(rt: HostRuntime) -> Result<(), AllocError> {
     let alloc = rt.alloc();
     let patterns = listed(alloc, &LIANG)?;
-    // From each place on, each letter up to the first with which no pattern goes on.
+    // From each place on, each letter up to the first with which no pattern goes on, but none behind a
+    // pattern that no other one begins with.
     let rule = "each letter up to the first with which no pattern goes on";
-    assert_found(&rt, rule, has_lookups(alloc, "hyphenation", &patterns, 32));
+    assert_found(&rt, rule, has_lookups(alloc, "hyphenation", &patterns, 27));
     Ok(())
 }
 

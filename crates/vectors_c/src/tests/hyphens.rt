@@ -24,10 +24,13 @@ use textwrap_more_calls::tables::TextwrapColumn;
 const PATTERNS: &[u8] = b"hy3ph\nhe2n\nhena4\nhen5at\n1na\nn2at\n1tio\n2io\no2n\n";
 
 /// How many numbers their dictionary has.
-const NUMBERS: usize = 179;
+const NUMBERS: usize = 202;
 
 /// How much room for numbers the longest row has.
-const MOST: usize = 200;
+const MOST: usize = 220;
+
+/// A slot of a trie that is empty.
+const FREE: usize = 8_388_607;
 
 /// A number that was not written.
 const NO_NUMBER: usize = 99;
@@ -37,20 +40,26 @@ const NO_NUMBER: usize = 99;
 macro_rules! numbers {
     ($second:literal, $left:literal, $right:literal $(, $sum:literal)?) => {
         &[
-            1_417_111_556, $second, 0, 0, 2, 0, 5, 0, 0, 0, 0, 4, 6, 0, 0, 0, 5, 0, 0, 12, 0, 0, 0, 6, 0, 0,
-            2, 116, 19, 1, 0, 0, 2, 97, 23, 0, 0, 0, 2, 110, 29, 5, 0, 0, 3, 0, 0, 41, 0, 0, 0, 0, 0, 0, 2,
-            104, 47, 0, 0, 0, 2, 112, 51, 0, 0, 0, 4, 101, 121, 35, 57, 3, 2, 0, 0, 71, 0, 0, 0, 0, 0, 0, 2,
-            111, 75, 3, 1, 0, 0, 4, 0, 2, 0, 0, 89, 0, 0, 0, 85, 0, 0, 2, 116, 94, 0, 0, 0, 2, 97, 98, 3, 0,
-            2, 0, 110, 0, 0, 0, 0, 0, 0, 2, 110, 114, 4, 1, 0, 0, 0, 124, 0, 0, 0, 0, 0, 0, 2, 111, 129, 0,
-            0, 0, 2, 105, 133, 0, 0, 0, 10, 104, 105, 110, 111, 116, 63, 79, 104, 118, 139, 0, 0, 0, 0, 0,
-            0, 0, 0, 0, 0, 163, 0, 0, 0, 159, 145, 5, $left, $right $(, $sum)?
+            1_417_111_557, $second, 137, 41_943_040, 0, 0, 0, 0, 0, 234_881_024, 0, 0, 0, 0, FREE, FREE,
+            FREE, FREE, FREE, 0, FREE, FREE, 0, FREE, FREE, FREE, FREE, FREE, FREE, FREE, FREE, FREE, FREE,
+            FREE, FREE, FREE, FREE, FREE, FREE, FREE, FREE, FREE, FREE, FREE, FREE, FREE, FREE, FREE, FREE,
+            FREE, FREE, FREE, FREE, FREE, FREE, FREE, FREE, FREE, FREE, FREE, FREE, FREE, FREE, FREE, FREE,
+            FREE, FREE, FREE, FREE, FREE, FREE, FREE, FREE, FREE, FREE, FREE, FREE, FREE, FREE, FREE, FREE,
+            FREE, FREE, FREE, FREE, FREE, FREE, FREE, FREE, FREE, FREE, FREE, FREE, FREE, FREE, FREE, FREE,
+            FREE, FREE, FREE, FREE, FREE, 2_097_250, FREE, FREE, FREE, FREE, FREE, FREE, 16_777_318,
+            52_428_898, 155_189_353, FREE, FREE, FREE, FREE, 10_485_871, FREE, FREE, FREE, 96_469_109,
+            25_165_937, 205_521_008, 348_127_344, 314_572_911, 67_108_970, 272_629_877, 33_554_537,
+            58_720_362, 41_943_162, FREE, FREE, FREE, 75_497_583, 83_886_192, FREE, FREE, FREE, FREE,
+            134_217_845, 4, 0, 0, 2, 0, 5, 0, 0, 0, 0, 4, 6, 0, 0, 0, 5, 0, 0, 5, 0, 0, 3, 0, 0, 3, 2, 0,
+            0, 3, 1, 0, 0, 4, 0, 2, 0, 0, 3, 0, 2, 0, 4, 1, 0, 0, 0, 6_291_456, 0, 6_291_456, 0, 0, 0, 188,
+            0, 0, 0, 186, 1, 5, $left, $right $(, $sum)?
         ]
     };
 }
 
 /// The dictionary of the patterns.
 const WHOLE: TextwrapDictionary<'_> = TextwrapDictionary {
-    numbers: numbers!(4, 2, 3, 6_801_792_606_751_304_381),
+    numbers: numbers!(159_383_552, 2, 3, 12_027_845_612_238_754_055),
     ..NO_DICTIONARY
 };
 
@@ -83,19 +92,19 @@ const FAR: TextwrapDictionary<'_> = TextwrapDictionary { left: 3, ..WHOLE };
 
 /// Numbers of which one is another.
 const CHANGED: TextwrapDictionary<'_> = TextwrapDictionary {
-    numbers: numbers!(5, 2, 3, 6_801_792_606_751_304_381),
+    numbers: numbers!(159_383_553, 2, 3, 12_027_845_612_238_754_055),
     ..WHOLE
 };
 
 /// Numbers of which two are exchanged: how many letters stay before a point, and how many behind it.
 const EXCHANGED: TextwrapDictionary<'_> = TextwrapDictionary {
-    numbers: numbers!(4, 3, 2, 6_801_792_606_751_304_381),
+    numbers: numbers!(159_383_552, 3, 2, 12_027_845_612_238_754_055),
     ..WHOLE
 };
 
 /// Numbers without the last one.
 const SHORT: TextwrapDictionary<'_> = TextwrapDictionary {
-    numbers: numbers!(4, 2, 3),
+    numbers: numbers!(159_383_552, 2, 3),
     ..WHOLE
 };
 
@@ -288,18 +297,26 @@ const REFUSED_TEXTS: &[RefusedTexts] = &[
         (TextCall::Fill(TextwrapOptions { dictionary: TextwrapDictionary { is_checked: 2, ..WHOLE }, ..AT_11 }), b"a"),
         (TextCall::Fill(TextwrapOptions { dictionary: TextwrapDictionary { soft_hyphens: 2, ..WHOLE }, ..AT_11 }), b"a"),
         (TextCall::Fill(TextwrapOptions { dictionary: TextwrapDictionary { reserved: 1, ..NO_DICTIONARY }, ..AT_11 }), b"a"),
-        (TextCall::Refill(AT_UNKNOWN), b"\xff"),
-        (TextCall::Refill(TextwrapOptions { dictionary: TextwrapDictionary { is_checked: 2, ..WHOLE }, ..AT_11 }), b"a"),
-        (TextCall::Refill(TextwrapOptions { dictionary: SHORT, ..WRONG_INDENT }), b"a"),
         (TextCall::Fill(TextwrapOptions { dictionary: SHORT, ..AT_11 }), b"\xff"),
         (TextCall::Fill(TextwrapOptions { dictionary: SHORT, ..WRONG_INDENT }), b"a"),
-        (TextCall::Refill(TextwrapOptions { dictionary: CHANGED, ..AT_11 }), b"a"),
         (TextCall::Fill(TextwrapOptions { dictionary: CHANGED, ..AT_11 }), b"a"),
         (TextCall::Fill(TextwrapOptions { dictionary: EXCHANGED, ..AT_11 }), b"a"),
         (TextCall::Fill(TextwrapOptions { dictionary: SHORT, ..AT_11 }), b"a"),
         (TextCall::FillJustified(TextwrapOptions { dictionary: SHORT, ..AT_11 }), b"\xff"),
     ]),
-    (NOT_UTF8, &[(TextCall::Refill(WRONG_INDENT), b"a"), (TextCall::Fill(AT_11), b"\xff"), (TextCall::Fill(WRONG_INDENT), b"a")]),
+    (NOT_UTF8, &[(TextCall::Fill(AT_11), b"\xff"), (TextCall::Fill(WRONG_INDENT), b"a")]),
+];
+
+/// The same where a text is refilled.
+#[rattlefmt::skip]
+const REFUSED_REFILLS: &[RefusedTexts] = &[
+    (UNKNOWN_OPTIONS, &[
+        (TextCall::Refill(AT_UNKNOWN), b"\xff"),
+        (TextCall::Refill(TextwrapOptions { dictionary: TextwrapDictionary { is_checked: 2, ..WHOLE }, ..AT_11 }), b"a"),
+        (TextCall::Refill(TextwrapOptions { dictionary: SHORT, ..WRONG_INDENT }), b"a"),
+        (TextCall::Refill(TextwrapOptions { dictionary: CHANGED, ..AT_11 }), b"a"),
+    ]),
+    (NOT_UTF8, &[(TextCall::Refill(WRONG_INDENT), b"a")]),
 ];
 
 /// The same of the calls that write lines.
@@ -324,6 +341,7 @@ const REFUSED_LINES: &[RefusedLines] = &[
 fn texts_are_filled_with_hyphens(rt: HostRuntime) {
     assert_texts(&rt, FILLED);
     assert_no_texts(&rt, REFUSED_TEXTS);
+    assert_no_texts(&rt, REFUSED_REFILLS);
     assert_beginnings(&rt, FILLED);
 }
 

@@ -6,7 +6,7 @@ use Rattle.textwrap_hyphens.proofs.Common.{length-take, max, take}
 use Rattle.textwrap_hyphens.proofs.Common.{◌+◌, ◌-◌, ◌<◌, ◌≡◌, ◌≤◌, ◌∙◌, ⊎_elim, ◌++◌}
 use borrow.Rule.Slice.PartMut.{put_mid, post_of}
 use Rattle.textwrap_hyphens.proofs.Raised.{before-all, before-here, before-past, before-none}
-use Rattle.textwrap_hyphens.proofs.Raised.{level_before}
+use Rattle.textwrap_hyphens.proofs.Raised.{level_before, levels-all}
 use Rattle.textwrap_text.proofs.Common.{◌*◌}
 use Rattle.textwrap_hyphens.proofs.Common.{min}
 use Rattle.textwrap_hyphens.proofs.Lookups.{counted-both, lookups-more}
@@ -19,7 +19,7 @@ loop-at-init c = record {
       omega (
         arith,
         before-none
-            (levels_by c.args.patterns.now) c.args.dotted.now k,
+            (levels_by c.args.patterns.now) c.args.whole.now k,
       );
   lookups = omega arith;
   never_less = omega arith;
@@ -27,12 +27,12 @@ loop-at-init c = record {
 
 pub loop-at-preserved : goal.loop-at-preserved
 loop-at-preserved c =
-    let text = c.args.dotted.now in
+    let text = c.args.whole.now in
     let most = c.args.patterns.now.longest in
     record {
       levels = λ k within.
           let from = (levels_by c.args.patterns.now) in
-          let ds = c.args.dotted.now in
+          let ds = c.args.whole.now in
           let at = c.loop-at.at in
           let old = c.loop-at.levels in
           let part = c.raise_from.new.levels in
@@ -67,7 +67,7 @@ loop-at-preserved c =
           let was = get_or-drop at old (k - at) 0
           ∙ ap (λ n. get_or old n 0) (let e : at + (k - at) ≡ k = omega (arith, le) in e) in
           let raised = c.raise_from.ensures.levels (k - at)
-          (omega (arith, ap length (take_rest ds at), length-drop at ds, inside, all, c.requires, le)) in
+          (omega (arith, ap length (take_rest ds at), length-drop at ds, inside, all, c.requires.len, le)) in
           let here = before-here from ds at k le in
           let text = ap (λ t. from t (k - at)) (take_rest ds at) in
           let slice = ap (λ l. get_or l (k - at) 0) (take_rest old at) in
@@ -83,16 +83,19 @@ loop-at-preserved c =
     }
 
 pub returns-clause-levels : goal.returns-clause-levels
-returns-clause-levels c = λ k within.
-    let all = before-all (levels_by c.args.patterns.now)
-    c.args.dotted.now c.loop-at.at k
+returns-clause-levels c = λ letters is.
+    let from = levels_by c.args.patterns.now in
+    levels-all from letters c.args.whole.now c.args.levels.now c.loop-at.levels is c.requires.len
+    (λ k within. c.requires.zero k 0 within) c.loop-at.auto.levels
+    (λ k within.
+    let all = before-all from c.args.whole.now c.loop-at.at k
     (omega (arith, within, c.loop-at-test.false)) in
-    omega (arith, all, c.loop-at.invariant.levels k (omega (arith, within, c.loop-at.auto.levels)))
+    omega (arith, all, c.loop-at.invariant.levels k (omega (arith, within, c.loop-at.auto.levels))))
 
 pub returns-clause-lookups : goal.returns-clause-lookups
 returns-clause-lookups c =
-    let text = c.args.dotted.now in
+    let text = c.args.whole.now in
     let most = c.args.patterns.now.longest in
     let all : min c.loop-at.at (length text) ≡ length text = omega
-    (arith, c.requires, c.loop-at-test.false, c.loop-at.auto.at-end, c.loop-at.auto.levels) in
+    (arith, c.requires.len, c.loop-at-test.false, c.loop-at.auto.at-end, c.loop-at.auto.levels) in
     rw all at c.loop-at.invariant.lookups

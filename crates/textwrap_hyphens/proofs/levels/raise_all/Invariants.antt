@@ -13,8 +13,8 @@ invariant-loop-at l =
     record {
       levels : (k : ℕ) → k < length l.levels
           → get_or l.levels k 0 ≡ max (get_or l.initial.levels k 0)
-          (level_before (levels_by l.patterns) l.dotted l.at k);
+          (level_before (levels_by l.patterns) l.whole l.at k);
       lookups : l.lookups ≤ counted l.initial.lookups
-          (min l.at (length l.dotted) * l.patterns.longest);
+          (min l.at (length l.whole) * l.patterns.longest);
       never_less : l.initial.lookups ≤ l.lookups;
     }

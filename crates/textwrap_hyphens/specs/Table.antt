@@ -1,7 +1,7 @@
 -- A dictionary, and what stands in it, as what its numbers say.
 use Rattle.std.specs.Prelude.{ℕ, List, take}
 use Rattle.textwrap_hyphens.specs.Hyphenation.{Hyphenation}
-use Rattle.textwrap_trie.specs.Trie.{level_in}
+use Rattle.textwrap_trie.specs.Trie.{trie_level}
 use Rattle.textwrap_trie.specs.Tries.{trie_view}
 pub use Rattle.textwrap_hyphens.specs.Numbers.{held_in, levels_at}
 use Rattle.textwrap_hyphens.specs.declared.dictionary.Patterns.{Patterns}
@@ -10,7 +10,7 @@ use Rattle.textwrap_hyphens.specs.declared.table.PatternTrie.{PatternTrie}
 
 -- what some patterns say of the levels of a text
 abbrev pub levels_by : PatternTrie → List ℕ → ℕ → ℕ
-levels_by t text place = level_in (trie_view t.trie) (take t.longest text) place
+levels_by t text place = trie_level (trie_view t.trie) (take t.longest text) place
 
 abbrev pub held : PatternTable → Hyphenation
 held table = record (held_in table.words.now table.in_parts) {

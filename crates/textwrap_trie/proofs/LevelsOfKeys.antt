@@ -3,7 +3,7 @@
 use Rattle.std.specs.Prelude.{bytes_eq}
 use Rattle.textwrap_text.proofs.Common.{ap, ap₂, arith, Bool, cond, eqb, false, get_or}
 use Rattle.textwrap_text.proofs.Common.{get_or_past, List, max, nat_eq, None, Option, refl, Some}
-use Rattle.textwrap_text.proofs.Common.{starts_with, suc, sym, true, unwrap_or, ℕ, ◌≡◌, ◌∙◌, ◌∷◌}
+use Rattle.textwrap_text.proofs.Common.{starts_with, suc, true, unwrap_or, ℕ, ◌≡◌, ◌∙◌, ◌∷◌}
 use Rattle.textwrap_text.proofs.Common.{[]}
 use Rattle.textwrap_trie.proofs.FirstEntries.{entry_for-none, others-behind}
 use Rattle.textwrap_trie.specs.Entries.{AreSortedFrom, entry_for}

@@ -1,6 +1,6 @@
 -- Lists of numbers within one.
 use Rattle.textwrap_text.proofs.Common.{[], ap, append_assoc, arith, drop, get_or, length, List, min}
-use Rattle.textwrap_text.proofs.Common.{drop-drop, get_or-drop, length-take}
+use Rattle.textwrap_text.proofs.Common.{drop-drop, length-take}
 use Rattle.textwrap_text.proofs.Common.{refl, take, take_at, ℕ, ◌++◌, ◌+◌, ◌-◌, ◌<◌, ◌∙◌, ◌∷◌, ◌≡◌}
 use Rattle.textwrap_text.proofs.Common.{get_or_append_left, length-append, length-drop, suc, take-append-le, ◌≤◌}
 use Rattle.std.proofs.Math.Seq.{drop-append_seam}

@@ -1,11 +1,11 @@
 -- What is left in the slots of a trie where a node is put among them.
 use Rattle.textwrap_text.proofs.Common.{[], All, All-head, All-tail, ap, arith, Bool, cases_eq}
-use Rattle.textwrap_text.proofs.Common.{cond, eq-eqb, eqb, eqb-true, false, get_or, get_or_past, length}
+use Rattle.textwrap_text.proofs.Common.{cond, eq-eqb, eqb, eqb-true, false, get_or, length}
 use Rattle.textwrap_text.proofs.Common.{List, ne_eqb, None, Option, refl, Some, suc, sym, take, take_more, true, ℕ}
-use Rattle.textwrap_text.proofs.Common.{⊎_elim, ◌*◌, ◌++◌, ◌/◌, ◌+◌, ◌<◌, ◌∙◌, ◌∷◌, ◌≡◌, ◌≢◌, ◌≤◌}
+use Rattle.textwrap_text.proofs.Common.{⊎_elim, ◌*◌, ◌++◌, ◌+◌, ◌<◌, ◌∙◌, ◌∷◌, ◌≡◌, ◌≢◌}
 use Rattle.std.proofs.lemmas.List.Elements.{All-push}
 use Rattle.std.specs.Prelude.{◌%◌, nat_lt}
-use Rattle.textwrap_trie.specs.Trie.{child_at, child_in, child_of, empty_slot, kind_of, list_of, place_of, slot_at}
+use Rattle.textwrap_trie.specs.Trie.{child_at, child_in, empty_slot, kind_of, place_of, slot_at}
 use Rattle.textwrap_trie.specs.Writing.{AreFree, child_for, HaveParents, IsKind, IsLater, IsNodeOf, slot_for}
 use Rattle.textwrap_trie.specs.declared.slots.Child.{Child}
 

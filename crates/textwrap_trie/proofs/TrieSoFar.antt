@@ -2,7 +2,7 @@
 use Rattle.textwrap_text.proofs.Common.{[], All, All-drop, All-head, All-tail, All-take}
 use Rattle.textwrap_text.proofs.Common.{ap, append-nil, append_assoc, arith, cases_eq, cond, drop, eq-eqb}
 use Rattle.textwrap_text.proofs.Common.{eqb, get_or, get_or-drop, get_or_default, length}
-use Rattle.textwrap_text.proofs.Common.{length-append, length-drop, List, ne_eqb, None, Option}
+use Rattle.textwrap_text.proofs.Common.{length-drop, List, ne_eqb, None, Option}
 use Rattle.textwrap_text.proofs.Common.{refl, Some, subst, suc, sym, take, take-append-drop, ℕ, ⊎_elim}
 use Rattle.textwrap_text.proofs.Common.{◌*◌, ◌++◌, ◌+◌, ◌-◌, ◌<◌, ◌∙◌, ◌∷◌, ◌≡◌, ◌≢◌, ◌≤◌}
 use Rattle.std.proofs.lemmas.List.Elements.{All-push}

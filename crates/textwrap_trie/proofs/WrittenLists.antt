@@ -3,12 +3,11 @@ use Rattle.textwrap_text.proofs.Common.{[], ap, append-nil, append_assoc, arith,
 use Rattle.textwrap_text.proofs.Common.{length, length-append, List, None, Option, refl, Some, sym}
 use Rattle.textwrap_text.proofs.Common.{ℕ, ◌*◌, ◌++◌, ◌+◌, ◌<◌, ◌∙◌, ◌∷◌, ◌≡◌, ◌≤◌}
 use Rattle.std.proofs.lemmas.List.{get_or_at}
-use Rattle.std.specs.Option.{option_map}
 use Rattle.textwrap_trie.proofs.ListsWithin.{numbers_at-written, rest-written}
 use Rattle.textwrap_trie.proofs.PutNodes.{later-same}
 use Rattle.textwrap_trie.specs.Entries.{entry_for}
 use Rattle.textwrap_trie.specs.Trie.{lists_of, numbers_at, numbers_below, numbers_for}
-use Rattle.textwrap_trie.specs.Writing.{IsList, IsListOf, IsTrie, IsWhole}
+use Rattle.textwrap_trie.specs.Writing.{IsList, IsListOf, IsTrie, HoldsTrie}
 use Rattle.textwrap_trie.specs.declared.entries.TrieEntry.{TrieEntry}
 
 pub list-none : (old : List ℕ) → IsListOf None old old None
@@ -44,7 +43,7 @@ entry_for-ended {A} depth (e ∷ es) first some is ended = grind (arith, drop_al
 
 pub whole-written : (node root : ℕ) (slots lists old pushed sloted new : List ℕ) → root ≡ length old
     → pushed ≡ old ++ node ∷ [] → sloted ≡ pushed ++ length slots ∷ slots → new ≡ sloted ++ lists
-    → IsWhole node slots lists old new root
+    → HoldsTrie node slots lists old new root
 whole-written node root slots lists old pushed sloted new at first second third = record {
   added = node ∷ ((length slots ∷ slots) ++ lists);
   grown = third ∙ ap (λ w. w ++ lists) second ∙ append_assoc pushed (length slots ∷ slots) lists
@@ -80,7 +79,7 @@ whole-written node root slots lists old pushed sloted new at first second third 
 pub whole-keys : {A : Type 0} (entries : List (TrieEntry A)) (node slot root : ℕ)
     (slots lists written_slots written_lists old new more key : List ℕ)
     → slot ≡ node * 0x200000 + 0 → slots ≡ written_slots → lists ≡ written_lists
-    → IsWhole slot slots lists old new root
+    → HoldsTrie slot slots lists old new root
     → IsTrie 0 entries written_slots written_lists node
     → numbers_for key (new ++ more) root ≡ entry_for 0 entries key
 whole-keys entries node slot root slots lists written_slots written_lists old new more key is one two whole trie =

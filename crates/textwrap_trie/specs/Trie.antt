@@ -92,11 +92,11 @@ abbrev pub numbers_in : TrieNumbers → List ℕ → Option (List ℕ)
 numbers_in trie key = numbers_below key trie.slots trie.lists trie.root
 
 -- the greatest number at a place that a key of a trie has with which a text begins
-abbrev pub level_in : TrieNumbers → List ℕ → ℕ → ℕ
-level_in trie text place = level_below text trie.slots trie.lists trie.root place
+abbrev pub trie_level : TrieNumbers → List ℕ → ℕ → ℕ
+trie_level trie text place = level_below text trie.slots trie.lists trie.root place
 
 abbrev pub numbers_for : List ℕ → List ℕ → ℕ → Option (List ℕ)
 numbers_for key words at = numbers_in (trie_at words at) key
 
 abbrev pub level_from : List ℕ → List ℕ → ℕ → ℕ → ℕ
-level_from text words at place = level_in (trie_at words at) text place
+level_from text words at place = trie_level (trie_at words at) text place

@@ -79,7 +79,7 @@ IsTrie depth entries slots lists node =
     → WithCodes node (λ slot. numbers_below key later (lists ++ more) slot ≡ entry_for depth entries key)
 
 -- at a place stands a trie with this slot of its root, these slots and these lists
-pub record IsWhole (slot : ℕ) (slots lists old new : List ℕ) (root : ℕ) : Type 0 where
+pub record HoldsTrie (slot : ℕ) (slots lists old new : List ℕ) (root : ℕ) : Type 0 where
   pub added : List ℕ
   pub grown : new ≡ old ++ added
   pub root_is : (more : List ℕ) → slice_index (new ++ more) root ≡ slot

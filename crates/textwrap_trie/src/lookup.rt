@@ -3,7 +3,7 @@ ghost use Rattle.std.specs.Prelude.{◌≡◌, ℕ, ◌<◌, ◌≤◌, ◌^◌,
 ghost use Rattle.std.specs.Prelude.{false, nat_lt};
 ghost use Rattle.textwrap_base.specs.Minima.{counted};
 ghost use Rattle.textwrap_trie.specs.Trie.{child_at, child_of, empty_slot, kind_of, level_at, level_below};
-ghost use Rattle.textwrap_trie.specs.Trie.{level_in, lists_of, numbers_in, numbers_of, slots_of, trie_at};
+ghost use Rattle.textwrap_trie.specs.Trie.{trie_level, lists_of, numbers_in, numbers_of, slots_of, trie_at};
 
 use crate::numbers::{list_and_rest, number_at, numbers_at, raise};
 use crate::slots::{CODES, EMPTY, PLACE, slot_at};
@@ -50,7 +50,7 @@ impl<'w> Trie<'w> {
     /// For each letter with which some key goes on, it is looked up once. The call always succeeds.
     pub fn raise_levels(&self, text: &[char], levels: &mut [usize], lookups: &mut Steps)
         ensures levels { (k : ℕ) → k < length levels.old → slice_index levels.new k
-            ≡ max (slice_index levels.old k) (level_in (trie_view self.now) text.now k) }
+            ≡ max (slice_index levels.old k) (trie_level (trie_view self.now) text.now k) }
         ensures lookups { lookups.new ≤ counted lookups.old (length text.now) }
         ensures never_less { lookups.old ≤ lookups.new }
     {

@@ -3,7 +3,7 @@ ghost use Rattle.std.specs.Prelude.{◌≡◌, ℕ, ◌+◌, ◌<◌, ◌≤◌,
 ghost use Rattle.std.specs.Prelude.{None, Some};
 ghost use Rattle.textwrap_trie.specs.Entries.{AreSortedFrom, entry_for};
 ghost use Rattle.textwrap_trie.specs.Merging.{Grows};
-ghost use Rattle.textwrap_trie.specs.Writing.{HaveParents, IsLater, IsListOf, IsTrie, IsWhole};
+ghost use Rattle.textwrap_trie.specs.Writing.{HaveParents, IsLater, IsListOf, IsTrie, HoldsTrie};
 
 use crate::entries::{TrieEntry, ended_len, group_len};
 use crate::lists::{Lists, push_list, write_list};
@@ -78,7 +78,7 @@ pub(crate) fn write_trie<A: Allocator>(
     slots: &[usize],
     lists: &[usize],
 ) -> Result<usize, AllocError>
-    ensures { IfOk result (λ root. IsWhole slot slots.now lists.now words.old.items
+    ensures { IfOk result (λ root. HoldsTrie slot slots.now lists.now words.old.items
         words.new.items root) }
 {
     let root = words.as_slice().len();

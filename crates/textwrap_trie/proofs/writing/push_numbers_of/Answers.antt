@@ -1,6 +1,5 @@
-use Rattle.std.proofs.Common.{◌∙◌, ap, arith, Some, sym}
 use Rattle.textwrap_trie.proofs.Keys.{entry_for-longer, longer-all}
-use Rattle.textwrap_trie.proofs.WrittenLists.{entry_for-ended, list-none, list-some}
+use Rattle.textwrap_trie.proofs.WrittenLists.{list-none}
 use Rattle.textwrap_trie.proofs.writing.push_numbers_of.Goals as goal
 
 pub returns-in_default-2 : goal.returns-in_default-2

@@ -137,7 +137,7 @@ const READ: &[ReadRow] = &[
     (PATTERNS, 0, (TOO_SMALL, NUMBERS, BEFORE)),
     (b"", MOST, (WRONG_PATTERNS, BEFORE, 1)),
     (b"hy3ph\n\nhe/2n\nNOHYPHEN a\n", MOST, (WRONG_PATTERNS, BEFORE, 3)),
-    (b"ISO8859-1\nhy3ph n\n", 0, (WRONG_PATTERNS, BEFORE, 2)),
+    (b"ISO8859-1\nhy3ph n}\n", 0, (WRONG_PATTERNS, BEFORE, 2)),
     (b"% TeX\n\\patterns{hy3ph\n", 0, (WRONG_PATTERNS, BEFORE, 2)),
     (b"hy/3ph\n\xff", 0, (NOT_UTF8, BEFORE, BEFORE)),
 ];
@@ -163,7 +163,7 @@ fn read_large(
     let mut text = PATTERNS.repeat(alloc, times)?;
     let mut room = [NO_NUMBER; MOST];
     let right = read(alloc, &text, &mut room);
-    text.extend_from_slice(b"a b\n")?;
+    text.extend_from_slice(b"a b}\n")?;
     Ok((right, read(alloc, &text, &mut room)))
 }
 

@@ -13,6 +13,7 @@ use Rattle.textwrap_calls.proofs.Common.{cases_lt, is_whole, IsFilled, IsUtf8, p
 use Rattle.textwrap_calls.proofs.Common.{drop, inl, inr, refl, sym, true, ◌++◌, ◌+◌, ◌-◌, ◌<◌, ◌==◌}
 use Rattle.textwrap_calls.{proofs.Common.{ap, ◌∙◌, ◌∷◌, ◌≡◌, ◌≢◌, ◌≤◌}, specs.Printable.IsOnlyLine}
 use Rattle.textwrap_calls.proofs.PlaceLemmas.{placed-shown}
+use Rattle.textwrap_calls.proofs.Common.{ArePlacedLines, Bool, Settings, WordText}
 use Rattle.textwrap_layout.proofs.Paragraph.LeftOff.{AreParagraphParts-whole, line_from-whole}
 use Rattle.textwrap_layout.proofs.Text.Paragraphs.{one-paragraph}
 use Rattle.textwrap_layout.proofs.{Common.{parts_of, Slice}, Text.Paragraphs.printable-free}

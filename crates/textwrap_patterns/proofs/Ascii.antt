@@ -3,12 +3,13 @@ use Rattle.std.specs.List.{list_all}
 use Rattle.std.specs.Char.{to_ascii_lowercase}
 use Rattle.std.specs.Char.Unicode.Rows.{by_runs, by_strings}
 use Rattle.std.specs.Char.Unicode.ToLowercase.{lowercase_runs, lowercase_strings, to_lowercase}
-use Rattle.std.specs.Prelude.{nat_le, ◌==◌}
+use Rattle.std.specs.Prelude.{nat_le, not, ◌%◌, ◌==◌, ◌||◌}
 use Rattle.std.proofs.lemmas.Bool.{eqb-true, leb-true}
 use Rattle.textwrap_text.proofs.Common.{and_parts, nat_tests}
 use Rattle.std.proofs.lemmas.List.Folds.{list_all_at}
 use Rattle.std.proofs.lemmas.List.FromFn.{get_or-range_with_len, length-range_with_len}
 use Rattle.textwrap_patterns.proofs.Common.{Bool, List, [], arith, cases_lt, false, get_or, inl, inr}
+use Rattle.textwrap_text.proofs.Common.{false≢true}
 use Rattle.textwrap_patterns.proofs.Common.{range_with_len, refl}
 use Rattle.textwrap_patterns.proofs.Common.{true, ℕ, ◌+◌, ◌-◌, ◌<◌, ◌∙◌, ◌∷◌, ◌≡◌, ◌≢◌, ◌≤◌}
 use Rattle.textwrap_patterns.specs.Letters.{is_combining_mark, lowered}
@@ -59,6 +60,34 @@ pub lowered-ascii : (c : ℕ) → c < 128 → lowered c ≡ to_ascii_lowercase c
 unfolding to_lowercase by_runs by_strings lowercase_runs lowercase_strings
 lowered-ascii c lt = eqb-true (lowered c) (to_ascii_lowercase c)
     (each-of (λ n. lowered n == to_ascii_lowercase n) 0 128 c refl (omega arith) lt)
+
+if-passed : (a b : Bool) → (not a || b) ≡ true → a ≡ true → b ≡ true
+if-passed true b both passes = both
+if-passed false b both passes = absurd (false≢true passes)
+
+-- of the letters of a range, each that passes is in lower case
+lowered-each : (test : ℕ → Bool) (a n c : ℕ)
+    → list_all (λ n. not (test n) || (lowered n == n)) (range_with_len a n) ≡ true → a ≤ c → c < a + n
+    → test c ≡ true → lowered c ≡ c
+lowered-each test a n c all le lt passes =
+    eqb-true (lowered c) c (if-passed (test c) (lowered c == c)
+    (each-of (λ n. not (test n) || (lowered n == n)) a n c all le lt) passes)
+
+pub lowered-odd : (c : ℕ) → 0x100 ≤ c → c ≤ 0x137 → (c % 2 == 1) ≡ true → lowered c ≡ c
+unfolding to_lowercase by_runs by_strings lowercase_runs lowercase_strings
+lowered-odd c le ge odd = lowered-each (λ n. n % 2 == 1) 0x100 56 c refl le (omega arith) odd
+
+pub lowered-more_odd : (c : ℕ) → 0x14A ≤ c → c ≤ 0x177 → (c % 2 == 1) ≡ true → lowered c ≡ c
+unfolding to_lowercase by_runs by_strings lowercase_runs lowercase_strings
+lowered-more_odd c le ge odd = lowered-each (λ n. n % 2 == 1) 0x14A 46 c refl le (omega arith) odd
+
+pub lowered-even : (c : ℕ) → 0x138 ≤ c → c ≤ 0x148 → not (c % 2 == 1) ≡ true → lowered c ≡ c
+unfolding to_lowercase by_runs by_strings lowercase_runs lowercase_strings
+lowered-even c le ge even = lowered-each (λ n. not (n % 2 == 1)) 0x138 17 c refl le (omega arith) even
+
+pub lowered-more_even : (c : ℕ) → 0x179 ≤ c → c ≤ 0x17E → not (c % 2 == 1) ≡ true → lowered c ≡ c
+unfolding to_lowercase by_runs by_strings lowercase_runs lowercase_strings
+lowered-more_even c le ge even = lowered-each (λ n. not (n % 2 == 1)) 0x179 6 c refl le (omega arith) even
 
 pub lowered-latin : (c : ℕ) → 0xDF ≤ c → c ≤ 0xFF → lowered c ≡ c
 unfolding to_lowercase by_runs by_strings lowercase_runs lowercase_strings

@@ -1,5 +1,5 @@
 //! The letters of a word.
-ghost use Rattle.std.specs.Prelude.{◌≡◌, ◌<◌, ◌≤◌, length, take, IfNone, IfOk, IfSome};
+ghost use Rattle.std.specs.Prelude.{◌≡◌, ◌<◌, ◌≤◌, length, take, true, IfNone, IfOk, IfSome};
 ghost use Rattle.textwrap_patterns.specs.Letters.{begins_letter, counts, folded, has_letters};
 ghost use Rattle.textwrap_patterns.specs.Letters.{is_hyphen_character, is_letter_or_mark};
 ghost use Rattle.textwrap_patterns.specs.Letters.{is_combining_mark};
@@ -119,11 +119,36 @@ fn lowered(ch: char) -> char
     if '\u{df}' <= ch && ch <= '\u{ff}' {
         return ch;
     }
+    if is_lower_latin(ch) {
+        return ch;
+    }
     let mut cased = ch.to_lowercase();
     match (cased.next(), cased.next()) {
         (Some(lower), None) => lower,
         _ => ch,
     }
+}
+
+/// Whether a character is one of those letters of Latin Extended-A that are in lower case and alternate
+/// with the others.
+#[inline]
+fn is_lower_latin(ch: char) -> bool
+    ensures { result ≡ true → lowered ch ≡ ch }
+{
+    let is_odd = ch as u32 % 2 == 1;
+    if '\u{100}' <= ch && ch <= '\u{137}' {
+        return is_odd;
+    }
+    if '\u{138}' <= ch && ch <= '\u{148}' {
+        return !is_odd;
+    }
+    if '\u{14a}' <= ch && ch <= '\u{177}' {
+        return is_odd;
+    }
+    if '\u{179}' <= ch && ch <= '\u{17e}' {
+        return !is_odd;
+    }
+    false
 }
 
 /// Whether a character counts as a letter: it is Alphabetic, or a combining mark.

@@ -1,10 +1,11 @@
 -- A word of few letters has no place with enough of them on both sides.
-use Rattle.textwrap_hyphens.proofs.Common.{Bool, List, ap, arith, false, filter, length, length-append, refl, true}
+use Rattle.textwrap_hyphens.proofs.Common.{Bool, List, ap, arith, false, filter, length, length-append, length-drop, refl, true}
 use Rattle.textwrap_hyphens.proofs.Common.{ℕ, ◌+◌, ◌∙◌, ◌∷◌, ◌≡◌, []}
 use Rattle.textwrap_hyphens.specs.Hyphenation.{Hyphenation, is_allowed, is_place, part_places}
 use Rattle.textwrap_hyphens.specs.Hyphenation.{places_from}
 use Rattle.std.specs.Prelude.{not}
 use Rattle.std.proofs.lemmas.List.Elements.{filter-append}
+use Rattle.std.proofs.lemmas.List.Sums.{count_by-le-length, length-filter}
 use Rattle.textwrap_patterns.specs.Letters.{apostrophe, counts, has_letters}
 use Rattle.textwrap_text.proofs.Common.{cases_Bool, drop, inl, inr, sym, take}
 use Rattle.textwrap_text.proofs.Common.{nat_tests, take-append-drop, slice_index, ◌-◌, ◌==◌, ◌&&◌, ◌++◌, ◌<◌}
@@ -25,6 +26,23 @@ none-last false = refl
 none-before : (a d : Bool) → (a && false) && d ≡ false
 none-before true d = refl
 none-before false d = refl
+
+-- a place with too few characters behind it is not allowed
+pub never-behind : (h : Hyphenation) (letters : List ℕ) (place : ℕ) → place < length letters
+    → length letters < place + h.right → is_allowed h letters place ≡ false
+never-behind h letters place inside past =
+    let front = take place letters in
+    let back = drop place letters in
+    let beside = not (slice_index letters (place - 1) == apostrophe) in
+    let counted = counts (slice_index letters place) in
+    let short : has_letters h.right back ≡ false = grind (
+      arith,
+      nat_tests,
+      length-filter counts back,
+      count_by-le-length counts back,
+      length-drop place letters,
+    ) in
+    rw short (none-last (beside && counted && has_letters h.left front))
 
 module _ (h : Hyphenation) (letters : List ℕ)
     (few : length (filter counts letters) < h.left + h.right) where

@@ -5,7 +5,7 @@ use Rattle.textwrap_hyphens.specs.Points.{points_at, points_in}
 use Rattle.textwrap_patterns.specs.declared.letters.Letter.{Letter}
 use Rattle.textwrap_text.proofs.Lists.Elements.{points-more}
 use Rattle.textwrap_hyphens.specs.Hyphenation.{places_from, places_of}
-use Rattle.std.specs.Prelude.{◌%◌, ◌==◌}
+use Rattle.std.specs.Prelude.{◌%◌, ◌&&◌, ◌==◌}
 use Rattle.std.proofs.lemmas.List.Elements.{filter-append}
 use Rattle.std.proofs.lemmas.List.FromFn.{get_or-map-range_with_len, length-map-range_with_len}
 use Rattle.textwrap_text.proofs.Lists.Elements.{range-split}
@@ -13,9 +13,10 @@ use Rattle.textwrap_hyphens.proofs.Common.{Bool, List, [], ap, append-nil, appen
 use Rattle.textwrap_hyphens.proofs.Common.{filter, greatest, length, level, levels_of, map}
 use Rattle.textwrap_hyphens.proofs.Common.{range_with_len}
 use Rattle.textwrap_hyphens.proofs.Common.{refl, slice_index, sym, true, ℕ, ◌+◌, ◌++◌, ◌-◌, ◌∙◌, ◌∷◌}
-use Rattle.textwrap_hyphens.proofs.Common.{◌≡◌, ◌≤◌}
-use Rattle.textwrap_hyphens.proofs.FewLetters.{filter-none}
-use Rattle.textwrap_hyphens.specs.Hyphenation.{Hyphenation, is_odd, joints_of}
+use Rattle.textwrap_hyphens.proofs.Common.{get_or-take, length-take, nat_tests, ◌<◌, ◌≡◌, ◌≤◌}
+use Rattle.textwrap_text.proofs.Common.{take_all}
+use Rattle.textwrap_hyphens.proofs.FewLetters.{filter-none, never-behind}
+use Rattle.textwrap_hyphens.specs.Hyphenation.{Hyphenation, first_levels, is_allowed, is_odd, is_place, joints_of}
 
 -- the level that is read is that of the place
 pub odd-is : (from : List ℕ → ℕ → ℕ) (letters levels : List ℕ) (place : ℕ)
@@ -26,6 +27,34 @@ odd-is from letters levels place are within = grind (arith, get_or-map-range_wit
 pub levels-length : (from : List ℕ → ℕ → ℕ) (letters levels : List ℕ)
     → levels ≡ levels_of from letters → length levels ≡ length letters + 3
 levels-length from letters levels are = grind (arith, length-map-range_with_len, level, dotted)
+
+-- a place that has enough letters behind it is told by the first levels
+pub point-is : (h : Hyphenation) (letters levels : List ℕ) (place : ℕ) → levels ≡ first_levels h letters
+    → place < length letters → place + 1 < length levels
+    → ((slice_index levels (place + 1) % 2 == 1) && is_allowed h letters place)
+    ≡ is_place h letters 0 (length letters) place
+point-is h letters levels place are inside within =
+    let all = levels_of h.level_from letters in
+    let some = length letters - h.right + 2 in
+    let same = ap (λ (l : List ℕ). slice_index l (place + 1)) are
+    ∙ get_or-take some all (place + 1) 0 (omega (arith, ap length are, length-take some all, within)) in
+    let odd = odd-is h.level_from letters all place refl (omega (arith, inside)) in
+    let whole = take_all (length letters) letters (omega arith) in
+    grind (arith, nat_tests)
+
+-- behind its levels none is allowed
+pub point-none : (h : Hyphenation) (letters levels : List ℕ) (place : ℕ) → levels ≡ first_levels h letters
+    → place < length letters → length levels ≤ place + 1
+    → is_place h letters 0 (length letters) place ≡ false
+point-none h letters levels place are inside past =
+    let all = levels_of h.level_from letters in
+    let none = never-behind h letters place inside (omega (
+      arith,
+      ap length are,
+      length-take (length letters - h.right + 2) all,
+      levels-length h.level_from letters all refl,
+    )) in
+    grind (arith, nat_tests)
 
 -- ---- no joints
 

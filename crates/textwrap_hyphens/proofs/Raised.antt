@@ -1,7 +1,7 @@
 -- The levels of a dotted word, once the patterns that stand at its first places are known.
 use Rattle.textwrap_hyphens.proofs.Common.{List, ℕ, ◌≡◌, ◌+◌, ◌-◌, ◌≤◌, ◌<◌, ◌∷◌, [], ◌∙◌, ap}
-use Rattle.textwrap_hyphens.proofs.Common.{arith, drop, length, map, max, min}
-use Rattle.textwrap_hyphens.proofs.Common.{dotted, get_or, greatest, length-append}
+use Rattle.textwrap_hyphens.proofs.Common.{arith, drop, length, map, max, min, take}
+use Rattle.textwrap_hyphens.proofs.Common.{dotted, get_or, get_or-take, greatest, length-append, length-take}
 use Rattle.textwrap_hyphens.proofs.Common.{level, levels_of, range_with_len, suc}
 use Rattle.std.proofs.lemmas.Grind.{same_number_lists}
 use Rattle.std.proofs.lemmas.List.FromFn.{get_or-map-range_with_len, length-map-range_with_len}
@@ -45,10 +45,10 @@ before-all from dotted n k within = grind (arith, numbers-before, dotted)
 
 -- levels that were 0, once all are raised
 pub levels-all : (from : Levels) (letters ds zeros now : List ℕ) → ds ≡ dotted letters
-    → length zeros ≡ length ds + 1 → ((k : ℕ) → k < length zeros → get_or zeros k 0 ≡ 0)
+    → length zeros ≤ length ds + 1 → ((k : ℕ) → k < length zeros → get_or zeros k 0 ≡ 0)
     → length now ≡ length zeros
     → ((k : ℕ) → k < length zeros → get_or now k 0 ≡ max (get_or zeros k 0) (level from ds k))
-    → now ≡ levels_of from letters
+    → now ≡ take (length zeros) (levels_of from letters)
 levels-all from letters ds zeros now are len none same raised = grind (
   arith,
   level,
@@ -58,4 +58,6 @@ levels-all from letters ds zeros now are len none same raised = grind (
   levels_of,
   length-map-range_with_len,
   get_or-map-range_with_len,
+  get_or-take,
+  length-take,
 )

@@ -5,7 +5,7 @@ use Rattle.std.specs.Prelude.{slice_index, take, unwrap_or}
 use Rattle.std.specs.List.{range_with_len}
 use Rattle.textwrap_patterns.specs.Letters.{apostrophe, counts, has_letters}
 use Rattle.textwrap_patterns.specs.Listed.{ExceptionText, Listed}
-use Rattle.textwrap_hyphens.specs.Levels.{dotted, level, pattern_level_from, longest}
+use Rattle.textwrap_hyphens.specs.Levels.{dotted, level, levels_of, longest, pattern_level_from}
 
 -- what a dictionary says: the greatest level that patterns at the beginning of a text have at a place
 -- of it, first those of the joints of compounds, then those of their parts, how many letters these have at
@@ -51,6 +51,10 @@ hyphenation_by d = record {
 -- the level of a place inside a word is odd
 abbrev pub is_odd : (List ℕ → ℕ → ℕ) → List ℕ → ℕ → Bool
 is_odd from letters place = level from (dotted letters) (place + 1) % 2 == 1
+
+-- the levels of a word from the first on, up to that of the last place with enough letters behind it
+abbrev pub first_levels : Hyphenation → List ℕ → List ℕ
+first_levels h letters = take (length letters - h.right + 2) (levels_of h.level_from letters)
 
 -- where a compound is joined: the patterns of joints have an odd level there
 abbrev pub joints_of : Hyphenation → List ℕ → List ℕ

@@ -99,10 +99,10 @@ impl<A: Allocator + Copy> Patterns<A> {
     ///   groups is skipped. A comment goes from `%` to the end of its line.
     /// - A dictionary of libhyphen has the name of a charset in the first line, in any case and
     ///   form, and what follows is a list. The text is UTF-8, whatever is named there.
-    /// - Any other text is a list, with one pattern or one exception a line. A word with a hyphen
-    ///   and no digit is an exception, any other a pattern. `LEFTHYPHENMIN` and `RIGHTHYPHENMIN`
-    ///   with a number say how many letters stay before a point and behind it. Lines that begin
-    ///   with `%` or `#` are comments.
+    /// - Any other text is a list of patterns and exceptions, mostly one a line, with blanks between
+    ///   those of one line. A word with a hyphen and no digit is an exception, any other a pattern.
+    ///   `LEFTHYPHENMIN` and `RIGHTHYPHENMIN` with a number say how many letters stay before a point
+    ///   and behind it. Lines that begin with `%` or `#` are comments.
     ///
     /// In the header of TeX `left:` and `right:` say these numbers, in comments behind one of
     /// `typesetting:`. Where a text does not say it, a point has at least 2 letters before it, and

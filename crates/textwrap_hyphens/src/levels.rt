@@ -1,6 +1,6 @@
 //! The levels of the places of a word.
 ghost use Rattle.std.specs.Prelude.{◌≡◌, ℕ, ◌+◌, ◌-◌, ◌*◌, ◌%◌, ◌==◌, ◌<◌, ◌≤◌, All, List, filter, length};
-ghost use Rattle.std.specs.Prelude.{slice_index, IfOk};
+ghost use Rattle.std.specs.Prelude.{slice_index, take, IfOk};
 ghost use Rattle.std.specs.List.{range_with_len};
 ghost use Rattle.textwrap_base.specs.Minima.{counted};
 ghost use Rattle.textwrap_hyphens.specs.Hyphenation.{is_odd, joints_of};
@@ -66,7 +66,8 @@ fn levels_in<A: Allocator + Copy>(
 {
     let dotted = dotted(alloc, letters)?;
     let mut levels = vec![in alloc; 0; dotted.len() + 1]?;
-    raise_all(&mut levels, &dotted, patterns, lookups);
+    let looked_up = raise_all(&mut levels, &dotted, patterns);
+    lookups.add(looked_up as u128);
     Ok(levels)
 }
 
@@ -111,25 +112,21 @@ pub(crate) fn is_odd(levels: &[usize], place: usize) -> bool
     levels[place + 1] % 2 == 1
 }
 
-/// Raises the levels of all places of a word between two dots, which are 0, to those that its patterns
-/// give them.
-pub(crate) fn raise_all(
-    levels: &mut [usize],
-    whole: &[char],
-    patterns: &PatternTrie<'_>,
-    lookups: &mut Steps,
-)
-    requires len { length levels.old ≡ length whole.now + 1 }
+/// Raises the levels of the first places of a word between two dots, which are 0, to those that its
+/// patterns give them. Returns how many letters were looked up.
+pub(crate) fn raise_all(levels: &mut [usize], whole: &[char], patterns: &PatternTrie<'_>) -> usize
+    requires len { length levels.old ≤ length whole.now + 1 }
     requires zero { All (λ level. level ≡ 0) levels.old }
     ensures levels { (letters : List ℕ) → whole.now ≡ dotted letters
-        → levels.new ≡ levels_of (levels_by patterns.now) letters }
-    ensures lookups { lookups.new ≤ counted lookups.old (length whole.now * patterns.now.longest) }
-    ensures never_less { lookups.old ≤ lookups.new }
+        → levels.new ≡ take (length levels.old) (levels_of (levels_by patterns.now) letters) }
+    ensures lookups { result ≤ length whole.now * patterns.now.longest }
 {
+    let mut looked_up: usize = 0;
     for at in 0..levels.len() {
         let text = &whole[at..];
-        patterns.raise_from(&mut levels[at..], text, lookups);
+        looked_up = looked_up.saturating_add(patterns.raise_from(&mut levels[at..], text));
     }
+    looked_up
 }
 
 /// The letters between two dots.

@@ -8,6 +8,7 @@ ghost use Rattle.textwrap_patterns.specs.Places.{AreInnerPlaces};
 ghost use Rattle.textwrap_hyphens.specs.Hyphenation.{is_allowed, is_far, is_place, joints_of, part};
 ghost use Rattle.textwrap_hyphens.specs.Hyphenation.{part_places, places_from, places_of};
 ghost use Rattle.textwrap_hyphens.specs.Levels.{dot, dotted, levels_of};
+ghost use Rattle.textwrap_hyphens.specs.Hyphenation.{first_levels};
 ghost use Rattle.textwrap_hyphens.specs.Points.{hyphenation_points, is_behind_soft, pattern_points, points_at};
 ghost use Rattle.textwrap_hyphens.specs.Points.{points_in, points_past, soft_places, soft_points};
 ghost use Rattle.textwrap_hyphens.specs.Table.{held};
@@ -15,7 +16,6 @@ ghost use Rattle.textwrap_hyphens.specs.Table.{held};
 use crate::levels::{is_odd, joints, levels, raise_all};
 use crate::table::PatternTable;
 use std::alloc::{AllocError, Allocator};
-use textwrap_base::minima::Steps;
 use textwrap_patterns::letters::{
     Letter, counts, has_letters, is_hyphen, is_letter, letters_of, put_letters, run_len,
 };
@@ -228,12 +228,14 @@ fn push_places<A: Allocator>(
         return Ok(());
     }
     let mut room = [0; ROOM + 3];
-    let levels = &mut room[..whole.len() + 1];
-    raise_all(levels, whole, &patterns.patterns(), &mut Steps::new());
+    // Behind the last place that has enough letters behind it no level is needed.
+    let levels = &mut room[..letters.len().saturating_sub(patterns.right()) + 2];
+    raise_all(levels, whole, &patterns.patterns());
     push_odd(points, run, letters, levels, patterns)
 }
 
-/// Adds where the letters of a run begin that stand behind places with these levels.
+/// Adds where the letters of a run begin that stand behind places of odd levels. These are the levels up
+/// to that of the last place which has enough letters behind it.
 fn push_odd<A: Allocator>(
     points: &mut Vec<usize, A>,
     run: &[Letter],
@@ -242,16 +244,30 @@ fn push_odd<A: Allocator>(
     patterns: &PatternTable<'_>,
 ) -> Result<(), AllocError>
     requires letters { letters.now ≡ map (λ c. c.ch) run.now }
-    requires levels { levels.now ≡ levels_of (held patterns.now).level_from letters.now }
+    requires levels { levels.now ≡ first_levels (held patterns.now) letters.now }
     ensures { OnOk result (points.new.items ≡ points.old.items
         ++ points_at run.now (part_places (held patterns.now) letters.now 0 (length letters.now))) }
 {
     for place in 1..letters.len() {
-        if is_place(place, 0, letters.len(), letters, levels, patterns) {
+        if is_point(place, letters, levels, patterns) {
             points.push(run[place].at)?;
         }
     }
     Ok(())
+}
+
+/// Whether a place of a word without joints is one of its points, by these first levels.
+#[inline]
+fn is_point(place: usize, letters: &[char], levels: &[usize], patterns: &PatternTable<'_>) -> bool
+    requires before { 0 < place }
+    requires behind { place < length letters.now }
+    requires levels { levels.now ≡ first_levels (held patterns.now) letters.now }
+    ensures { result ≡ is_place (held patterns.now) letters.now 0 (length letters.now) place }
+{
+    if levels.len() <= place + 1 {
+        return false;
+    }
+    is_odd(levels, place) && is_allowed(place, letters, patterns)
 }
 
 /// The letters of a run.

@@ -1,13 +1,11 @@
 //! A dictionary in one list of numbers, which holds no address of memory.
 ghost use Rattle.std.specs.Prelude.{◌≡◌, ℕ, ◌-◌, ◌<◌, ◌≤◌, List, true, false, None, Some, MatchOption, length};
 ghost use Rattle.std.specs.Prelude.{max, min, slice_index};
-ghost use Rattle.textwrap_base.specs.Minima.{counted};
 ghost use Rattle.textwrap_patterns.specs.Places.{AreInnerPlaces};
 ghost use Rattle.textwrap_hyphens.specs.InnerPlaces.{inner_places};
 ghost use Rattle.textwrap_hyphens.specs.Seal.{from_end, is_sealed, sum_of};
 ghost use Rattle.textwrap_hyphens.specs.Table.{held, levels_by};
 
-use textwrap_base::minima::Steps;
 use textwrap_patterns::written::are_inner;
 use textwrap_trie::lookup::Trie;
 
@@ -189,16 +187,15 @@ pub(crate) struct PatternTrie<'t> {
 }
 
 impl PatternTrie<'_> {
-    /// Raises levels to those of the patterns at the beginning of a text. For each letter with which
-    /// some pattern goes on, that is looked up once.
-    pub(crate) fn raise_from(&self, levels: &mut [usize], text: &[char], lookups: &mut Steps)
+    /// Raises levels to those of the patterns at the beginning of a text. Returns how many letters were
+    /// looked up.
+    pub(crate) fn raise_from(&self, levels: &mut [usize], text: &[char]) -> usize
         ensures levels { (k : ℕ) → k < length levels.old → slice_index levels.new k
             ≡ max (slice_index levels.old k) (levels_by self.now text.now k) }
-        ensures lookups { lookups.new ≤ counted lookups.old (min (length text.now) self.now.longest) }
-        ensures never_less { lookups.old ≤ lookups.new }
+        ensures lookups { result ≤ min (length text.now) self.now.longest }
     {
         let text = &text[..self.longest.min(text.len())];
-        self.trie.raise_levels(text, levels, lookups);
+        self.trie.raise_levels(text, levels)
     }
 }
 

@@ -1,8 +1,8 @@
 -- Levels that are raised letter by letter.
 use Rattle.textwrap_text.proofs.Common.{ap, arith, Bool, cond, drop, false, drop_more, get_or, get_or_past, length, List}
 use Rattle.textwrap_text.proofs.Common.{max, refl, sym, true, ℕ, ◌+◌, ◌<◌, ◌∙◌, ◌∷◌, ◌≡◌, []}
-use Rattle.std.specs.Prelude.{nat_lt}
-use Rattle.textwrap_trie.specs.Trie.{child_at, child_of, empty_slot, kind_of, level_at, place_of, level_below}
+use Rattle.std.specs.Prelude.{nat_lt, None}
+use Rattle.textwrap_trie.specs.Trie.{child_at, child_of, empty_slot, kind_of, level_at, place_of, level_below, numbers_below}
 
 -- the levels from a letter on are those of the node and those from the next letter on
 pub level-next : (text slots lists : List ℕ) (node place i letter child : ℕ) → i < length text
@@ -21,6 +21,11 @@ level-none [] slots lists place = get_or_past {X = ℕ} [] place 0 (omega arith)
 level-none (c ∷ cs) slots lists place =
     let here = get_or_past {X = ℕ} [] place 0 (omega arith) in
     omega (arith, here, level-none cs slots lists place)
+
+-- and no key has numbers
+pub numbers-none : (key slots lists : List ℕ) → numbers_below key slots lists empty_slot ≡ None
+numbers-none [] slots lists = refl
+numbers-none (c ∷ cs) slots lists = numbers-none cs slots lists
 
 -- the levels from a letter on of a node without children, and of one without a child for the letter
 pub level-last : (text slots lists : List ℕ) (node place i letter : ℕ) → i < length text

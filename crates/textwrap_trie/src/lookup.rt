@@ -1,13 +1,11 @@
 //! What a trie has for a key, and for the beginnings of a text.
 ghost use Rattle.std.specs.Prelude.{◌≡◌, ℕ, ◌<◌, ◌≤◌, ◌^◌, length, max, None, Some, MatchOption, slice_index};
-ghost use Rattle.std.specs.Prelude.{false, nat_lt};
-ghost use Rattle.textwrap_base.specs.Minima.{counted};
+ghost use Rattle.std.specs.Prelude.{nat_lt};
 ghost use Rattle.textwrap_trie.specs.Trie.{child_at, child_of, empty_slot, kind_of, level_at, level_below};
 ghost use Rattle.textwrap_trie.specs.Trie.{trie_level, lists_of, numbers_in, numbers_of, slots_of, trie_at};
 
 use crate::numbers::{list_and_rest, number_at, numbers_at, raise};
 use crate::slots::{CODES, EMPTY, PLACE, slot_at};
-use textwrap_base::minima::Steps;
 
 /// A trie in numbers that somebody holds.
 #[derive(Clone, Copy, Debug)]
@@ -42,20 +40,22 @@ impl<'w> Trie<'w> {
         let mut node = self.root;
         for letter in key {
             node = child_of(self.slots, node, *letter);
+            if node == EMPTY {
+                return None;
+            }
         }
         numbers_of(self.slots, self.lists, node)
     }
 
     /// Raises levels to the numbers of all keys with which a text begins, each to that at its place.
-    /// For each letter with which some key goes on, it is looked up once. The call always succeeds.
-    pub fn raise_levels(&self, text: &[char], levels: &mut [usize], lookups: &mut Steps)
+    /// Returns how many letters were looked up: each with which some key goes on, and at most one more.
+    /// The call always succeeds.
+    pub fn raise_levels(&self, text: &[char], levels: &mut [usize]) -> usize
         ensures levels { (k : ℕ) → k < length levels.old → slice_index levels.new k
             ≡ max (slice_index levels.old k) (trie_level (trie_view self.now) text.now k) }
-        ensures lookups { lookups.new ≤ counted lookups.old (length text.now) }
-        ensures never_less { lookups.old ≤ lookups.new }
+        ensures lookups { result ≤ length text.now }
     {
-        let looked_up = raise_along(self.slots, self.lists, self.root, text, levels);
-        lookups.add(looked_up as u128);
+        raise_along(self.slots, self.lists, self.root, text, levels)
     }
 }
 
@@ -93,19 +93,19 @@ fn raise_to(levels: &mut [usize], slots: &[usize], lists: &[usize], node: usize)
         ≡ max (slice_index levels.old k) (level_at slots.now lists.now node k) }
     ensures inner { result ≡ nat_lt (kind_of node) 2 }
 {
-    match node / CODES % 4 {
-        0 => true,
-        1 => {
-            let own = slot_at(slots, node / PLACE);
-            raise(levels, numbers_at(lists, own / PLACE));
-            true
-        }
-        2 => {
+    // Two tests are faster here than a table of four ways.
+    let kind = node / CODES % 4;
+    if kind > 1 {
+        if kind == 2 {
             raise(levels, numbers_at(lists, node / PLACE));
-            false
         }
-        _ => false,
+        return false;
     }
+    if kind == 1 {
+        let own = slot_at(slots, node / PLACE);
+        raise(levels, numbers_at(lists, own / PLACE));
+    }
+    true
 }
 
 /// The slots and the lists of the trie at a place.

@@ -40,8 +40,6 @@ pub(crate) fn raise(numbers: &mut [usize], others: &[usize])
 {
     let len = numbers.len().min(others.len());
     for i in 0..len {
-        if numbers[i] < others[i] {
-            numbers[i] = others[i];
-        }
+        numbers[i] = numbers[i].max(others[i]);
     }
 }

@@ -1,10 +1,15 @@
-use Rattle.textwrap_text.proofs.Common.{take_at}
+use Rattle.textwrap_text.proofs.Common.{take_all, take_at}
 use Rattle.std.proofs.lemmas.List.Elements.{All-replicate}
+use Rattle.std.proofs.lemmas.List.{length-replicate}
 use Rattle.textwrap_hyphens.proofs.Common.{All, ap, arith, drop, length, refl, subst, sym, ◌+◌, ◌∙◌, ◌≡◌, ℕ}
+use Rattle.textwrap_hyphens.proofs.Common.{[], List, length-append, levels_of, ◌∷◌}
+use Rattle.textwrap_hyphens.proofs.Parts.{levels-length}
+use Rattle.textwrap_hyphens.specs.Levels.{dot}
+use Rattle.textwrap_hyphens.specs.Table.{levels_by}
 use Rattle.textwrap_hyphens.proofs.levels.levels_in.Goals as goal
 
-pub raise_all-requires-clause-zero : goal.raise_all-requires-clause-zero
-raise_all-requires-clause-zero g c =
+pub raise_all-looked_up-requires-clause-zero : goal.raise_all-looked_up-requires-clause-zero
+raise_all-looked_up-requires-clause-zero g c =
     let each = c.deref_mut.ensures.value ∙ c.in_ok-levels.ensures.items_if_clones_equal (λ y is. is) in
     subst (All (λ (level : ℕ). level ≡ 0)) (sym each)
     (All-replicate (λ (level : ℕ). level ≡ 0) (c.len.result + 1) 0 refl)
@@ -12,7 +17,21 @@ raise_all-requires-clause-zero g c =
 pub returns-clause-levels : goal.returns-clause-levels
 returns-clause-levels g c =
     let items = c.in_ok-levels.levels.items in
-    let new = c.raise_all.new.levels in
+    let new = c.raise_all-looked_up.new.levels in
+    let old : List ℕ = c.deref_mut.result.now in
+    let letters = c.args.letters.now in
+    let all = levels_of (levels_by c.args.patterns.now) letters in
+    let size : length old ≡ c.len.result + 1 =
+    ap length (c.deref_mut.ensures.value ∙ c.in_ok-levels.ensures.items_if_clones_equal (λ y is. is))
+    ∙ length-replicate {A = ℕ} (c.len.result + 1) 0 in
     take_at new (drop (length new) items) c.in_ok-levels.levels.len
-    (omega (arith, c.in_ok-levels.levels.ok.0, ap length c.deref_mut.ensures.value, c.raise_all.auto.levels))
-    ∙ c.raise_all.ensures.levels c.args.letters.now (c.deref.ensures.value ∙ c.in_ok-dotted.ensures)
+    (omega (arith, c.in_ok-levels.levels.ok.0, ap length c.deref_mut.ensures.value, c.raise_all-looked_up.auto.levels))
+    ∙ c.raise_all-looked_up.ensures.levels letters (c.deref.ensures.value ∙ c.in_ok-dotted.ensures)
+    ∙ take_all (length old) all (omega (
+      arith,
+      levels-length (levels_by c.args.patterns.now) letters all refl,
+      size,
+      c.len.ensures,
+      ap length c.in_ok-dotted.ensures,
+      length-append letters (dot ∷ []),
+    ))

@@ -7,9 +7,8 @@ use Rattle.textwrap_hyphens.proofs.Common.{◌+◌, ◌-◌, ◌<◌, ◌≡◌,
 use borrow.Rule.Slice.PartMut.{put_mid, post_of}
 use Rattle.textwrap_hyphens.proofs.Raised.{before-all, before-here, before-past, before-none}
 use Rattle.textwrap_hyphens.proofs.Raised.{level_before, levels-all}
-use Rattle.textwrap_text.proofs.Common.{◌*◌}
 use Rattle.textwrap_hyphens.proofs.Common.{min}
-use Rattle.textwrap_hyphens.proofs.Lookups.{counted-both, lookups-more}
+use Rattle.textwrap_hyphens.proofs.Lookups.{fewer-times, lookups-more}
 use Rattle.textwrap_hyphens.specs.Table.{levels_by}
 use Rattle.textwrap_hyphens.proofs.levels.raise_all.Goals as goal
 
@@ -22,7 +21,6 @@ loop-at-init c = record {
             (levels_by c.args.patterns.now) c.args.whole.now k,
       );
   lookups = omega arith;
-  never_less = omega arith;
 }
 
 pub loop-at-preserved : goal.loop-at-preserved
@@ -73,13 +71,16 @@ loop-at-preserved c =
           let slice = ap (λ l. get_or l (k - at) 0) (take_rest old at) in
           omega (arith, there, was, raised, text, slice, here, before))
           (cases_lt k at);
-      lookups = counted-both c.args.lookups.now c.loop-at.lookups c.raise_from.new.lookups
-          (min c.loop-at.at (length text) * most) (min (length text - c.loop-at.at) most)
-          (min (c.loop-at.at + 1) (length text) * most) c.loop-at.invariant.lookups
-          (let len = ap length (take_rest text c.loop-at.at) ∙ length-drop c.loop-at.at text in
-          omega (arith, c.raise_from.ensures.lookups, len))
-          (lookups-more c.loop-at.at (length text) most);
-      never_less = omega (arith, c.raise_from.ensures.never_less, c.loop-at.invariant.never_less);
+      lookups =
+          let len = ap length (take_rest text c.loop-at.at) ∙ length-drop c.loop-at.at text in
+          omega (
+            arith,
+            len,
+            c.loop-at.invariant.lookups,
+            c.raise_from.ensures.lookups,
+            c.saturating_add-looked_up.ensures,
+            lookups-more c.loop-at.at (length text) most,
+          );
     }
 
 pub returns-clause-levels : goal.returns-clause-levels
@@ -94,8 +95,9 @@ returns-clause-levels c = λ letters is.
 
 pub returns-clause-lookups : goal.returns-clause-lookups
 returns-clause-lookups c =
-    let text = c.args.whole.now in
-    let most = c.args.patterns.now.longest in
-    let all : min c.loop-at.at (length text) ≡ length text = omega
-    (arith, c.requires.len, c.loop-at-test.false, c.loop-at.auto.at-end, c.loop-at.auto.levels) in
-    rw all at c.loop-at.invariant.lookups
+    omega (
+      arith,
+      c.loop-at.invariant.lookups,
+      fewer-times (min c.loop-at.at (length c.args.whole.now)) (length c.args.whole.now)
+          c.args.patterns.now.longest (omega arith),
+    )

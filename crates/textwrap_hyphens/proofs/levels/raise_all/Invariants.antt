@@ -1,6 +1,5 @@
 use Rattle.textwrap_hyphens.proofs.Common.{ℕ, ◌≡◌, ◌<◌, get_or, length, max}
 use Rattle.textwrap_hyphens.proofs.Raised.{level_before}
-use Rattle.textwrap_base.specs.Minima.{counted}
 use Rattle.textwrap_hyphens.proofs.Common.{min, ◌≤◌}
 use Rattle.textwrap_text.proofs.Common.{◌*◌}
 use Rattle.textwrap_hyphens.specs.Table.{levels_by}
@@ -14,7 +13,5 @@ invariant-loop-at l =
       levels : (k : ℕ) → k < length l.levels
           → get_or l.levels k 0 ≡ max (get_or l.initial.levels k 0)
           (level_before (levels_by l.patterns) l.whole l.at k);
-      lookups : l.lookups ≤ counted l.initial.lookups
-          (min l.at (length l.whole) * l.patterns.longest);
-      never_less : l.initial.lookups ≤ l.lookups;
+      lookups : l.looked_up ≤ min l.at (length l.whole) * l.patterns.longest;
     }

@@ -1,17 +1,8 @@
 use Rattle.textwrap_hyphens.proofs.Common.{ap, arith, get_or, get_or-map, length, length-map, map, slice_index}
-use Rattle.textwrap_hyphens.proofs.Common.{sym, ◌-◌, ◌∙◌, ◌≡◌}
+use Rattle.textwrap_hyphens.proofs.Common.{◌∙◌, ◌≡◌}
 use Rattle.textwrap_hyphens.proofs.Parts.{behind-next}
-use Rattle.textwrap_text.proofs.Common.{take_all}
-use Rattle.textwrap_hyphens.specs.Levels.{levels_of}
-use Rattle.textwrap_hyphens.specs.Table.{held}
 use Rattle.textwrap_patterns.specs.declared.letters.Letter.{Letter}
 use Rattle.textwrap_hyphens.proofs.points.push_odd.Goals as goal
-
-pub is_place-requires-clause-levels : goal.is_place-requires-clause-levels
-is_place-requires-clause-levels g c =
-    let letters = c.args.letters.now in
-    c.requires.levels ∙ ap (levels_of (held c.args.patterns.now).level_from)
-    (sym (take_all (length letters - 0) letters (omega arith)))
 
 pub loop-place-preserved : goal.loop-place-preserved
 loop-place-preserved g c =

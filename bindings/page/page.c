@@ -11,42 +11,36 @@ const page_answer *page_answered(void) { return &answer; }
 
 /* ---- The pieces of a paragraph */
 
-/* How a paragraph of so many bytes is cut; each list has room for the most that there may be. */
+/* The pieces of a paragraph, which are fragments, too, and before how many of them each line ends; each list has
+ * room for the most that there may be. */
 typedef struct {
     textwrap_piece *pieces;
-    size_t *cuts, *points, *ends;
-    size_t pieces_len, cuts_len, points_len, ends_len;
+    textwrap_fragment *fragments;
+    size_t *ends;
+    size_t pieces_len, ends_len;
 } page_steps;
 
-/* Where the pieces of a paragraph by these options begin, but for the first. */
-static textwrap_status find_places(const uint8_t *text, size_t len, const textwrap_options *options,
-                                   textwrap_piece *pieces, size_t *places, size_t *places_len) {
-    size_t count = 0;
-    textwrap_status status = textwrap_pieces(text, len, options, pieces, len + 2, &count);
+static textwrap_status find_pieces(const uint8_t *text, size_t len, const textwrap_options *options,
+                                   page_steps *steps) {
+    textwrap_status status =
+        textwrap_pieces(text, len, options, steps->pieces, len + 2, &steps->pieces_len);
     if (status != TEXTWRAP_DONE) return status;
-    for (size_t i = 1; i < count; i++) places[(*places_len)++] = pieces[i].offset;
+    for (size_t i = 0; i < steps->pieces_len; i++) {
+        const textwrap_piece *piece = &steps->pieces[i];
+        size_t break_penalty = piece->penalty_len > 0 ? options->hyphen_penalty : 0;
+        steps->fragments[i] =
+            (textwrap_fragment){piece->width, piece->whitespace_len, piece->penalty_len, break_penalty};
+    }
     return status;
 }
 
-/* Where words begin, and where they may be split: where they begin is no point of one. */
-static textwrap_status find_steps(const uint8_t *text, size_t len, textwrap_options options, page_steps *steps) {
-    options.break_words = 0;
-    textwrap_status status =
-        find_places(text, len, &options, steps->pieces, steps->points, &steps->points_len);
-    if (status != TEXTWRAP_DONE) return status;
-    options.split_at_hyphens = 0;
-    options.dictionary.numbers_len = 0;
-    return find_places(text, len, &options, steps->pieces, steps->cuts, &steps->cuts_len);
-}
-
-static textwrap_status find_lines(const uint8_t *text, size_t len, const textwrap_options *options,
-                                  page_steps *steps) {
-    textwrap_status status =
-        textwrap_pieces_at(text, len, steps->cuts, steps->cuts_len, steps->points, steps->points_len, options,
-                           steps->pieces, len + 2, &steps->pieces_len);
-    if (status != TEXTWRAP_DONE) return status;
-    return textwrap_ends_at(text, len, steps->cuts, steps->cuts_len, steps->points, steps->points_len, options,
-                            0, steps->ends, len + 3, &steps->ends_len);
+static textwrap_status find_ends(const textwrap_options *options, page_steps *steps) {
+    if (!options->optimal_fit)
+        return textwrap_wrap_first_fit(steps->fragments, steps->pieces_len, &options->width, 1, steps->ends,
+                                       steps->pieces_len + 1, &steps->ends_len);
+    textwrap_penalties penalties = textwrap_penalties_of(options);
+    return textwrap_wrap_optimal_fit(steps->fragments, steps->pieces_len, &options->width, 1, &penalties,
+                                     steps->ends, steps->pieces_len + 1, &steps->ends_len);
 }
 
 /* ---- What lines cost */
@@ -82,8 +76,8 @@ static textwrap_status lay(const uint8_t *text, size_t len, const textwrap_optio
                            uint8_t *room, page_line *lines) {
     /* Each byte may be a line, with a hyphen and a line feed. */
     textwrap_status status = textwrap_fill(text, len, options, room, 3 * len + 1, &answer.text_len);
-    if (status == TEXTWRAP_DONE) status = find_steps(text, len, *options, steps);
-    if (status == TEXTWRAP_DONE) status = find_lines(text, len, options, steps);
+    if (status == TEXTWRAP_DONE) status = find_pieces(text, len, options, steps);
+    if (status == TEXTWRAP_DONE) status = find_ends(options, steps);
     if (status != TEXTWRAP_DONE) return status;
     measure(steps, options, lines);
     answer.text = room;
@@ -103,13 +97,13 @@ uint32_t page_lay(const uint8_t *text, size_t len, size_t width, uint32_t is_lea
     page_give(room);
     answer = (page_answer){0};
     size_t most = len + 3;
-    room = page_take(most * (sizeof(page_line) + sizeof(textwrap_piece) + 3 * sizeof(size_t) + 3));
+    size_t each = sizeof(page_line) + sizeof(textwrap_piece) + sizeof(textwrap_fragment) + sizeof(size_t) + 3;
+    room = page_take(most * each);
     if (room == NULL) return TEXTWRAP_OUT_OF_MEMORY;
     page_line *lines = room;
     page_steps steps = {.pieces = (void *)(lines + most)};
-    steps.cuts = (void *)(steps.pieces + most);
-    steps.points = steps.cuts + most;
-    steps.ends = steps.points + most;
+    steps.fragments = (void *)(steps.pieces + most);
+    steps.ends = (void *)(steps.fragments + most);
     return lay(text, len, &options, &steps, (void *)(steps.ends + most), lines);
 }
 

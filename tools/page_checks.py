@@ -109,9 +109,10 @@ def wrong_numbers():
     for what, number in (
         ("planted bugs", len(list(items.CRATES.glob("*/must-fail/*.edit")))),
         ("tests", len(re.findall(r"^\s*#\[test\]", sources, re.MULTILINE))),
+        ("rows", int(re.search(r"\d+", (items.CRATES / "textwrap_rows/stdout").read_text())[0])),
     ):
-        for said in re.findall(rf"(\d+) {what}", text):
-            if int(said) != number:
+        for said in re.findall(rf"(\d[\d,]*) {what}", text):
+            if int(said.replace(",", "")) != number:
                 yield f"README.md: {said} {what}; there are {number}"
 
 

@@ -1,6 +1,8 @@
 -- What is divided without a list of words.
 use Rattle.std.specs.Prelude.{◌≡◌, ◌≢◌, ℕ, Bool, IfSome, List, None, Option, Some, map}
 use Rattle.std.specs.Option.{option_map}
+use Rattle.std.specs.Str.{IsUtf8}
+use Rattle.textwrap_base.specs.Division.{IsGreedy}
 use Rattle.textwrap_words.specs.Cuts.{AreInnerCuts, parts_between}
 use Rattle.textwrap_words.specs.Pieces.{as_splitter}
 use Rattle.textwrap_words.specs.WordSplitters.{Splitter, splitter_view}
@@ -65,3 +67,17 @@ pub record HasMethods {E C : Type 0} {e : _} {c : _} (o : Options E C e c) (spli
     (algorithm : Algorithm) : Type 0 where
   pub splitter_is : splitter_view o.word_splitter ≡ Some splitter
   pub algorithm_is : algorithm_view o.wrap_algorithm ≡ Some algorithm
+
+-- ---- what a word needs not be asked for
+
+-- each line takes as many pieces as fit
+abbrev pub TakesWhatFits : (List ℕ → List WordText → List (List WordText) → Type 0) → Type 0
+TakesWhatFits Lines =
+    (widths : List ℕ) (pieces : List WordText) (division : List (List WordText))
+    → IsGreedy sizes_of widths pieces division → Lines widths pieces division
+
+-- each word has points, and they are inside it
+abbrev pub HasInnerPoints : (List ℕ → List ℕ → Type 0) → Type 0
+HasInnerPoints Points =
+    (word : List ℕ) → IsUtf8 word
+    → (points : List ℕ) × Points word points × AreInnerCuts word points

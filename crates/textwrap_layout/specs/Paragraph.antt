@@ -93,6 +93,10 @@ module _ (settings : Settings) where
   abbrev pub fitting_pieces : List WordText → List WordText
   fitting_pieces split = flat_map (λ w. broken_word (room_of w) w) split
 
+  -- the same, where that is asked
+  abbrev pub broken_split : List WordText → List WordText
+  broken_split split = if settings.break_words then fitting_pieces split else split
+
   -- the pieces that split words are broken into, where that is asked
   abbrev pub broken_pieces_of : List WordText → List WordText
   broken_pieces_of split =

@@ -77,6 +77,14 @@ impl<A: Allocator + Copy, W: PrintableCuts + Copy> Parts<A> for BuiltIn<W> {
     ) -> Result<Vec<&'w [Word<'p>], A>, WrapError> {
         wrap_algorithm(self.parts.algorithm).wrap(alloc, pieces, line_widths)
     }
+
+    fn takes_what_fits(&self) -> bool {
+        matches!(self.parts.algorithm, BuiltInAlgorithm::FirstFit)
+    }
+
+    fn has_points(&self) -> bool {
+        false
+    }
 }
 
 /// A built-in algorithm as one of the public ones.

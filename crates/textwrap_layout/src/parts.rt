@@ -33,7 +33,7 @@ pub trait Parts<A: Allocator> {
     type Words: PrintableCuts + Copy;
 
     ghost use Rattle.std.specs.Prelude.{◌≡◌, ◌<◌, ◌^◌, ℕ, Bool, List, None, map, length};
-    ghost use Rattle.std.specs.Prelude.{IfOk, IsOkAnd, IfSome, IsSomeAnd};
+    ghost use Rattle.std.specs.Prelude.{IfOk, IsOkAnd, IfSome, IsSomeAnd, IsTrue};
     ghost use Rattle.std.specs.Option.{option_map};
     ghost use Rattle.textwrap_base.specs.Cost.{total_width};
     ghost use Rattle.textwrap_base.specs.Errors.{Fits64Bits, OnlyMemoryRunsOut};
@@ -45,6 +45,7 @@ pub trait Parts<A: Allocator> {
     ghost use Rattle.textwrap_text.specs.Units.{IsPrintable};
     ghost use Rattle.textwrap_words.specs.Words.{WordText, Tiles, sizes_of, tiled, word_of, word_view};
     ghost use Rattle.textwrap_layout.specs.Direct.{AreParts, AreWordsCut, CanBeCut, words_cut};
+    ghost use Rattle.textwrap_layout.specs.Direct.{HasInnerPoints, TakesWhatFits};
     ghost use Rattle.textwrap_layout.specs.Options.{Settings};
     ghost use Rattle.textwrap_layout.specs.Paragraph.{ArePieces, DividesWith, Relations};
 
@@ -110,6 +111,14 @@ pub trait Parts<A: Allocator> {
             → OnlyMemoryRunsOut result }
         ensures no_overflow { Fits64Bits (total_width sizes_of (map word_view pieces.now))
             → OnlyMemoryRunsOut result };
+
+    /// Whether each line takes as many pieces as fit.
+    fn takes_what_fits(&self) -> bool
+        ensures { IsTrue result → TakesWhatFits (may self.now).Lines };
+
+    /// Whether each word is known to have points, all inside it, before it is asked for them.
+    fn has_points(&self) -> bool
+        ensures { IsTrue result → HasInnerPoints (may self.now).Points };
 
     // A word can be cut at the points at which it may be split.
     ghost can_split: { (parts : Self) (word points : List ℕ) → IsUtf8 word

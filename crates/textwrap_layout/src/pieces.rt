@@ -9,7 +9,8 @@ ghost use Rattle.textwrap_layout.specs.Direct.{as_algorithm, words_cut};
 ghost use Rattle.textwrap_layout.specs.Frame.{frame_settings};
 ghost use Rattle.textwrap_words.specs.Pieces.{as_splitter};
 ghost use Rattle.textwrap_words.specs.Words.{word_view, Tiles};
-ghost use Rattle.textwrap_layout.specs.Paragraph.{broken_pieces_of, fitting_pieces, ArePieces};
+ghost use Rattle.textwrap_layout.specs.Paragraph.{ArePieces, broken_pieces_of, broken_split};
+ghost use Rattle.textwrap_layout.specs.Paragraph.{fitting_pieces};
 ghost use Rattle.textwrap_words.specs.WordSplitters.{AreSplit, split_pieces};
 
 use crate::frame::Frame;
@@ -109,6 +110,54 @@ fn break_with_hyphens<'t, A: Allocator>(
         )?;
     }
     Ok(pieces)
+}
+
+/// The words of a paragraph, not yet split.
+///
+/// # Errors
+/// [`AllocError`] where memory runs out, or a function of the caller says so.
+pub fn find_words<'t, A: Allocator + Copy, P: Parts<A>>(
+    alloc: A,
+    paragraph: &'t str,
+    parts: &P,
+) -> Result<Vec<Word<'t>, A>, AllocError>
+    ensures { IfOk result (λ words. (cuts : Option (List ℕ)) × CanBeCut cuts paragraph.now
+        × (P.may parts.now).Words paragraph.now (words_cut cuts paragraph.now)
+        × (map word_view words.items ≡ words_cut cuts paragraph.now)) }
+{
+    if let Some(cuts) = parts.word_cuts(paragraph)? {
+        return words_between(alloc, paragraph, &cuts);
+    }
+    let mut words = Vec::new(alloc);
+    for word in words_at_blanks::<A>(paragraph) {
+        words.push(word)?;
+    }
+    Ok(words)
+}
+
+/// The pieces of a word, whose width is that of its text: split as parts say, and broken where that
+/// is asked.
+///
+/// # Errors
+/// [`AllocError`] where memory runs out, or a function of the caller says so.
+pub fn pieces_of_word<'t, A: Allocator + Copy, P: Parts<A>>(
+    alloc: A,
+    word: Word<'t>,
+    parts: &P,
+    frame: &Frame<'_>,
+) -> Result<Vec<Word<'t>, A>, AllocError>
+    requires { word.width ≡ text_width word.word.now }
+    ensures { IfOk result (λ pieces. (points : List ℕ)
+        × (P.may parts.now).Points word.entry.word.now points × (map word_view pieces.items
+        ≡ broken_split (frame_settings frame.now) (split_pieces points (word_view word.entry)))) }
+{
+    let mut split = Vec::new(alloc);
+    push_pieces(alloc, &mut split, word, parts)?;
+    if frame.layout.break_words {
+        break_wide(alloc, split, frame)
+    } else {
+        Ok(split)
+    }
 }
 
 /// The words of a paragraph, split.
@@ -234,6 +283,14 @@ impl<A: Allocator + Copy> Parts<A> for Options<'_> {
         line_widths: &[usize],
     ) -> Result<Vec<&'w [Word<'a>], A>, WrapError> {
         self.wrap_algorithm.wrap(alloc, pieces, line_widths)
+    }
+
+    fn takes_what_fits(&self) -> bool {
+        matches!(self.wrap_algorithm, WrapAlgorithm::FirstFit)
+    }
+
+    fn has_points(&self) -> bool {
+        false
     }
 }
 

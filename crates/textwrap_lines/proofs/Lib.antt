@@ -6,3 +6,4 @@ pub mod PlacedPieces
 pub mod PrintableTexts
 mod Refuted
 pub mod Text
+pub mod WordLines

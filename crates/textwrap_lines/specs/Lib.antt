@@ -3,6 +3,7 @@ pub mod LeastCost
 pub mod PieceLines
 pub mod Spans
 pub mod Steps
+pub mod WordLines
 pub use Rattle.textwrap_base.specs.Cost
 pub use Rattle.textwrap_base.specs.Division
 pub use Rattle.textwrap_base.specs.Errors

@@ -21,4 +21,5 @@ pub mod placed;
 mod printable;
 mod spans;
 pub mod steps;
+mod word_lines;
 mod wrapping;

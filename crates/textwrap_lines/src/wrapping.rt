@@ -31,6 +31,7 @@ ghost use Rattle.textwrap_base.specs.Errors.{OnlyMemoryRunsOut};
 
 use crate::first_fit::push_by_first_fit;
 use crate::least_cost::{push_by_least_cost, suits_search};
+use crate::word_lines::push_word_by_word;
 use std::alloc::{AllocError, Allocator};
 use std::borrow::CowStr;
 use textwrap_layout::frame::Frame;
@@ -241,6 +242,7 @@ fn push_paragraph<'t, A: Allocator + Copy, S: LineSink<'t, A>, P: Parts<A>>(
 /// |---|---|---|
 /// | first fit | any | [`push_by_first_fit`], which has its own table |
 /// | least cost | not empty, no number too great | [`push_by_least_cost`] |
+/// | first fit, by a dictionary | any | [`push_word_by_word`] |
 /// | any, also of a caller | any | [`push_divided`]: by lists of its words and pieces |
 ///
 /// # Errors
@@ -268,6 +270,9 @@ fn push_pieces<'t, A: Allocator + Copy, S: LineSink<'t, A>, P: Parts<A>>(
         paragraph.now → OnlyMemoryRunsOut result }
 {
     let Some(methods) = built_in else {
+        if parts.takes_what_fits() && parts.has_points() {
+            return Ok(push_word_by_word(alloc, paragraph, parts, frame, lines)?);
+        }
         return push_divided(alloc, paragraph, parts, frame, lines);
     };
     let BuiltInAlgorithm::OptimalFit(penalties) = methods.algorithm else {
@@ -475,7 +480,7 @@ pub(crate) fn push_lines<'t, A: Allocator + Copy, S: LineSink<'t, A>>(
 
 /// Pushes the line of the pieces that stand in the paragraph from `start` on, and returns where they
 /// end.
-fn push_line<'t, A: Allocator + Copy, S: LineSink<'t, A>>(
+pub(crate) fn push_line<'t, A: Allocator + Copy, S: LineSink<'t, A>>(
     alloc: A,
     paragraph: &'t str,
     start: usize,

@@ -67,6 +67,14 @@ impl<A: Allocator + Copy, P: Parts<A>> Parts<A> for Hyphenated<'_, P> {
     ) -> Result<Vec<&'w [Word<'a>], A>, WrapError> {
         self.parts.divide(alloc, pieces, line_widths)
     }
+
+    fn takes_what_fits(&self) -> bool {
+        self.parts.takes_what_fits()
+    }
+
+    fn has_points(&self) -> bool {
+        true
+    }
 }
 
 /// Parts that hold no function.
@@ -161,5 +169,16 @@ impl<A: Allocator + Copy, W: PrintableCuts + Copy> Parts<A> for PlainParts<'_, W
     ) -> Result<Vec<&'w [Word<'p>], A>, WrapError> {
         self.built_in_by(BuiltInSplitter::NoHyphenation)
             .divide(alloc, pieces, line_widths)
+    }
+
+    fn takes_what_fits(&self) -> bool {
+        matches!(self.algorithm, BuiltInAlgorithm::FirstFit)
+    }
+
+    fn has_points(&self) -> bool {
+        match self.splitter {
+            PlainSplitter::BuiltIn(_) => false,
+            PlainSplitter::Dictionary(_) => true,
+        }
     }
 }

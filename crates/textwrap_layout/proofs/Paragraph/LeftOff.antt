@@ -176,7 +176,7 @@ abbrev parts_ending : Settings → Bool → List WordText → WordText → LineP
 parts_ending settings is_later line last =
     parts_keeping settings is_later line last (keeps_whitespace settings last)
 
-parts_of-push : (settings : Settings) (is_later : Bool) (ws : List WordText) (last : WordText)
+pub parts_of-push : (settings : Settings) (is_later : Bool) (ws : List WordText) (last : WordText)
     → parts_of settings is_later (ws ++ last ∷ []) ≡ parts_ending settings is_later
     (ws ++ last ∷ []) last
 parts_of-push settings is_later [] last = refl

@@ -1,16 +1,20 @@
 //! Hyphens by a dictionary.
-ghost use Rattle.std.specs.Prelude.{IfOk, Some, map};
+ghost use Rattle.std.specs.Prelude.{◌≡◌, IfOk, Some, map};
 ghost use Rattle.textwrap_plain.specs.Options.{DividesPlainly, plain_algorithm, plain_settings};
 ghost use Rattle.textwrap_plain.specs.Options.{plain_splitter};
 ghost use Rattle.textwrap_hyphens.specs.Parsed.{IsParsed};
+ghost use Rattle.textwrap_hyphens.specs.Points.{hyphenation_points};
+ghost use Rattle.textwrap_hyphens.specs.Table.{held};
 ghost use Rattle.textwrap_layout.specs.Paragraph.{line_view};
 ghost use Rattle.textwrap_layout.specs.Text.{IsWrapped};
 ghost use Rattle.textwrap_patterns.specs.Parsing.{parsed};
 
-use std::alloc::Global;
+use std::alloc::{AllocError, Global};
 use std::borrow::CowStr;
 use textwrap::WrapError;
 use textwrap_hyphens::dictionary::Patterns;
+use textwrap_hyphens::points::points;
+use textwrap_hyphens::table::PatternTable;
 use textwrap_patterns::errors::ParseError;
 use textwrap_plain::{PlainOptions, wrap};
 
@@ -19,6 +23,18 @@ pub fn dictionary_of_text(alloc: Global, text: &str) -> Result<Patterns, ParseEr
     ensures { IsParsed (parsed text.now) result }
 {
     Patterns::parse(alloc, text)
+}
+
+/// As `points`.
+pub fn points_of_word(
+    alloc: Global,
+    word: &str,
+    patterns: &PatternTable<'_>,
+) -> Result<Vec<usize>, AllocError>
+    ensures { IfOk result (λ points. points.items ≡ hyphenation_points (held patterns.now) word.now) }
+{
+    let found = points(alloc, word, patterns)?;
+    Ok(found)
 }
 
 /// As `wrap` of `textwrap_plain`.

@@ -34,10 +34,10 @@ const COMMENT: Row<'_> = ("a comment", "// Zeilenumbruch\n// und Silbentrennung\
     "// Zeilenum-\n// bruch und\n// Silben-\n// trennung\n// in schma-\n// len Spal-\n// ten\n");
 
 /// How many allocations the narrow column takes up to the last that it cannot do without.
-const ALLOCATIONS: usize = 12;
+const ALLOCATIONS: usize = 19;
 
 /// And the comment.
-const REFILL_ALLOCATIONS: usize = 14;
+const REFILL_ALLOCATIONS: usize = 20;
 
 /// A dictionary of the patterns.
 pub(super) fn german(alloc: Global) -> Result<Patterns, AllocError> {

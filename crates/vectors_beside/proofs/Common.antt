@@ -26,9 +26,6 @@ pub use Rattle.textwrap_layout.specs.Places.{ArePlacesOf, division_cuts}
 pub use Rattle.textwrap_lines.specs.Steps.{pieces_at}
 pub use Rattle.textwrap_text.proofs.Lists.Parts.{flat, some_from_nonempty}
 pub use Rattle.vectors_beside.specs.{Help.help_columns}
-pub use Rattle.vectors_beside.specs.{declared.uses.hyphens.DictionaryEntry.DictionaryEntry}
-pub use Rattle.vectors_beside.specs.Hyphens.{HaveRightPoints, hyphenated_pieces, later_begins}
-pub use Rattle.vectors_beside.specs.Hyphens.{begins_from, points_for, points_of_words}
 pub use Rattle.textwrap_words.proofs.Word.{Cuts.next-at, Divisions.lines_from-map}
 pub use Rattle.textwrap_words.proofs.Word.Words.{tile_of-word_of, tiled-words_of, words_unique}
 pub use lib.Utf8.{encode}

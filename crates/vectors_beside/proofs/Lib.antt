@@ -1,3 +1,2 @@
 mod Common
-pub mod Dictionary
 pub mod Fitted

@@ -1,4 +1,3 @@
 pub mod Help
-pub mod Hyphens
 pub mod Styled
 pub mod Tables

@@ -5,4 +5,5 @@
 
 #[cfg(test)]
 mod tests;
-pub mod uses;
+#[cfg(test)]
+mod uses;

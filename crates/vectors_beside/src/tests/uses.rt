@@ -1,6 +1,4 @@
 //! The callers of `uses`: what each gives on its happy path.
-mod hyphens;
-
 use super::balance::are_lines;
 use super::plain::{assert_count, assert_gives, assert_gives_texts, assert_holds, assert_text};
 use crate::uses::checking::{is_filled, line_count};

@@ -1,7 +1,7 @@
 //! The callers of `uses`: what each gives on its happy path.
 use super::balance::are_lines;
 use super::plain::{assert_count, assert_gives, assert_gives_texts, assert_holds, assert_text};
-use crate::uses::checking::{is_filled, line_count};
+use crate::uses::checking::is_filled;
 use crate::uses::comments::{common_mark, rewrapped};
 use crate::uses::gallery::{Picture, few_rows, hung_rows};
 use crate::uses::help::{fitted_help_rows, help_entry, help_rows};
@@ -140,17 +140,6 @@ fn a_filled_text_is_filled_already(rt: HostRuntime) {
     for &(text, width, wanted) in ARE_FILLED {
         let is_filled = is_filled(rt.alloc(), text, width).expect(&rt, text);
         assert_holds(&rt, text, is_filled == wanted);
-    }
-}
-
-/// A text, and how many lines it has at 10 columns.
-const COUNTED: &[(&str, usize)] = &[("To be, or not to be", 2), ("", 1), ("one\ntwo", 2)];
-
-#[test]
-fn lines_are_counted(rt: HostRuntime) {
-    for &(text, wanted) in COUNTED {
-        let count = line_count(rt.alloc(), text, 10).expect(&rt, text);
-        assert_count(&rt, text, count, wanted);
     }
 }
 

@@ -3,8 +3,8 @@ use Rattle.std.specs.Prelude.{◌≡◌, ℕ, List, ⊤, Option, Result, Ok, Err
 use Rattle.std.specs.Str.{IsUtf8}
 use Rattle.textwrap_program.specs.Filling.{ReadsAll}
 use Rattle.textwrap_patterns.specs.Charsets.{charset_of}
-use Rattle.textwrap_patterns.specs.Parsing.{parsed, parsed_in}
-use Rattle.textwrap_patterns.specs.declared.errors.ParseError.TheVariants.{Line}
+use Rattle.textwrap_dictionaries.specs.Parsing.{parsed, parsed_in}
+use Rattle.textwrap_dictionaries.specs.declared.errors.ParseError.TheVariants.{Line}
 use Rattle.textwrap_hyphens.specs.Hyphenation.{Hyphenation}
 use Rattle.textwrap_hyphens.specs.Parsed.{Holds}
 use Rattle.textwrap_hyphens.specs.Table.{patterns_view}

@@ -7,7 +7,7 @@ ghost use Rattle.textwrap_hyphens.specs.Points.{hyphenation_points};
 ghost use Rattle.textwrap_hyphens.specs.Table.{held};
 ghost use Rattle.textwrap_layout.specs.Paragraph.{line_view};
 ghost use Rattle.textwrap_layout.specs.Text.{IsWrapped};
-ghost use Rattle.textwrap_patterns.specs.Parsing.{parsed};
+ghost use Rattle.textwrap_dictionaries.specs.Parsing.{parsed};
 
 use std::alloc::{AllocError, Global};
 use std::borrow::CowStr;
@@ -15,7 +15,7 @@ use textwrap::WrapError;
 use textwrap_hyphens::dictionary::Patterns;
 use textwrap_hyphens::points::points;
 use textwrap_hyphens::table::PatternTable;
-use textwrap_patterns::errors::ParseError;
+use textwrap_dictionaries::errors::ParseError;
 use textwrap_plain::{PlainOptions, wrap};
 
 /// As `Patterns::parse`.

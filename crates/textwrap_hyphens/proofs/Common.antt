@@ -20,7 +20,7 @@ pub use Rattle.textwrap_text.proofs.Common.{false≢true}
 pub use Rattle.textwrap_text.proofs.Common.{slice_index, take-append-drop, drop_more, take_more}
 pub use Rattle.std.specs.Prelude.{slice_index_or}
 pub use Rattle.textwrap_hyphens.specs.Levels.{dotted, level, pattern_level_from}
-pub use Rattle.textwrap_trie.specs.Merging.{greatest}
+pub use Rattle.textwrap_patterns.specs.Merging.{greatest}
 pub use Rattle.textwrap_patterns.specs.Listed.{PatternText}
 pub use Rattle.textwrap_hyphens.specs.Levels.{level_in}
 pub use Rattle.textwrap_hyphens.specs.Levels.{levels_of}

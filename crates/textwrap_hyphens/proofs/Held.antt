@@ -1,12 +1,12 @@
 -- What the numbers of a dictionary say.
 use Rattle.std.specs.Prelude.{IfSome, None, Option, Some}
-use Rattle.textwrap_trie.specs.Trie.{numbers_for}
+use Rattle.textwrap_patterns.specs.Trie.{numbers_for}
 use Rattle.std.specs.Prelude.{◌↔◌}
 use Rattle.textwrap_text.proofs.Common.{false_from_ne_true}
 use Rattle.textwrap_hyphens.proofs.Common.{Bool, List, cond, false, false≢true, length, refl, sym}
 use Rattle.textwrap_hyphens.proofs.Common.{true, ℕ, ◌≡◌}
 use Rattle.textwrap_hyphens.proofs.InnerPoints.{AreInner}
-use Rattle.textwrap_patterns.proofs.Said.{are-places, places-are}
+use Rattle.textwrap_dictionaries.proofs.Said.{are-places, places-are}
 use Rattle.textwrap_patterns.specs.Places.{AreInnerPlaces, are_places}
 use Rattle.textwrap_hyphens.specs.InnerPlaces.{inner_places}
 use Rattle.textwrap_hyphens.specs.Seal.{from_end}

@@ -6,7 +6,7 @@ use Rattle.textwrap_hyphens.proofs.Common.{level, levels_of, range_with_len, suc
 use Rattle.std.proofs.lemmas.Grind.{same_number_lists}
 use Rattle.std.proofs.lemmas.List.FromFn.{get_or-map-range_with_len, length-map-range_with_len}
 use Rattle.std.proofs.lemmas.List.FromFn.{map-range_with_len_more}
-use Rattle.textwrap_trie.proofs.GreatestNumbers.{greatest-append}
+use Rattle.textwrap_patterns.proofs.GreatestNumbers.{greatest-append}
 
 -- the levels of what stands at the beginning of a text, by place
 abbrev pub Levels : Type 0

@@ -2,15 +2,15 @@
 use Rattle.std.specs.Prelude.{Option, Some, bytes_eq}
 use Rattle.std.proofs.lemmas.List.{get_or-append_right}
 use Rattle.std.proofs.lemmas.Slice.Eq.{bytes_eq-Decides}
-use Rattle.textwrap_trie.specs.Entries.{entry_for}
-use Rattle.textwrap_trie.specs.Merging.{greatest_number}
-use Rattle.textwrap_trie.specs.Trie as trie
-use Rattle.textwrap_trie.specs.declared.entries.TrieEntry.{TrieEntry}
+use Rattle.textwrap_patterns.specs.Entries.{entry_for}
+use Rattle.textwrap_patterns.specs.Merging.{greatest_number}
+use Rattle.textwrap_patterns.specs.Trie as trie
+use Rattle.textwrap_patterns.specs.declared.entries.TrieEntry.{TrieEntry}
 use Rattle.textwrap_hyphens.proofs.Common.{All, All-head, All-tail, Bool, List, [], arith, cond}
 use Rattle.textwrap_hyphens.proofs.Common.{false, get_or, length, length-append, pattern_level_from, map}
 use Rattle.textwrap_hyphens.proofs.Common.{length-map, level_in, nat_eq, refl, rules, starts_with, suc, take}
 use Rattle.textwrap_hyphens.proofs.Common.{true, zero, ℕ, ◌++◌, ◌-◌, ◌∷◌, ◌≡◌, ◌≤◌}
-use Rattle.textwrap_patterns.proofs.Said.{places-are}
+use Rattle.textwrap_dictionaries.proofs.Said.{places-are}
 use Rattle.textwrap_hyphens.specs.Building.{entries_view, exception_of, pattern_of}
 use Rattle.textwrap_hyphens.specs.Hyphenation.{Hyphenation, exception_for, hyphenation_by}
 use Rattle.textwrap_patterns.specs.Listed.{PatternText}

@@ -1,5 +1,5 @@
 -- Entries of a trie, as what they are made of.
-use Rattle.textwrap_trie.specs.declared.entries.TrieEntry.{TrieEntry}
+use Rattle.textwrap_patterns.specs.declared.entries.TrieEntry.{TrieEntry}
 use Rattle.textwrap_patterns.specs.Listed.{ExceptionText, exception_text}
 use Rattle.textwrap_patterns.specs.Listed.{Listed, PatternText}
 use Rattle.textwrap_hyphens.specs.declared.building.Entries.{Entries}

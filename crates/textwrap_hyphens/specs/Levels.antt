@@ -3,7 +3,7 @@ use Rattle.std.specs.Prelude.{ℕ, suc, ◌+◌, ◌-◌, List, [], ◌∷◌, �
 use Rattle.std.specs.Prelude.{drop, if◌then◌else◌, length, map, nat_eq, slice_index}
 use Rattle.std.specs.List.{range_with_len, starts_with}
 use Rattle.textwrap_patterns.specs.Listed.{PatternText}
-use Rattle.textwrap_trie.specs.Merging.{greatest}
+use Rattle.textwrap_patterns.specs.Merging.{greatest}
 
 -- how many letters the longest pattern has
 abbrev pub longest : List PatternText → ℕ

@@ -1,8 +1,8 @@
 -- A dictionary, and what stands in it, as what its numbers say.
 use Rattle.std.specs.Prelude.{ℕ, List, take}
 use Rattle.textwrap_hyphens.specs.Hyphenation.{Hyphenation}
-use Rattle.textwrap_trie.specs.Trie.{trie_level}
-use Rattle.textwrap_trie.specs.Tries.{trie_view}
+use Rattle.textwrap_patterns.specs.Trie.{trie_level}
+use Rattle.textwrap_patterns.specs.Tries.{trie_view}
 pub use Rattle.textwrap_hyphens.specs.Numbers.{held_in, levels_at}
 use Rattle.textwrap_hyphens.specs.declared.dictionary.Patterns.{Patterns}
 use Rattle.textwrap_hyphens.specs.declared.table.PatternTable.{PatternTable}

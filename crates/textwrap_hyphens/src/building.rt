@@ -11,9 +11,9 @@ ghost use Rattle.textwrap_hyphens.specs.Building.{entries_view, exception_of, pa
 
 use crate::table::{VERSION, sum_of};
 use std::alloc::{AllocError, Allocator};
+use textwrap_patterns::entries::TrieEntry;
+use textwrap_patterns::merging::{Rule, push_entries};
 use textwrap_patterns::patterns::{Exception, Pattern};
-use textwrap_trie::entries::TrieEntry;
-use textwrap_trie::merging::{Rule, push_entries};
 
 /// What is listed in a dictionary, as entries of tries.
 #[derive(Drop)]

@@ -9,8 +9,8 @@ use crate::building::{
 };
 use crate::table::PatternTable;
 use std::alloc::{AllocError, Allocator, Global};
-use textwrap_patterns::errors::ParseError;
-use textwrap_patterns::parsing::{Reading, read, read_bytes};
+use textwrap_dictionaries::errors::ParseError;
+use textwrap_dictionaries::parsing::{Reading, read, read_bytes};
 use textwrap_patterns::patterns::{Exception, Pattern};
 
 /// A dictionary of hyphenation: patterns, and words with their hyphens as exceptions from them.
@@ -28,7 +28,7 @@ impl<A: Allocator + Copy> Patterns<A> {
     ghost use Rattle.textwrap_patterns.specs.Listed.{exception_view, listed};
     ghost use Rattle.textwrap_patterns.specs.Listed.{pattern_view};
     ghost use Rattle.textwrap_patterns.specs.Charsets.{charset_of};
-    ghost use Rattle.textwrap_patterns.specs.Parsing.{parsed, parsed_in, reading_view};
+    ghost use Rattle.textwrap_dictionaries.specs.Parsing.{parsed, parsed_in, reading_view};
     ghost use Rattle.textwrap_hyphens.specs.Parsed.{IsParsed};
     ghost use Rattle.textwrap_hyphens.specs.Table.{held, held_in, patterns_view};
 

@@ -6,8 +6,8 @@ ghost use Rattle.textwrap_hyphens.specs.InnerPlaces.{inner_places};
 ghost use Rattle.textwrap_hyphens.specs.Seal.{from_end, is_sealed, sum_of};
 ghost use Rattle.textwrap_hyphens.specs.Table.{held, levels_by};
 
+use textwrap_patterns::lookup::Trie;
 use textwrap_patterns::written::are_inner;
-use textwrap_trie::lookup::Trie;
 
 /// What the first number of a table says: "Twh", and a number that is raised where the layout changes.
 pub(crate) const VERSION: usize = 0x5477_6805;

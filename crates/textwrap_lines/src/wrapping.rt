@@ -238,12 +238,12 @@ fn push_paragraph<'t, A: Allocator + Copy, S: LineSink<'t, A>, P: Parts<A>>(
 ///
 /// This is where the way of a paragraph is chosen. What comes first in the table is taken:
 ///
-/// | Algorithm | Paragraph | Way |
-/// |---|---|---|
-/// | first fit | any | [`push_by_first_fit`], which has its own table |
-/// | least cost | not empty, no number too great | [`push_by_least_cost`] |
-/// | first fit, by a dictionary | any | [`push_word_by_word`] |
-/// | any, also of a caller | any | [`push_divided`]: by lists of its words and pieces |
+/// | Parts | Algorithm | Paragraph | Way |
+/// |---|---|---|---|
+/// | built in | first fit | any | [`push_by_first_fit`], which has its own table |
+/// | built in | least cost | not empty, no number too great | [`push_by_least_cost`] |
+/// | with a dictionary | first fit | any | [`push_word_by_word`] |
+/// | any | any | any | [`push_divided`]: by lists of its words and pieces |
 ///
 /// # Errors
 /// Those of [`wrap`].

@@ -8,10 +8,10 @@ use Rattle.std.proofs.lemmas.Bool.{eqb-true, leb-true}
 use Rattle.textwrap_text.proofs.Common.{and_parts, nat_tests}
 use Rattle.std.proofs.lemmas.List.Folds.{list_all_at}
 use Rattle.std.proofs.lemmas.List.FromFn.{get_or-range_with_len, length-range_with_len}
-use Rattle.textwrap_patterns.proofs.Common.{Bool, List, [], arith, cases_lt, false, get_or, inl, inr}
+use Rattle.textwrap_text.proofs.Common.{Bool, List, [], arith, cases_lt, false, get_or, inl, inr}
 use Rattle.textwrap_text.proofs.Common.{false≢true}
-use Rattle.textwrap_patterns.proofs.Common.{range_with_len, refl}
-use Rattle.textwrap_patterns.proofs.Common.{true, ℕ, ◌+◌, ◌-◌, ◌<◌, ◌∙◌, ◌∷◌, ◌≡◌, ◌≢◌, ◌≤◌}
+use Rattle.textwrap_text.proofs.Common.{range_with_len, refl}
+use Rattle.textwrap_text.proofs.Common.{true, ℕ, ◌+◌, ◌-◌, ◌<◌, ◌∙◌, ◌∷◌, ◌≡◌, ◌≢◌, ◌≤◌}
 use Rattle.textwrap_patterns.specs.Letters.{is_combining_mark, lowered}
 use Rattle.ucd_derived.specs.AlphabeticRanges.{alphabetic_ranges}
 use Rattle.ucd_derived.specs.Binary.{is_alphabetic, is_grapheme_extend}

@@ -1,12 +1,11 @@
 pub mod Changes
 pub mod Charsets
-pub mod Dictionaries
 pub mod Entries
-pub mod Faults
-pub mod Laws
 pub mod Letters
 pub mod Listed
-pub mod Parsing
+pub mod Merging
 pub mod Places
-pub mod Sections
+pub mod Trie
+pub mod Tries
+pub mod Writing
 pub mod Written

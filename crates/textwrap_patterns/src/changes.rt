@@ -20,7 +20,7 @@ pub struct Region {
 }
 
 /// Where the letters of a pattern change, by what stands behind its slash.
-pub(crate) fn region_said(letters: &[char], change: &[char]) -> Option<Region>
+pub fn region_said(letters: &[char], change: &[char]) -> Option<Region>
     ensures { result ≡ region_said letters.now change.now }
 {
     if !has_equals(text_before(change, ',')) {
@@ -97,14 +97,14 @@ fn digit_of(ch: char) -> usize
 }
 
 /// What stands before the first of a sign.
-pub(crate) fn text_before(text: &[char], sign: char) -> &[char]
+pub fn text_before(text: &[char], sign: char) -> &[char]
     ensures { result.now ≡ text_before sign text.now }
 {
     &text[..find(text, sign)]
 }
 
 /// What stands behind the first of a sign.
-pub(crate) fn text_behind(text: &[char], sign: char) -> &[char]
+pub fn text_behind(text: &[char], sign: char) -> &[char]
     ensures { result.now ≡ text_behind sign text.now }
 {
     match &text[find(text, sign)..] {
@@ -114,7 +114,7 @@ pub(crate) fn text_behind(text: &[char], sign: char) -> &[char]
 }
 
 /// Where a character stands first, else the length.
-pub(crate) fn find(characters: &[char], wanted: char) -> usize
+pub fn find(characters: &[char], wanted: char) -> usize
     ensures at { result ≡ before wanted characters.now }
     ensures within { result ≤ length characters.now }
 {
@@ -127,7 +127,7 @@ pub(crate) fn find(characters: &[char], wanted: char) -> usize
 }
 
 /// A pattern that allows no hyphen where letters would change.
-pub(crate) fn without_changes<A: Allocator + Copy>(
+pub fn without_changes<A: Allocator + Copy>(
     alloc: A,
     pattern: Pattern<A>,
     region: Region,

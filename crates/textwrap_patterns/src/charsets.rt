@@ -127,7 +127,7 @@ pub const WINDOWS_1251: [char; 128] = [
 ];
 
 /// A name as names are compared: its letters and digits of ASCII, in lower case.
-pub(crate) fn plain_name<A: Allocator>(alloc: A, line: &[u8]) -> Result<Vec<u8, A>, AllocError>
+pub fn plain_name<A: Allocator>(alloc: A, line: &[u8]) -> Result<Vec<u8, A>, AllocError>
     ensures { IfOk result (λ name. name.items ≡ plain_name line.now) }
 {
     let mut name = Vec::new(alloc);
@@ -140,7 +140,7 @@ pub(crate) fn plain_name<A: Allocator>(alloc: A, line: &[u8]) -> Result<Vec<u8, 
 }
 
 /// Whether a name begins as that of a charset does which files name, known or not.
-pub(crate) fn names_charset(name: &[u8]) -> bool
+pub fn names_charset(name: &[u8]) -> bool
     ensures { result ≡ names_charset name.now }
 {
     name.starts_with(b"utf8")
@@ -209,7 +209,7 @@ fn other_table(name: &[u8]) -> Option<&'static [char]>
 }
 
 /// The characters of the charset that the first line names.
-pub(crate) fn charset_of<A: Allocator>(
+pub fn charset_of<A: Allocator>(
     alloc: A,
     bytes: &[u8],
 ) -> Result<Option<&'static [char]>, AllocError>
@@ -232,7 +232,7 @@ fn line_len(bytes: &[u8]) -> usize
 }
 
 /// The text that bytes stand for.
-pub(crate) fn decoded<A: Allocator>(
+pub fn decoded<A: Allocator>(
     alloc: A,
     table: &[char],
     bytes: &[u8],

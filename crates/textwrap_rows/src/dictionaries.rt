@@ -4,7 +4,7 @@ use crate::notation::numbers_written;
 use std::alloc::{AllocError, Global};
 use textwrap_hyphens::dictionary::Patterns;
 use textwrap_hyphens::points::points;
-use textwrap_patterns::errors::ParseError;
+use textwrap_dictionaries::errors::ParseError;
 use textwrap_patterns::patterns::{Exception, Pattern};
 use textwrap_patterns::written::{exception, pattern};
 

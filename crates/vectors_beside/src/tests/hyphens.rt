@@ -6,7 +6,7 @@ use textwrap::minima::Steps;
 use textwrap_hyphens::dictionary::Patterns;
 use textwrap_hyphens::levels::levels_counted;
 use textwrap_hyphens::points::points;
-use textwrap_patterns::errors::{Fault, ParseError};
+use textwrap_dictionaries::errors::{Fault, ParseError};
 use textwrap_patterns::patterns::{Exception, Pattern};
 use textwrap_patterns::written::{exception, pattern};
 use textwrap_vectors::heap::Heap;

@@ -3,7 +3,7 @@ use Rattle.textwrap_hyphens.proofs.Common.{[], All, ap, length, map, map-append,
 use Rattle.textwrap_hyphens.specs.Building.{exception_of}
 use Rattle.textwrap_patterns.specs.Listed.{exception_view}
 use Rattle.textwrap_patterns.specs.Places.{AreInnerPlaces}
-use Rattle.textwrap_trie.specs.declared.entries.TrieEntry.{TrieEntry}
+use Rattle.textwrap_patterns.specs.declared.entries.TrieEntry.{TrieEntry}
 use Rattle.textwrap_hyphens.proofs.building.exception_entries.Goals as goal
 
 pub loop-exception-preserved : goal.loop-exception-preserved

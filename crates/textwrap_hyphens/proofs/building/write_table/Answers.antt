@@ -1,7 +1,7 @@
 use Rattle.textwrap_hyphens.proofs.Common.{[], List, append_assoc, ap, arith, length, length-append, map, refl, false, ℕ}
 use Rattle.textwrap_hyphens.proofs.Common.{slice_index, subst, sym, ◌++◌, ◌∙◌, ◌∷◌, ◌≡◌}
 use Rattle.textwrap_hyphens.proofs.Minima.{lists-kept}
-use Rattle.textwrap_trie.specs.Trie.{level_from, numbers_for}
+use Rattle.textwrap_patterns.specs.Trie.{level_from, numbers_for}
 use Rattle.textwrap_hyphens.proofs.SealLemmas.{is-sealed}
 use Rattle.textwrap_hyphens.proofs.TableOf.{table-says}
 use Rattle.textwrap_hyphens.specs.Building.{entries_view, pattern_of}

@@ -1,4 +1,4 @@
-use Rattle.textwrap_patterns.proofs.Common.{drop, length, ◌++◌, ◌≡◌}
+use Rattle.textwrap_text.proofs.Common.{drop, length, ◌++◌, ◌≡◌}
 use Rattle.textwrap_patterns.specs.Changes.{barred_from}
 use Rattle.textwrap_patterns.proofs.changes.barred_levels.Given as goal
 

@@ -1,4 +1,4 @@
-use Rattle.textwrap_patterns.proofs.Common.{◌≡◌, ◌+◌, drop}
+use Rattle.textwrap_text.proofs.Common.{◌≡◌, ◌+◌, drop}
 use Rattle.textwrap_patterns.specs.Changes.{before}
 use Rattle.textwrap_patterns.proofs.changes.find.Given as goal
 

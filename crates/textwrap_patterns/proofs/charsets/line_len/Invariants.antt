@@ -1,4 +1,4 @@
-use Rattle.textwrap_patterns.proofs.Common.{drop, ◌+◌, ◌≡◌}
+use Rattle.textwrap_text.proofs.Common.{drop, ◌+◌, ◌≡◌}
 use Rattle.std.specs.List.{position_or_len}
 use Rattle.textwrap_patterns.specs.Charsets.{is_line_feed_byte}
 use Rattle.textwrap_patterns.proofs.charsets.line_len.Given as goal

@@ -1,4 +1,4 @@
-use Rattle.textwrap_patterns.proofs.Common.{drop, ◌++◌, ◌≡◌}
+use Rattle.textwrap_text.proofs.Common.{drop, ◌++◌, ◌≡◌}
 use Rattle.textwrap_patterns.specs.Charsets.{plain_name}
 use Rattle.textwrap_patterns.proofs.charsets.plain_name.Given as goal
 

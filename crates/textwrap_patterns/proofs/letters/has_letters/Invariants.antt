@@ -1,4 +1,4 @@
-use Rattle.textwrap_patterns.proofs.Common.{◌≡◌, drop}
+use Rattle.textwrap_text.proofs.Common.{◌≡◌, drop}
 use Rattle.textwrap_patterns.specs.Letters.{has_letters}
 use Rattle.textwrap_patterns.proofs.letters.has_letters.Given as goal
 

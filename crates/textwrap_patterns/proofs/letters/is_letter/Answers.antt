@@ -1,5 +1,5 @@
 use Rattle.textwrap_patterns.proofs.Ascii.{latin-alphabetic, lowercase-alphabetic}
-use Rattle.textwrap_patterns.proofs.Common.{arith, refl}
+use Rattle.textwrap_text.proofs.Common.{arith, refl}
 use Rattle.textwrap_patterns.proofs.letters.is_letter.Goals as goal
 
 pub returns-then-is_ascii_lowercase : goal.returns-then-is_ascii_lowercase

@@ -1,5 +1,5 @@
 use Rattle.textwrap_patterns.proofs.Ascii.{mark-none}
-use Rattle.textwrap_patterns.proofs.Common.{sym}
+use Rattle.textwrap_text.proofs.Common.{sym}
 use Rattle.textwrap_patterns.proofs.letters.is_mark.Goals as goal
 
 pub returns-then-ch-lt768 : goal.returns-then-ch-lt768

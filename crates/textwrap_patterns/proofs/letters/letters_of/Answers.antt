@@ -1,4 +1,4 @@
-use Rattle.textwrap_patterns.proofs.Common.{append-nil, ap, refl, sym, ◌++◌, ◌∙◌}
+use Rattle.textwrap_text.proofs.Common.{append-nil, ap, refl, sym, ◌++◌, ◌∙◌}
 use Rattle.textwrap_patterns.specs.Letters.{letters_among}
 use Rattle.textwrap_patterns.proofs.letters.letters_of.Goals as goal
 

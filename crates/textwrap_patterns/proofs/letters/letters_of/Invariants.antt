@@ -1,5 +1,5 @@
 use Rattle.textwrap_text.proofs.Common.{characters_left}
-use Rattle.textwrap_patterns.proofs.Common.{◌++◌, ◌≡◌}
+use Rattle.textwrap_text.proofs.Common.{◌++◌, ◌≡◌}
 use Rattle.textwrap_patterns.specs.Letters.{letters_among, letters_of}
 use Rattle.textwrap_patterns.proofs.letters.letters_of.Given as goal
 

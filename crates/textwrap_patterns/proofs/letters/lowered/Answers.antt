@@ -1,5 +1,5 @@
 use Rattle.textwrap_patterns.proofs.Ascii.{lowered-ascii, lowered-latin}
-use Rattle.textwrap_patterns.proofs.Common.{sym, ◌∙◌}
+use Rattle.textwrap_text.proofs.Common.{sym, ◌∙◌}
 use Rattle.textwrap_patterns.proofs.letters.lowered.Goals as goal
 
 pub returns-then-ch-lt128 : goal.returns-then-ch-lt128

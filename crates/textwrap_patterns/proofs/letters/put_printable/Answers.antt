@@ -6,8 +6,8 @@ use Rattle.textwrap_text.specs.Characters.{characters_from}
 use Rattle.textwrap_text.specs.Units.{IsPrintableByte}
 use Rattle.textwrap_text.specs.declared.escapes.State.TheVariants.{Text}
 use Rattle.textwrap_patterns.proofs.Ascii.{lowered-ascii}
-use Rattle.textwrap_patterns.proofs.Common.{List, append-nil, append_assoc, arith, drop, drop_more, get_or}
-use Rattle.textwrap_patterns.proofs.Common.{length, refl, ℕ, ◌+◌, ◌∷◌, ◌≡◌}
+use Rattle.textwrap_text.proofs.Common.{List, append-nil, append_assoc, arith, drop, drop_more, get_or}
+use Rattle.textwrap_text.proofs.Common.{length, refl, ℕ, ◌+◌, ◌∷◌, ◌≡◌}
 use Rattle.textwrap_patterns.specs.Letters.{letters_among}
 use Rattle.textwrap_patterns.proofs.letters.put_printable.Goals as goal
 

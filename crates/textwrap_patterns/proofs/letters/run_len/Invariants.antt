@@ -1,4 +1,4 @@
-use Rattle.textwrap_patterns.proofs.Common.{◌≡◌, ◌+◌, drop}
+use Rattle.textwrap_text.proofs.Common.{◌≡◌, ◌+◌, drop}
 use Rattle.textwrap_patterns.specs.Letters.{run_len}
 use Rattle.textwrap_patterns.proofs.letters.run_len.Given as goal
 

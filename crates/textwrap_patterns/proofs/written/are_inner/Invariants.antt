@@ -1,5 +1,5 @@
 use Rattle.std.specs.Prelude.{◌↔◌}
-use Rattle.textwrap_patterns.proofs.Common.{drop}
+use Rattle.textwrap_text.proofs.Common.{drop}
 use Rattle.textwrap_patterns.specs.Places.{AreInnerPlaces, IsNextPlace}
 use Rattle.textwrap_words.specs.Cuts.{AreNext}
 use Rattle.textwrap_patterns.proofs.written.are_inner.Given as goal

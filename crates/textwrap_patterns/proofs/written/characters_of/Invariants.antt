@@ -1,4 +1,4 @@
-use Rattle.textwrap_patterns.proofs.Common.{◌≡◌}
+use Rattle.textwrap_text.proofs.Common.{◌≡◌}
 use Rattle.textwrap_patterns.proofs.written.characters_of.Given as goal
 
 abbrev pub invariant-loop-ch : goal.invariant-loop-ch

@@ -1,5 +1,5 @@
-use Rattle.textwrap_patterns.proofs.Common.{drop, length, ◌++◌, ◌≡◌}
-use Rattle.textwrap_patterns.proofs.Writing.{levels_left}
+use Rattle.textwrap_text.proofs.Common.{drop, length, ◌++◌, ◌≡◌}
+use Rattle.textwrap_patterns.proofs.WrittenPatterns.{levels_left}
 use Rattle.textwrap_patterns.specs.Written.{letters_written, levels_written}
 use Rattle.textwrap_patterns.proofs.written.pattern_of.Given as goal
 

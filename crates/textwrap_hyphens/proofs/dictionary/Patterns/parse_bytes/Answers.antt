@@ -1,7 +1,7 @@
 use Rattle.textwrap_hyphens.proofs.Common.{subst, sym}
 use Rattle.textwrap_hyphens.specs.Parsed.{Holds}
 use Rattle.textwrap_hyphens.specs.Table.{patterns_view}
-use Rattle.textwrap_patterns.specs.Parsing.{Outcome}
+use Rattle.textwrap_dictionaries.specs.Parsing.{Outcome}
 use Rattle.textwrap_hyphens.proofs.dictionary.Patterns.parse_bytes.Goals as goal
 
 pub returns-clause-text : goal.returns-clause-text

@@ -1,0 +1,13 @@
+pub mod Changed
+pub mod Common
+pub mod FirstLines
+pub mod FirstTexLines
+pub mod FirstWords
+pub mod FirstWrong
+pub mod Gaps
+pub mod Said
+pub mod Sections
+pub mod Skipped
+pub mod Words
+pub mod WrittenLines
+pub mod WrittenTexts

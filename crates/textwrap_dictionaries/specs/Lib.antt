@@ -1,0 +1,6 @@
+pub mod Dictionaries
+pub mod Entries
+pub mod Faults
+pub mod Laws
+pub mod Parsing
+pub mod Sections

@@ -1,6 +1,0 @@
-use Rattle.textwrap_patterns.proofs.FirstLines.{errors-of-lines}
-use Rattle.textwrap_patterns.proofs.FirstTexLines.{errors-of-tex}
-use Rattle.textwrap_patterns.proofs.laws.errors_are_of_lines.Goals as goal
-
-pub returns : goal.returns
-returns c = record { lists = errors-of-lines; tex = errors-of-tex }

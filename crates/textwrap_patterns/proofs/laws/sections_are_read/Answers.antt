@@ -1,5 +1,0 @@
-use Rattle.textwrap_patterns.proofs.Sections.{sections-read}
-use Rattle.textwrap_patterns.proofs.laws.sections_are_read.Goals as goal
-
-pub returns : goal.returns
-returns c = sections-read

@@ -1,5 +1,0 @@
-use Rattle.textwrap_patterns.proofs.Common.{◌≡◌}
-use Rattle.textwrap_patterns.proofs.parsing.lines_of.Given as goal
-
-abbrev pub invariant-loop-line : goal.invariant-loop-line
-invariant-loop-line g l = l.lines.items ≡ l.yielded

@@ -1,9 +1,0 @@
-use Rattle.std.specs.Char.{is_whitespace}
-use Rattle.std.specs.List.{position_or_len}
-use Rattle.textwrap_patterns.proofs.Common.{◌≡◌, ◌+◌, drop}
-use Rattle.textwrap_patterns.proofs.parsing.word_len.Given as goal
-
-abbrev pub invariant-loop-i : goal.invariant-loop-i
-invariant-loop-i l =
-    position_or_len is_whitespace l.text
-    ≡ l.i + position_or_len is_whitespace (drop l.i l.text)

@@ -1,9 +1,0 @@
-use Rattle.std.proofs.Common.{◌≡◌, ◌<◌, ℕ, get_or}
-use Rattle.textwrap_trie.specs.Entries.{letter_at}
-use Rattle.textwrap_trie.specs.declared.entries.TrieEntry.{TrieEntry}
-use Rattle.textwrap_trie.proofs.entries.group_len.Given as goal
-
--- each entry so far has the letter
-abbrev pub invariant-loop-i : goal.invariant-loop-i
-invariant-loop-i g l =
-    (k : ℕ) (d : TrieEntry g.row.A.Denot) → k < l.i → letter_at l.depth (get_or l.entries k d) ≡ l.letter

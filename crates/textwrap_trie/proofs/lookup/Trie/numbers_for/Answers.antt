@@ -1,6 +1,0 @@
-use Rattle.textwrap_text.proofs.Common.{arith, drop_more}
-use Rattle.textwrap_trie.proofs.LevelsRaised.{numbers-none}
-use Rattle.textwrap_trie.proofs.lookup.Trie.numbers_for.Goals as goal
-
-pub returns-then-node-eq-EMPTY : goal.returns-then-node-eq-EMPTY
-returns-then-node-eq-EMPTY c = grind (arith, numbers-none, drop_more)

@@ -3,4 +3,3 @@ pub mod FirstFit
 pub mod Reflow
 pub mod Choosing
 pub mod Within
-pub mod Laws

@@ -10,7 +10,6 @@ pub use within::{LineRange, reflow_within};
 mod choosing;
 mod filling;
 mod first_fit;
-pub mod laws;
 mod least_cost;
 mod pieces;
 mod reflowing;

@@ -1,8 +1,9 @@
-//! Callers that show how the library is used, and the tests of the crates beside `textwrap` that are no
-//! rows of `textwrap_rows`: of lines for display, of texts with marks, of Unicode line breaking, of
-//! hyphenation, and of these callers.
+//! What the crates beside `textwrap` promise, with the bugs that are planted in it; callers that show
+//! how the library is used; and the tests of these crates that are no rows of `textwrap_rows`: of lines
+//! for display, of texts with marks, of Unicode line breaking, of hyphenation, and of these callers.
 #![tactic(auto)]
 
+pub mod promises;
 #[cfg(test)]
 mod tests;
 #[cfg(test)]

@@ -1,5 +1,0 @@
-use Rattle.textwrap_marked.proofs.laws.earlier_endings_make_no_difference.Goals as goal
-use Rattle.textwrap_marked.proofs.NewTexts.{endings-same}
-
-pub returns : goal.returns
-returns c = endings-same

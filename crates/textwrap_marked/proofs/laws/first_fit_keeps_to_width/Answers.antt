@@ -1,7 +1,0 @@
-use Rattle.textwrap_marked.proofs.laws.first_fit_keeps_to_width.Goals as goal
-use Rattle.textwrap_marked.proofs.NewParts.{within-width, new-parts}
-use Rattle.textwrap_marked.specs.Laws.{PartKeepsToWidth}
-
-pub returns : goal.returns
-returns c = λ options text reflowed fits.
-    new-parts options (PartKeepsToWidth options) (within-width options fits) text reflowed

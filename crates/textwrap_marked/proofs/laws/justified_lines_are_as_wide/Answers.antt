@@ -1,6 +1,0 @@
-use Rattle.textwrap_marked.proofs.laws.justified_lines_are_as_wide.Goals as goal
-use Rattle.textwrap_marked.{proofs.NewParts.fills-width, proofs.NewParts.new-parts, specs.Laws.FillsWidth}
-
-pub returns : goal.returns
-returns c = λ options text reflowed justify is.
-    new-parts options (FillsWidth options) (fills-width options justify) text reflowed is

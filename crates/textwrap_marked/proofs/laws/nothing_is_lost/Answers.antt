@@ -1,5 +1,0 @@
-use Rattle.textwrap_marked.proofs.laws.nothing_is_lost.Goals as goal
-use Rattle.textwrap_marked.proofs.NewTexts.{read-whole, shown-same}
-
-pub returns : goal.returns
-returns c = λ options text reflowed is. shown-same options text reflowed (read-whole options text reflowed is)

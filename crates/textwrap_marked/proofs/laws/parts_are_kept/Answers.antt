@@ -1,5 +1,0 @@
-use Rattle.textwrap_marked.proofs.laws.parts_are_kept.Goals as goal
-use Rattle.textwrap_marked.proofs.NewTexts.{parts-same, read-whole}
-
-pub returns : goal.returns
-returns c = λ options text reflowed is. parts-same options text reflowed (read-whole options text reflowed is)

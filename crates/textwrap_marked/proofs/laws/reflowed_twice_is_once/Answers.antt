@@ -1,5 +1,0 @@
-use Rattle.textwrap_marked.proofs.laws.reflowed_twice_is_once.Goals as goal
-use Rattle.textwrap_marked.proofs.NewTexts.{texts-stay}
-
-pub returns : goal.returns
-returns c = texts-stay

@@ -1,7 +1,0 @@
-use Rattle.textwrap_marked.proofs.laws.what_stands_apart_stays.Goals as goal
-use Rattle.textwrap_marked.proofs.NewParts.{kept-or-behind, new-parts}
-use Rattle.textwrap_marked.specs.Laws.{IsKeptOrBehind}
-
-pub returns : goal.returns
-returns c = λ options text reflowed none.
-    new-parts options IsKeptOrBehind (kept-or-behind options none) text reflowed

@@ -1,6 +1,0 @@
-use Rattle.textwrap_marked.proofs.laws.words_are_kept.Goals as goal
-use Rattle.textwrap_marked.proofs.NewParts.{kept-words, new-parts}
-use Rattle.textwrap_marked.specs.Laws.{PartKeepsWords}
-
-pub returns : goal.returns
-returns c = λ options. new-parts options (PartKeepsWords options) (kept-words options)

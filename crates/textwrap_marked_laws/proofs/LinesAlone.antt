@@ -1,0 +1,250 @@
+-- Lines that stand for themselves: no line of a paragraph does.
+use Rattle.std.proofs.lemmas.{Bool.or_right, Bool.or_left, List.Elements.filter-append}
+use Rattle.std.specs.List.{filter}
+use Rattle.textwrap_marked_laws.proofs.Common.{All-map, All-nil, or-left, is_box, length, false, subst, Bool, ap}
+use Rattle.textwrap_marked_laws.proofs.Common.{AreShown, LineText, bytes_eq, is_quote, list_any, none-any, codes}
+use Rattle.textwrap_marked_laws.proofs.Common.{List, cond, refl, true, ◌&&◌, ◌++◌, ◌||◌, All, ap₂, map, not, suc}
+use Rattle.textwrap_marked_laws.proofs.Common.{SpacedText, first_word, has_letter, map-append, told-apart, arith}
+use Rattle.textwrap_marked_laws.proofs.Common.{StateText, and-false, is_bullet, All-cons, All-head, All-tail, []}
+use Rattle.textwrap_marked_laws.proofs.Common.{comment_len, has_columns, lines_alone, spaced_text, All-weaker}
+use Rattle.textwrap_marked_laws.proofs.Common.{is_comment_at, line_as_read, begins_text, bullets_len, All-append}
+use Rattle.textwrap_marked_laws.proofs.Common.{sym, ◌<◌, ◌∙◌, ◌∷◌, ◌≡◌}
+use Rattle.textwrap_marked_laws.proofs.Common.{without_returns, is_column_word, words_of_lines, ReflowOptions, ℕ}
+use Rattle.textwrap_marked_laws.proofs.HangingKinds.{quotes-are, IsFull}
+use Rattle.textwrap_marked_laws.proofs.LaterLines.{one-bullet, IsOfText}
+use Rattle.textwrap_marked_laws.proofs.ShownLines.{shown-append, shows-later, line-split, line-words, own_shown}
+use Rattle.textwrap_marked_laws.proofs.SpacedBack.{AreSpaced, IsWhite}
+use Rattle.textwrap_marked_laws.proofs.{HangingForms.IsHanging, LineKinds.HaveKinds, LineKinds.some-if}
+use Rattle.textwrap_marked_laws.proofs.{OpenBehind.no-columns, ShownLines.shows-own}
+use Rattle.textwrap_marked_laws.specs.Laws.{begins_no_text, HasNoBarMark, is_line_mark, stands_alone, LineShows}
+use Rattle.textwrap_marks.specs.Signs.{is_sign}
+use Rattle.textwrap_text.proofs.Common.{and_parts}
+
+-- a word that is no bar
+abbrev pub NoBar : List ℕ → Type 0
+NoBar word = bytes_eq word (codes "|") ≡ false
+
+module _ (options : ReflowOptions) (plain : HasNoBarMark options) where
+  -- a mark before a text, and no bar
+  pub record IsLineMark (w : SpacedText) : Type 0 where
+    pub mark : is_line_mark options w.word ≡ true
+    pub no_bar : NoBar w.word
+
+  -- ---- marks
+
+  comment-mark : (in_block : Bool) (word : List ℕ) → is_comment_at options in_block word ≡ true
+      → is_line_mark options word ≡ true
+  comment-mark true word is = or_left _ _ (or_left _ _ (or_left _ _ (or_left _ _ (or_left _ _ is))))
+  comment-mark false word is =
+      or_left _ _ (or_left _ _ (or_left _ _ (or_left _ _ (or_right _ _ is))))
+
+  no-bar : (in_block : Bool) → is_comment_at options in_block (codes "|") ≡ false
+  no-bar true = refl
+  no-bar false =
+      ap (λ b. b || (not options.markdown && false)) plain ∙ and-false (not options.markdown)
+
+  comment-is : (in_block : Bool) (w : SpacedText) → is_comment_at options in_block w.word ≡ true → IsLineMark w
+  comment-is in_block w is = record {
+    mark = comment-mark in_block w.word is;
+    no_bar = told-apart (is_comment_at options in_block) w.word (codes "|") is (no-bar in_block);
+  }
+
+  comments-are : (in_block : Bool) (cs rest : List SpacedText)
+      → comment_len options in_block (cs ++ rest) ≡ length cs → All IsLineMark cs
+  comments-are in_block [] rest is = All-nil IsLineMark
+  comments-are in_block (c ∷ []) rest is =
+      All-cons IsLineMark c [] (comment-is in_block c (some-if (is_comment_at options in_block c.word) 0 0 is).0)
+      (All-nil IsLineMark)
+  comments-are in_block (c ∷ d ∷ cs) rest is =
+      absurd (omega (arith, (some-if (is_comment_at options in_block c.word) 0 (suc (length cs)) is).1))
+
+  quotes-line-marks : (qs : List SpacedText) → All (λ w. is_quote w.word ≡ true) qs → All IsLineMark qs
+  quotes-line-marks qs all =
+      All-weaker (λ w. is_quote w.word ≡ true) IsLineMark (λ w is. record {
+        mark = or_left _ _ (or_left _ _ (or_left _ _ (or_right _ _ is)));
+        no_bar = told-apart is_quote w.word (codes "|") is refl;
+      }) qs all
+
+  bullet-is : (w : SpacedText) → is_bullet w.word ≡ true → IsLineMark w
+  bullet-is w is = record {
+    mark = or_left _ _ (or_left _ _ (or_right _ _ is));
+    no_bar = told-apart is_bullet w.word (codes "|") is refl;
+  }
+
+  box-is : (w v : SpacedText) → is_box w v ≡ true → IsLineMark w × IsLineMark v
+  box-is w v is =
+      let (front, closes) = and_parts (bytes_eq w.word (codes "[") && bytes_eq w.white (codes " ")) _ is in
+      let opens = (and_parts (bytes_eq w.word (codes "[")) (bytes_eq w.white (codes " ")) front).0 in (
+        record {
+          mark = or_left _ _ (or_right _ _ opens);
+          no_bar = told-apart (λ word. bytes_eq word (codes "[")) w.word (codes "|") opens refl;
+        },
+        record {
+          mark = or_right _ _ closes;
+          no_bar = told-apart (λ word. bytes_eq word (codes "]")) v.word (codes "|") closes refl;
+        },
+      )
+
+  bullets-are : (bs ws : List SpacedText) → bullets_len (bs ++ ws) ≡ length bs → All IsLineMark bs
+  bullets-are [] ws is = All-nil IsLineMark
+  bullets-are (w ∷ []) [] is =
+      All-cons IsLineMark w [] (bullet-is w (some-if (is_bullet w.word) 0 0 is).0) (All-nil IsLineMark)
+  bullets-are (w ∷ []) (v ∷ ws) is =
+      let (bullet, none) =
+      one-bullet (is_bullet w.word) (is_box w v) (bullets_len (v ∷ ws)) (bullets_len ws) is in
+      All-cons IsLineMark w [] (bullet-is w bullet) (All-nil IsLineMark)
+  bullets-are (w ∷ v ∷ bs) ws is =
+      cut (bullets-are (v ∷ bs) ws) (bullets-are bs ws) (is_bullet w.word) refl (is_box w v) refl is
+    where
+      cut : (bullets_len (v ∷ (bs ++ ws)) ≡ suc (length bs) → All IsLineMark (v ∷ bs))
+          → (bullets_len (bs ++ ws) ≡ length bs → All IsLineMark bs)
+          → (b : Bool) → is_bullet w.word ≡ b → (x : Bool) → is_box w v ≡ x
+          → cond b (suc (bullets_len (v ∷ (bs ++ ws)))) (cond x (suc (suc (bullets_len (bs ++ ws)))) 0)
+          ≡ suc (suc (length bs)) → All IsLineMark (w ∷ v ∷ bs)
+      cut later behind true bullet x box is =
+          All-cons IsLineMark w (v ∷ bs) (bullet-is w bullet) (later (omega (arith, is)))
+      cut later behind false bullet true box is =
+          let (opens, closes) = box-is w v box in
+          All-cons IsLineMark w (v ∷ bs) opens (All-cons IsLineMark v bs closes (behind (omega (arith, is))))
+      cut later behind false bullet false box is = absurd (omega (arith, is))
+
+  line-marks : (in_block : Bool) (cs qs bs ws : List SpacedText) → HaveKinds options in_block cs qs bs ws
+      → All IsLineMark (cs ++ (qs ++ bs))
+  line-marks in_block cs qs bs ws have =
+      All-append IsLineMark cs (qs ++ bs) (comments-are in_block cs (qs ++ (bs ++ ws)) have.comment)
+      (All-append IsLineMark qs bs (quotes-line-marks qs (quotes-are qs (bs ++ ws) have.quote))
+      (bullets-are bs ws have.bullet))
+
+  -- ---- lines
+
+  -- behind marks text begins
+  text-begins : (marks ws : List SpacedText) → All IsLineMark marks → (starred : Bool)
+      → begins_text starred (first_word ws) ≡ true → 0 < length ws
+      → begins_no_text options (map (λ w. w.word) marks ++ map (λ w. w.word) ws) ≡ false
+  text-begins [] [] all starred begins some = absurd (omega (arith, some))
+  text-begins [] (w ∷ ws) all starred begins some =
+      let later = map (λ (v : SpacedText). v.word) ws in
+      ap (λ b. cond b false (cond (is_line_mark options w.word) (begins_no_text options later) true))
+      (ap (λ b. b && true) (and_parts (has_letter w.word && not (is_sign w.word)) _ begins).0)
+  text-begins (m ∷ marks) ws all starred begins some =
+      let later = begins_no_text options (map (λ (w : SpacedText). w.word) marks ++ map (λ (w : SpacedText). w.word) ws) in
+      let behind = text-begins marks ws (All-tail IsLineMark m marks all) starred begins some in
+      elim (begins_text false m.word) as (λ b. cond b false (cond (is_line_mark options m.word) later true) ≡ false) [
+        | true ↦ refl
+        | false ↦ ap (λ b. cond b later true) (All-head IsLineMark m marks all).mark ∙ behind
+      ]
+
+  -- a line of such marks and a text does not stand for itself
+  not-alone : (line lead : List ℕ) (marks ws : List SpacedText) → All IsWhite lead → All IsFull marks
+      → AreSpaced ws → 0 < length ws → line ≡ (lead ++ spaced_text marks) ++ spaced_text ws
+      → All IsLineMark marks → (starred : Bool) → begins_text starred (first_word ws) ≡ true
+      → has_columns options.justify ws ≡ false → stands_alone options line ≡ false
+  not-alone line lead marks ws white full spaced some is all starred begins level =
+      let words : List SpacedText → List (List ℕ) = map (λ w. w.word) in
+      ap (λ l. begins_no_text options l || list_any (λ w. bytes_eq w (codes "|")) l)
+      (line-words line lead marks ws white full spaced some is)
+      ∙ ap₂ (λ a b. a || b) (text-begins marks ws all starred begins some)
+      (none-any (λ w. bytes_eq w (codes "|")) (words marks ++ words ws)
+      (All-append NoBar (words marks) (words ws)
+      (All-map NoBar (λ w. w.word) marks (All-weaker IsLineMark (λ w. NoBar w.word) (λ w is. is.no_bar) marks all))
+      (All-map NoBar (λ w. w.word) ws (All-weaker (λ w. is_column_word w.word ≡ false) (λ w. NoBar w.word) (λ w is.
+      or-left (bytes_eq w.word (codes "|")) _ (or-left _ _ (or-left _ _ (or-left _ _ (or-left _ _ is))))) ws
+      (no-columns options.justify ws level)))))
+
+  -- nor does a first line behind these marks
+  pub first-not-alone : (in_block : Bool) (line lead : List ℕ) (cs qs bs ws vs : List SpacedText)
+      → HaveKinds options in_block cs qs bs ws → All IsWhite lead → All IsFull (cs ++ (qs ++ bs))
+      → AreSpaced vs → 0 < length vs → line ≡ (lead ++ spaced_text (cs ++ (qs ++ bs))) ++ spaced_text vs
+      → (starred : Bool) → begins_text starred (first_word vs) ≡ true → has_columns options.justify vs ≡ false
+      → stands_alone options line ≡ false
+  first-not-alone in_block line lead cs qs bs ws vs have white full spaced some is =
+      not-alone line lead (cs ++ (qs ++ bs)) vs white full spaced some is (line-marks in_block cs qs bs ws have)
+
+  -- nor a later line behind a hanging form
+  pub later-not-alone : (in_block : Bool) (hanging : List ℕ) → IsHanging options in_block hanging
+      → (state : StateText) (raw : List ℕ) (fed : Bool) → let line = line_as_read options state raw fed in
+      IsOfText options in_block hanging state line → line.prefix ≡ hanging
+      → stands_alone options (without_returns raw) ≡ false
+  later-not-alone in_block hanging hang state raw fed of prefix =
+      let line = line_as_read options state raw fed in
+      not-alone (without_returns raw) hang.lead (hang.cs ++ hang.qs) line.words hang.white hang.full of.spaced of.some
+      (line-split options state raw fed ∙ ap (λ p. p ++ spaced_text line.words) (prefix ∙ hang.is))
+      (All-append IsLineMark hang.cs hang.qs
+      (All-weaker (λ w. is_comment_at options in_block w.word ≡ true) IsLineMark (comment-is in_block) hang.cs
+      hang.marks.comment) (quotes-line-marks hang.qs hang.marks.quote)) of.starred of.begins of.columns
+
+module _ (options : ReflowOptions) where
+  pub alone-skip : (line : List ℕ) (lines : List (List ℕ)) → stands_alone options (without_returns line) ≡ false
+      → lines_alone options (line ∷ lines) ≡ lines_alone options lines
+  alone-skip line lines is =
+      ap (λ b. cond b (without_returns line ∷ lines_alone options lines) (lines_alone options lines)) is
+
+  alone-append : (lines later : List (List ℕ))
+      → lines_alone options (lines ++ later) ≡ lines_alone options lines ++ lines_alone options later
+  alone-append lines later =
+      ap (filter (stands_alone options)) (map-append without_returns lines later)
+      ∙ filter-append (stands_alone options) (map without_returns lines) (map without_returns later)
+
+  -- lines that show the words of these, and none of them stands for itself
+  pub record AreTextLines (raws : List (List ℕ)) (lines : List LineText) : Type 0 where
+    pub shown : AreShown options raws (words_of_lines lines)
+    pub alone : HasNoBarMark options → lines_alone options raws ≡ []
+
+  pub no-lines : AreTextLines [] []
+  no-lines = record { shown = refl; alone = λ plain. refl }
+
+  -- one more, behind a hanging form
+  pub more-lines : (in_block : Bool) (hanging : List ℕ) → IsHanging options in_block hanging
+      → (state : StateText) (raw : List ℕ) (fed : Bool) (raws : List (List ℕ)) (lines : List LineText)
+      → let line = line_as_read options state raw fed in
+      IsOfText options in_block hanging state line → line.prefix ≡ hanging → AreTextLines raws lines
+      → AreTextLines (raw ∷ raws) (line ∷ lines)
+  more-lines in_block hanging hang state raw fed raws lines of prefix are = record {
+    shown = (
+      _,
+      words_of_lines lines,
+      shows-later options in_block hanging hang state raw fed of prefix,
+      are.shown,
+      refl,
+    );
+    alone = λ plain. alone-skip raw raws (later-not-alone options plain in_block hanging hang state raw fed of prefix)
+        ∙ are.alone plain;
+  }
+
+  -- lines that show the same, and of which the same stand for themselves
+  pub record AreAlike (lines others : List (List ℕ)) : Type 0 where
+    pub shown : List (List ℕ)
+    pub these : AreShown options lines shown
+    pub those : AreShown options others shown
+    pub alone : HasNoBarMark options → lines_alone options others ≡ lines_alone options lines
+
+  pub none-alike : AreAlike [] []
+  none-alike = record { shown = []; these = refl; those = refl; alone = λ plain. refl }
+
+  -- a line with the same content more
+  pub more-alike : (raw new : List ℕ) (lines others : List (List ℕ))
+      → without_returns new ≡ without_returns raw → AreAlike lines others → AreAlike (raw ∷ lines) (new ∷ others)
+  more-alike raw new lines others same alike =
+      let own = shows-own options (without_returns raw) in record {
+        shown = own_shown (without_returns raw) ++ alike.shown;
+        these = (_, alike.shown, own, alike.these, refl);
+        those = (
+          own_shown (without_returns raw),
+          alike.shown,
+          subst (λ l. LineShows options l (own_shown (without_returns raw))) (sym same) own,
+          alike.those,
+          refl,
+        );
+        alone = λ plain.
+            ap₂ (λ line lines. cond (stands_alone options line) (line ∷ lines) lines) same (alike.alone plain);
+      }
+
+  pub alike-append : (lines others later more : List (List ℕ)) → AreAlike lines others → AreAlike later more
+      → AreAlike (lines ++ later) (others ++ more)
+  alike-append lines others later more front back = record {
+    shown = front.shown ++ back.shown;
+    these = shown-append options lines later front.shown back.shown front.these back.these;
+    those = shown-append options others more front.shown back.shown front.those back.those;
+    alone = λ plain. alone-append others more ∙ ap₂ (λ a b. a ++ b) (front.alone plain) (back.alone plain)
+        ∙ sym (alone-append lines later);
+  }

@@ -1,0 +1,332 @@
+-- The lines of a paragraph of a text, one after another.
+use Rattle.textwrap_marked_laws.proofs.Common.{All-append, SpacedText, append-nil, cases_Bool, first_word, arith}
+use Rattle.textwrap_marked_laws.proofs.Common.{LineText, any-none, as_title, bytes_eq, contains, is_ended, codes}
+use Rattle.textwrap_marked_laws.proofs.Common.{length, nat_lt, passed, false, subst, Bool, List, drop, refl, All}
+use Rattle.textwrap_marked_laws.proofs.Common.{length-append, closes_block, closes_early, line_as_read, All-cons}
+use Rattle.textwrap_marked_laws.proofs.Common.{length-map, read_lines, StateText, last_word, All-head, All-tail}
+use Rattle.textwrap_marked_laws.proofs.Common.{or-false, All-map, All-nil, entered, goes_on, or-left, get_or, []}
+use Rattle.textwrap_marked_laws.proofs.Common.{true, ◌&&◌, ◌++◌, ◌||◌, ap₂, map, not, sym, ◌<◌, ◌∙◌, ◌∷◌, ◌≡◌, ⊤}
+use Rattle.textwrap_marked_laws.proofs.Common.{without_returns, is_column_word, words_of_lines, ReflowOptions, ℕ}
+use Rattle.textwrap_marked_laws.proofs.Common.{words_before_last, bytes_eq-Decides, opens_paragraph, with_titles}
+use Rattle.textwrap_marked_laws.proofs.LinesAlone.{AreTextLines, more-lines, no-lines}
+use Rattle.textwrap_marked_laws.proofs.OpenBehind.{behind_text, no-columns}
+use Rattle.textwrap_marked_laws.proofs.SpacedBack.{spaced-plain, IsPlain}
+use Rattle.textwrap_marked_laws.proofs.SpreadWords.{front-more, last-more, last_text}
+use Rattle.textwrap_marked_laws.proofs.{HangingForms.IsHanging, ParagraphLines.later-line}
+use Rattle.textwrap_marked_laws.proofs.Common.{ap}
+use Rattle.textwrap_marked_laws.proofs.LaterLines.{IsOfText}
+use Rattle.textwrap_marked_lines.specs.Lines.{is_title}
+use Rattle.textwrap_marks.{proofs.ListLemmas.or-right, specs.Signs.ends_early}
+
+-- the last of some texts is that of those behind others
+pub last-behind : (words : List (List ℕ)) (word : List ℕ) (later : List (List ℕ))
+    → last_text (words ++ word ∷ later) ≡ last_text (word ∷ later)
+last-behind [] word later = refl
+last-behind (v ∷ []) word later = refl
+last-behind (v ∷ w ∷ words) word later = last-behind (w ∷ words) word later
+
+-- ---- titles
+
+-- whether a line is a title, before these lines
+abbrev pub title_of : LineText → List LineText → Bool
+title_of line [] = false
+title_of line (next ∷ lines) = is_title line next
+
+pub as-title-none : (line : LineText) → as_title false line ≡ line
+as-title-none line = λ i. record line { apart = or-false line.apart i }
+
+titles-more : (line : LineText) (lines : List LineText)
+    → with_titles (line ∷ lines) ≡ as_title (title_of line lines) line ∷ with_titles lines
+titles-more line [] = ap (λ l. l ∷ []) (sym (as-title-none line))
+titles-more line (next ∷ lines) = refl
+
+title-same : (line : LineText) (lines : List LineText)
+    → title_of line (with_titles lines) ≡ title_of line lines
+title-same line [] = refl
+title-same line (next ∷ []) = refl
+title-same line (next ∷ more ∷ lines) = refl
+
+-- ---- lines that are read
+
+module _ (options : ReflowOptions) where
+  -- the lines between line feeds, with their titles
+  abbrev pub read : StateText → List (List ℕ) → List LineText
+  read state raws = with_titles (read_lines options state raws)
+
+  abbrev pub line_at : StateText → List ℕ → List (List ℕ) → LineText
+  line_at state raw raws = line_as_read options (entered state (without_returns raw)) raw (nat_lt 0 (length raws))
+
+  pub read-more : (state : StateText) (raw : List ℕ) (raws : List (List ℕ))
+      → let line = line_at state raw raws in
+      let later = read (passed (entered state (without_returns raw)) line) raws in
+      read state (raw ∷ raws) ≡ as_title (title_of line later) line ∷ later
+  read-more state raw raws =
+      let line = line_at state raw raws in
+      let later = read_lines options (passed (entered state (without_returns raw)) line) raws in
+      titles-more line later
+      ∙ ap (λ b. as_title b line ∷ with_titles later) (sym (title-same line later))
+
+  -- what holds of each line that is read, a title or not, holds of all of them
+  pub read-all : (P : LineText → Type 0) (Q : List ℕ → Type 0) → ((state : StateText) (raw : List ℕ)
+      (fed is : Bool) → Q raw → P (as_title is (line_as_read options state raw fed)))
+      → (raws : List (List ℕ)) (state : StateText) → All Q raws → All P (read state raws)
+  read-all P Q each [] state all = All-nil P
+  read-all P Q each (raw ∷ raws) state all =
+      let at = entered state (without_returns raw) in
+      let line = line_at state raw raws in
+      let later = read (passed at line) raws in
+      subst (All P) (sym (read-more state raw raws)) (All-cons P (as_title (title_of line later) line) later
+      (each at raw (nat_lt 0 (length raws)) (title_of line later) (All-head Q raw raws all))
+      (read-all P Q each raws (passed at line) (All-tail Q raw raws all)))
+
+  -- the first line that is read, and those behind it
+  pub record IsPeeled (state : StateText) (line : LineText) (lines : List LineText)
+      (raws : List (List ℕ)) : Type 0 where
+    pub raw : List ℕ
+    pub left : List (List ℕ)
+    pub whole : raws ≡ raw ∷ left
+    pub here : line ≡ as_title (title_of (line_at state raw left) lines) (line_at state raw left)
+    pub later : lines ≡ read (passed (entered state (without_returns raw)) (line_at state raw left)) left
+
+  pub peel : (state : StateText) (raws : List (List ℕ)) (line : LineText) (lines : List LineText)
+      → line ∷ lines ≡ read state raws → IsPeeled state line lines raws
+  peel state [] line lines is = absurd (omega (arith, ap length is))
+  peel state (raw ∷ raws) line lines is =
+      let here = line_at state raw raws in
+      let behind = read (passed (entered state (without_returns raw)) here) raws in
+      let whole : line ∷ lines ≡ as_title (title_of here behind) here ∷ behind =
+      is ∙ read-more state raw raws in
+      let later : lines ≡ behind = ap (drop 1) whole in record {
+        raw = raw;
+        left = raws;
+        whole = refl;
+        here = ap (λ l. get_or l 0 line) whole ∙ ap (λ l. as_title (title_of here l) here) (sym later);
+        later = later;
+      }
+
+-- a line that does not stand apart is no title
+pub untitled : (is : Bool) (line titled : LineText) → titled ≡ as_title is line
+    → titled.apart ≡ false → (titled ≡ line) × (line.apart ≡ false) × (is ≡ false)
+untitled is line titled same apart =
+    let both : (line.apart || is) ≡ false = sym (ap (λ (l : LineText). l.apart) same) ∙ apart in
+    let title = or-right line.apart is both in (
+      same ∙ ap (λ b. as_title b line) title ∙ as-title-none line,
+      or-left line.apart is both,
+      title,
+    )
+
+-- ---- words that may close a block comment
+
+abbrev pub NoClose : Bool → List ℕ → Type 0
+NoClose in_block word = (in_block && contains (codes "*/") word) ≡ false
+
+-- one of them but the last does, or the last not at its end
+abbrev pub closes_badly : List (List ℕ) → Bool
+closes_badly [] = false
+closes_badly (word ∷ []) = contains (codes "*/") word && ends_early word
+closes_badly (word ∷ next ∷ words) = contains (codes "*/") word || closes_badly (next ∷ words)
+
+-- only the last may, and at its end
+abbrev pub AreClosing : Bool → List (List ℕ) → Type 0
+AreClosing in_block words = (in_block && closes_badly words) ≡ false
+
+pub closing-before : (in_block : Bool) (words later : List (List ℕ)) → All (NoClose in_block) words
+    → AreClosing in_block later → AreClosing in_block (words ++ later)
+closing-before false words later all are = refl
+closing-before true [] later all are = are
+closing-before true (word ∷ words) later all are =
+    more (words ++ later) (All-head (NoClose true) word words all)
+    (closing-before true words later (All-tail (NoClose true) word words all) are)
+  where
+    more : (l : List (List ℕ)) → NoClose true word → AreClosing true l → AreClosing true (word ∷ l)
+    more [] none are = ap (λ t. t && ends_early word) none
+    more (v ∷ l) none are = ap (λ t. t || closes_badly (v ∷ l)) none ∙ are
+
+masked-all : (in_block : Bool) (words : List SpacedText)
+    → (in_block && closes_block words) ≡ false
+    → All (NoClose in_block) (map (λ w. w.word) words)
+masked-all false words is =
+    All-map (NoClose false) (λ w. w.word) words (λ k d within. refl)
+masked-all true words is =
+    All-map (NoClose true) (λ w. w.word) words (any-none (λ w. contains (codes "*/") w.word) words is)
+
+closing-is : (words : List SpacedText)
+    → (closes_block words && closes_early words) ≡ closes_badly (map (λ w. w.word) words)
+closing-is [] = refl
+closing-is (w ∷ []) =
+    elim (contains (codes "*/") w.word)
+    as (λ c. ((c || false) && (false || ends_early w.word)) ≡ (c && ends_early w.word))
+    [ true ↦ refl | false ↦ refl ]
+closing-is (w ∷ v ∷ ws) =
+    let all = closes_block (v ∷ ws) in
+    let front = closes_block (words_before_last (v ∷ ws)) in
+    let early = ends_early (last_word (v ∷ ws)) in
+    ap₂ (λ l k. (contains (codes "*/") w.word || all) && (closes_block l || ends_early (first_word k)))
+    (front-more w v ws) (last-more w v ws)
+    ∙ elim (contains (codes "*/") w.word)
+    as (λ c. ((c || all) && ((c || front) || early)) ≡ (c || (all && (front || early)))) [ true ↦ refl | false ↦ refl ]
+    ∙ ap (λ b. contains (codes "*/") w.word || b) (closing-is (v ∷ ws))
+
+pub closing-same : (in_block : Bool) (words : List SpacedText)
+    → (in_block && closes_block words && closes_early words)
+    ≡ (in_block && closes_badly (map (λ w. w.word) words))
+closing-same true words = closing-is words
+closing-same false words = refl
+
+-- ---- the lines of a paragraph
+
+-- the last of a line and those behind it
+abbrev pub last_line : LineText → List LineText → LineText
+last_line line [] = line
+last_line line (next ∷ lines) = last_line next lines
+
+-- each line goes on with the one before it
+abbrev pub AreOneBlock : LineText → List LineText → Type 0
+AreOneBlock line [] = ⊤
+AreOneBlock line (next ∷ lines) = (goes_on line next ≡ true) × AreOneBlock next lines
+
+abbrev pub NoColumn : List ℕ → Type 0
+NoColumn word = is_column_word word ≡ false
+
+-- what is known of the words of a paragraph's lines
+pub record AreTextWords (in_block : Bool) (words : List (List ℕ)) : Type 0 where
+  pub plain : All IsPlain words
+  pub columns : All (λ w. is_column_word w ≡ false) words
+  pub closing : AreClosing in_block words
+
+going : (a b c d e : Bool) → (not a && not b && not c && d && not e) ≡ true
+    → (b ≡ false) × (c ≡ false) × (d ≡ true) × (e ≡ false)
+going a b c d e is = grind (arith, cases_Bool)
+
+pub goes-facts : (line next : LineText) → goes_on line next ≡ true
+    → (next.apart ≡ false) × (line.ended ≡ false) × (next.prefix ≡ line.hanging)
+    × (opens_paragraph (first_word next.words) ≡ false)
+goes-facts line next is =
+    let facts = going line.apart next.apart line.ended (bytes_eq next.prefix line.hanging)
+    (opens_paragraph (first_word next.words)) is in
+    (facts.0, facts.1, (bytes_eq-Decides next.prefix line.hanging).0 facts.2, facts.3)
+
+-- what does not close a block comment leaves it as it is
+pub open_still : (a c : Bool) → (a && c) ≡ false → (a && not c) ≡ a
+open_still a c is = grind (arith, cases_Bool)
+
+ended-none : (in_block : Bool) (words : List SpacedText) → is_ended in_block words ≡ false
+    → (in_block && closes_block words) ≡ false
+ended-none in_block words is = or-right _ (in_block && closes_block words) is
+
+module _ (options : ReflowOptions) (in_block : Bool) (hanging : List ℕ)
+    (hang : IsHanging options in_block hanging) where
+  -- the paragraph up to its last line, and the lines behind it
+  pub record IsWalked (line : LineText) (lines rest : List LineText) (raws : List (List ℕ)) : Type 0 where
+    pub done : List (List ℕ)
+    pub left : List (List ℕ)
+    pub whole : raws ≡ done ++ left
+    pub reads : rest ≡ read options (behind_text in_block hanging (last_line line lines).words) left
+    pub at : StateText
+    pub of : IsOfText options in_block hanging at (last_line line lines)
+    pub apart : (last_line line lines).apart ≡ false
+    pub title : title_of (last_line line lines) rest ≡ false
+    pub fed : (last_line line lines).fed ≡ nat_lt 0 (length left)
+    pub closing : AreClosing in_block (map (λ w. w.word) (last_line line lines).words)
+    pub words_some : 0 < length (words_of_lines (line ∷ lines))
+    pub final : last_text (words_of_lines (line ∷ lines))
+        ≡ last_text (map (λ w. w.word) (last_line line lines).words)
+    pub words : AreTextWords in_block (words_of_lines (line ∷ lines))
+    pub texts : AreTextLines options done lines
+
+  walked-last : (mine others : List (List ℕ)) → 0 < length others
+      → last_text (mine ++ others) ≡ last_text others
+  walked-last mine [] some = absurd (omega (arith, some))
+  walked-last mine (word ∷ others) some = last-behind mine word others
+
+  line-words : (state : StateText) (line : LineText) → IsOfText options in_block hanging state line
+      → AreTextWords in_block (map (λ w. w.word) line.words)
+  line-words state line of = record {
+    plain = All-map IsPlain (λ w. w.word) line.words (spaced-plain line.words of.spaced);
+    columns = All-map (λ w. is_column_word w ≡ false) (λ w. w.word) line.words
+        (no-columns options.justify line.words of.columns);
+    closing = sym (closing-same in_block line.words) ∙ of.closes;
+  }
+
+  walk-more : (state : StateText) (line next : LineText) (lines rest : List LineText)
+      (raw : List ℕ) (raws left : List (List ℕ)) → raws ≡ raw ∷ left
+      → IsOfText options in_block hanging state line → line.ended ≡ false
+      → (walked : IsWalked next lines rest left) → AreTextLines options (raw ∷ walked.done) (next ∷ lines)
+      → IsWalked line (next ∷ lines) rest raws
+  walk-more state line next lines rest raw raws left whole of ended walked texts =
+      let own = line-words state line of in
+      let none = masked-all in_block line.words
+      (ended-none in_block line.words (sym of.ends ∙ ended)) in
+      let mine = map (λ (w : SpacedText). w.word) line.words in
+      let others = words_of_lines (next ∷ lines) in record {
+        done = raw ∷ walked.done;
+        left = walked.left;
+        whole = whole ∙ ap (λ l. raw ∷ l) walked.whole;
+        reads = walked.reads;
+        at = walked.at;
+        of = walked.of;
+        apart = walked.apart;
+        title = walked.title;
+        fed = walked.fed;
+        closing = walked.closing;
+        words_some = omega (arith, walked.words_some, length-append mine others);
+        final = walked-last mine others walked.words_some ∙ walked.final;
+        words = record {
+          plain = All-append IsPlain mine others own.plain walked.words.plain;
+          columns = All-append NoColumn mine others own.columns walked.words.columns;
+          closing = closing-before in_block mine others none walked.words.closing;
+        };
+        texts = texts;
+      }
+
+  pub walk : (lines : List LineText) (line : LineText) (state : StateText) (rest : List LineText)
+      (raws : List (List ℕ)) → IsOfText options in_block hanging state line → line.apart ≡ false
+      → title_of line (lines ++ rest) ≡ false → AreOneBlock line lines
+      → line.fed ≡ nat_lt 0 (length raws)
+      → lines ++ rest ≡ read options (passed state line) raws → IsWalked line lines rest raws
+  walk [] line state rest raws of apart title one fed is = record {
+    done = [];
+    left = raws;
+    whole = refl;
+    reads = is ∙ ap (λ s. read options s raws) of.behind;
+    at = state;
+    of = of;
+    apart = apart;
+    title = title;
+    fed = fed;
+    closing = sym (closing-same in_block line.words) ∙ of.closes;
+    words_some = omega (
+      arith,
+      of.some,
+      length-append (map (λ w. w.word) line.words) [],
+      length-map line.words (λ w. w.word),
+    );
+    final = ap last_text (append-nil (map (λ w. w.word) line.words));
+    words = subst (AreTextWords in_block) (sym (append-nil (map (λ w. w.word) line.words)))
+        (line-words state line of);
+    texts = no-lines options;
+  }
+  walk (next ∷ lines) line state rest raws of apart title (goes, one) fed is =
+      let (level, ended, prefix, opens) = goes-facts line next goes in
+      let behind = behind_text in_block hanging line.words in
+      let peeled = peel options behind raws next (lines ++ rest)
+      (is ∙ ap (λ s. read options s raws) of.behind) in
+      let read_line = line_at options behind peeled.raw peeled.left in
+      let (same, free, plain) =
+      untitled (title_of read_line (lines ++ rest)) read_line next peeled.here level in
+      let block : (in_block && not (closes_block line.words)) ≡ in_block =
+      open_still in_block (closes_block line.words)
+      (ended-none in_block line.words (sym of.ends ∙ ended)) in
+      let hung : read_line.prefix ≡ hanging =
+      sym (ap (λ (l : LineText). l.prefix) same) ∙ prefix ∙ of.hangs in
+      let fed_next = nat_lt 0 (length peeled.left) in
+      let of_read = later-line options in_block hanging hang behind peeled.raw fed_next block free hung in
+      let of_next = subst (IsOfText options in_block hanging behind) (sym same) of_read in
+      let title_next : title_of next (lines ++ rest) ≡ false =
+      ap (λ l. title_of l (lines ++ rest)) same ∙ plain in
+      let walked = walk lines next behind rest peeled.left of_next level title_next one
+      (ap (λ (l : LineText). l.fed) same)
+      (peeled.later ∙ ap (λ l. read options (passed behind l) peeled.left) (sym same)) in
+      walk-more state line next lines rest peeled.raw raws peeled.left peeled.whole of ended walked
+      (subst (λ l. AreTextLines options (peeled.raw ∷ walked.done) (l ∷ lines)) (sym same)
+      (more-lines options in_block hanging hang behind peeled.raw fed_next walked.done lines of_read hung walked.texts))

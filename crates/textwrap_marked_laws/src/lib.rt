@@ -1,0 +1,4 @@
+//! Laws of the texts that `reflow` gives.
+#![tactic(auto)]
+
+pub mod laws;

@@ -1,19 +1,13 @@
 -- What holds by the options that hold no function holds by what they name.
 use Rattle.textwrap_display.proofs.TableGroups.{MakeThose, table-map}
 use Rattle.textwrap_display.specs.Tables.{IsTableBy, RowGaps}
-use Rattle.textwrap_layout.proofs.Common.{IsFilled, Settings, is_whole, line_bytes, line_from}
-use Rattle.textwrap_layout.proofs.Common.{parts_of}
-use Rattle.textwrap_layout.proofs.Paragraph.LeftOff.{AreParagraphParts-whole, line_from-whole}
-use Rattle.textwrap_layout.proofs.Text.Paragraphs.{join-paragraphs_of}
+use Rattle.textwrap_layout.proofs.Common.{Settings}
 use Rattle.textwrap_plain.specs.Options.{DividesFrom, words_by}
 use Rattle.textwrap_plain.specs.Tables.{IsPlainTable, PlainMakes, plain_parts, plain_shape}
 use Rattle.textwrap_plain.specs.declared.columns.PlainColumn.{PlainColumn}
 use Rattle.textwrap_plain.specs.declared.options.PlainSeparator.{PlainSeparator}
-use Rattle.textwrap_text.proofs.Common.{Bool, List, [], ap, cond, ending_bytes, false, join_with}
-use Rattle.textwrap_text.proofs.Common.{map, paragraphs_of, refl, subst, sym, true}
-use Rattle.textwrap_text.proofs.Common.{without_final_blanks, ℕ, ◌∙◌, ◌∷◌, ◌≡◌}
-use Rattle.textwrap_text.specs.declared.line_ending.LineEnding.{LineEnding}
-use Rattle.textwrap_words.proofs.Common.{Algorithm, WordText, word_of}
+use Rattle.textwrap_text.proofs.Common.{Bool, List, [], map, refl, subst, ℕ, ◌∷◌, ◌≡◌}
+use Rattle.textwrap_words.proofs.Common.{Algorithm, WordText}
 
 pub named : (P : Settings → (Settings → Bool → List ℕ → List (List WordText) → Type 0) → Type 0)
     {s t : Settings} {w v : PlainSeparator} {p q : List ℕ → List ℕ} {a b : Algorithm} → s ≡ t → w ≡ v

@@ -11,6 +11,5 @@ pub mod mail;
 pub mod notes;
 pub mod paths;
 pub mod scripts;
-pub mod sentences;
 pub mod styled;
 pub mod tables;

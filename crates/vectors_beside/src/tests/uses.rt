@@ -11,7 +11,6 @@ use crate::uses::mail::{filled_anew, quote, quoted_as_it_is, sent_lines};
 use crate::uses::notes::fill_note;
 use crate::uses::paths::path_lines;
 use crate::uses::scripts::script;
-use crate::uses::sentences::sentence_lines;
 use crate::uses::styled::rows_beside;
 use crate::uses::tables::barred_rows;
 use std::alloc::Global;
@@ -172,8 +171,6 @@ fn pictures_fill_rows(rt: HostRuntime) {
 enum Caller {
     /// Ends the lines of a path after slashes.
     Paths,
-    /// Ends lines after sentences.
-    Sentences,
     /// Ends the lines of a text in Japanese where it may.
     Languages,
 }
@@ -186,10 +183,6 @@ const LINES: &[(Caller, &str, usize, &[&str])] = &[
     (Caller::Paths, "añ/b", 4, &["añ/b"]),
     (Caller::Paths, "añ/b", 3, &["añ/", "b"]),
     (Caller::Paths, "names", 3, &["nam", "es"]),
-    (Caller::Sentences, "はい。いいえ。さあ。", 10, &["はい。", "いいえ。", "さあ。"]),
-    (Caller::Sentences, "はい。いいえ。さあ。", 14, &["はい。いいえ。", "さあ。"]),
-    (Caller::Sentences, "はい。", 4, &["はい", "。"]),
-    (Caller::Sentences, "a。b。c", 3, &["a。", "b。", "c"]),
     (Caller::Languages, "これは「ペン」です。", 8, &["これは", "「ペン」", "です。"]),
 ];
 
@@ -202,7 +195,6 @@ fn lines_by(
 ) -> Result<Vec<CowStr<'_>>, WrapError> {
     match caller {
         Caller::Paths => path_lines(alloc, text, width),
-        Caller::Sentences => sentence_lines(alloc, text, width),
         Caller::Languages => lines_in_any_language(alloc, text, width),
     }
 }

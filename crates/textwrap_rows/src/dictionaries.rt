@@ -2,9 +2,9 @@
 use crate::faults::Fault;
 use crate::notation::numbers_written;
 use std::alloc::{AllocError, Global};
+use textwrap_dictionaries::errors::ParseError;
 use textwrap_hyphens::dictionary::Patterns;
 use textwrap_hyphens::points::points;
-use textwrap_dictionaries::errors::ParseError;
 use textwrap_patterns::patterns::{Exception, Pattern};
 use textwrap_patterns::written::{exception, pattern};
 

@@ -12,10 +12,10 @@ ghost use Rattle.textwrap_dictionaries.specs.Parsing.{parsed};
 use std::alloc::{AllocError, Global};
 use std::borrow::CowStr;
 use textwrap::WrapError;
+use textwrap_dictionaries::errors::ParseError;
 use textwrap_hyphens::dictionary::Patterns;
 use textwrap_hyphens::points::points;
 use textwrap_hyphens::table::PatternTable;
-use textwrap_dictionaries::errors::ParseError;
 use textwrap_plain::{PlainOptions, wrap};
 
 /// As `Patterns::parse`.

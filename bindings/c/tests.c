@@ -605,11 +605,11 @@ static void styles_are_carried(void) {
                       "\x1b[1m\x1b[31ma\x1b[0m\n\x1b[1m\x1b[31mb\x1b[m c\n"));
     CHECK(are_carried(o, "\x1b[1ma\x1b[0;0m", "b", "\x1b[1ma\x1b[0;0m\nb\n"));
     CHECK(are_carried(o, "\x1b]8;;u\x1b\\a", "b\x1b]8;;\x1b\\",
-                      "\x1b]8;;u\x1b\\a\x1b]8;;\x1b\\\n\x1b]8;;u\x1b\\b\x1b]8;;\x1b\\\n"));
+                      "\x1b]8;;u\x1b\\a\x1b]8;;\x1b\\\n\x1b]8;id=w1;u\x1b\\b\x1b]8;;\x1b\\\n"));
     /* The link is set before the styles, and taken back after them. */
     CHECK(are_carried(o, "\x1b[1m\x1b]8;;u\x1b\\a", "b",
                       "\x1b[1m\x1b]8;;u\x1b\\a\x1b[0m\x1b]8;;\x1b\\\n"
-                      "\x1b]8;;u\x1b\\\x1b[1mb\x1b[0m\x1b]8;;\x1b\\\n"));
+                      "\x1b]8;id=w1;u\x1b\\\x1b[1mb\x1b[0m\x1b]8;;\x1b\\\n"));
     o.subsequent_indent = text_of("> ");
     CHECK(are_carried(o, "\x1b[1ma", "> b", "\x1b[1ma\x1b[0m\n> \x1b[1mb\x1b[0m\n"));
     CHECK(are_carried(o, "\x1b[1ma", "b", "\x1b[1ma\x1b[0m\n\x1b[1mb\x1b[0m\n"));

@@ -461,9 +461,9 @@ textwrap_status textwrap_shorten_lines_by(const textwrap_text *lines, size_t lin
 
 /* Writes the lines of one text so that each stands by itself: after its indent it sets anew the link
  * that the lines before it left open and, of each attribute such as bold or the foreground, the last
- * setting that did not end, and at its end it takes back what is open. What is not in the table of SGR
- * (ECMA-48) is carried until all is taken back. The indents are those of the options; nothing else of
- * them is used. */
+ * setting that did not end, and at its end it takes back what is open. The link is set with its id, or
+ * with one made of its number. What is not in the table of SGR (ECMA-48) is carried until all is taken
+ * back. The indents are those of the options; nothing else of them is used. */
 TEXTWRAP_CHECKED
 textwrap_status textwrap_carry_styles(const textwrap_text *lines, size_t lines_len,
                                       const textwrap_options *options, textwrap_line *places,

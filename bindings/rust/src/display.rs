@@ -312,7 +312,7 @@ where
 /// The lines of one text, of which each can be shown by itself in its styles.
 ///
 /// What lines before it left open is set anew in each line: first the link, by the sequence OSC 8
-/// that opened it, and then, of each attribute such as bold or the foreground, the last setting, if
+/// that opened it, with an id made of its number where it has none, and then, of each attribute such as bold or the foreground, the last setting, if
 /// it did not end: a colour that follows another takes its place. What is not in the table of SGR
 /// (ECMA-48) is carried until all is taken back. They stand after the indent of the line, if it
 /// begins with that; no more of the options is used. What is open at the end of a line is taken

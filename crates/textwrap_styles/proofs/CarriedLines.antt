@@ -3,8 +3,8 @@ use Rattle.std.proofs.lemmas.List.Folds.{concat-append, flat_map-map}
 use Rattle.std.specs.{Cow.cow_str_bytes, declared.borrow.CowStr.CowStr}
 use Rattle.textwrap_layout.proofs.Text.Lines.{line_bytes-line_view}
 use Rattle.textwrap_layout.specs.Paragraph.{Built, Line, Slice, line_bytes, line_view}
-use Rattle.textwrap_styles.proofs.Common.{All-filter, IsWhole, Rendition, carried_lines, chars}
-use Rattle.textwrap_styles.proofs.Common.{closing, concat, fold-append, link_end, open_link}
+use Rattle.textwrap_styles.proofs.Common.{IsWhole, Rendition, carried_lines, chars}
+use Rattle.textwrap_styles.proofs.Common.{closing, concat, fold-append, link_end}
 use Rattle.textwrap_styles.proofs.Common.{open_styles, penned_lines, penned_text, plain_rendition}
 use Rattle.textwrap_styles.proofs.Common.{rendition_of, sequence_of, sequences, style_end}
 use Rattle.textwrap_styles.proofs.{Common.with_sequence, PenStyles.ended, PenStyles.styles-pen}
@@ -12,11 +12,11 @@ use Rattle.textwrap_styles.proofs.SequenceTexts.{IsSequence, closing-is, closing
 use Rattle.textwrap_styles.proofs.SequenceTexts.{closing_sequences, nil-whole, parts-penned}
 use Rattle.textwrap_styles.proofs.SequenceTexts.{parts-sequences, parts-visible, penned-append}
 use Rattle.textwrap_styles.proofs.SequenceTexts.{text-sequences, text_units-append}
-use Rattle.textwrap_styles.proofs.{Sequences.link-among, WrittenSettings.styles-sequences}
+use Rattle.textwrap_styles.proofs.{LinkIds.reopened-sequences, WrittenSettings.styles-sequences}
 use Rattle.textwrap_styles.specs.Indents.{after_indent, before_text, indent_end}
 use Rattle.textwrap_styles.specs.Penned.{penned_units}
 use Rattle.textwrap_styles.specs.Styled.{EachWithIndent, EndsPlain, IsWholeText, MayCarry}
-use Rattle.textwrap_styles.specs.Styles.{carried_line, opening, texts_of}
+use Rattle.textwrap_styles.specs.Styles.{carried_line, opening, reopened_link, texts_of}
 use Rattle.textwrap_text.proofs.Common.{All, All-append, All-cons, All-drop, All-head, All-nil}
 use Rattle.textwrap_text.proofs.Common.{All-tail, All-weaker, IsUtf8, IsUtf8-drop, List, [], ap}
 use Rattle.textwrap_text.proofs.Common.{append-nil, append_assoc, arith, cases_Bool, chars-nil}
@@ -92,7 +92,7 @@ carried-len indent before line =
 
 pub carried-bytes : (indent : List ℕ) (before : List (List ℕ)) (line : List ℕ)
     → line_bytes (carried_line indent before line)
-    ≡ before_text indent line ++ concat (open_link before ++ open_styles before)
+    ≡ before_text indent line ++ concat (reopened_link before ++ open_styles before)
     ++ after_indent indent line
     ++ concat (closing_sequences (before ++ sequences (after_indent indent line)))
 carried-bytes indent before line = grind (arith, carried-parts, concat-append, closing-is)
@@ -108,13 +108,13 @@ module _ (indent : List ℕ) (before : List (List ℕ)) (line : List ℕ) (are :
   text = after_indent indent line
 
   abbrev starts : List (List ℕ)
-  starts = open_link before ++ open_styles before
+  starts = reopened_link before ++ open_styles before
 
   abbrev ends : List (List ℕ)
   ends = closing_sequences (before ++ sequences text)
 
   all-starts : All IsSequence starts
-  all-starts = search (rules, arith, All-append, link-among, All-filter, styles-sequences)
+  all-starts = search (rules, arith, All-append, reopened-sequences, styles-sequences)
 
   all-ends : All IsSequence ends
   all-ends = closing-sequences (before ++ sequences text)

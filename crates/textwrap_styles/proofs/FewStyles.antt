@@ -8,10 +8,11 @@ use Rattle.textwrap_styles.proofs.Common.{open_link, open_settings, open_styles,
 use Rattle.textwrap_styles.proofs.Common.{settings_of, style_end, style_parameters, written}
 use Rattle.textwrap_styles.proofs.OpenSettings.{Sets, all-latest, all-open, all-set, known-below}
 use Rattle.textwrap_styles.proofs.OpenSettings.{latest-in_effect, none-latest, resets}
-use Rattle.textwrap_styles.proofs.SettingTexts.{first-len}
+use Rattle.textwrap_styles.proofs.{LinkIds.reopened-len, SettingTexts.first-len}
 use Rattle.textwrap_styles.specs.Laws.{known_settings, unknown_settings}
 use Rattle.textwrap_styles.specs.Settings.{first_setting, is_unknown, number, replaces}
-use Rattle.textwrap_styles.specs.{Settings.settings_past, Settings.takes_back, Styles.carried_line}
+use Rattle.textwrap_styles.specs.{Settings.settings_past, Settings.takes_back}
+use Rattle.textwrap_styles.specs.Styles.{carried_line, reopened_link}
 use Rattle.textwrap_text.proofs.Common.{All, All-append, All-cons, All-head, All-nil, All-tail}
 use Rattle.textwrap_text.proofs.Common.{All-weaker, Bool, List, [], after_last, arith, cases_Bool}
 use Rattle.textwrap_text.proofs.Common.{codes, cond_both, drop, eqb, false, false_from_ne_true}
@@ -163,13 +164,14 @@ last-bytes p (s ∷ t ∷ ss) most short =
 pub styles-short : (indent : List ℕ) (before : List (List ℕ)) (line : List ℕ) (most : ℕ)
     → All (λ s. length s ≤ most) before
     → length (line_bytes (carried_line indent before line))
-    ≤ length line + (16 + length (unknown_settings before)) * most + length style_end
+    ≤ length line + (16 + length (unknown_settings before)) * most + 25 + length style_end
     + length link_end
 styles-short indent before line most short =
     let all = flat_map settings_of before in
     let now = open_settings all in
     let line_len = carried-len indent before line in
-    let len = length-append (concat (open_link before)) (concat (open_styles before)) in
+    let len = length-append (concat (reopened_link before)) (concat (open_styles before)) in
+    let anew = reopened-len before in
     let link = last-bytes has_target (filter is_link before) most
     (All-filter is_link (λ s. length s ≤ most) before short) in
     let styles = written-bytes now most (all-open (IsShort most) all (all-short before most short))
@@ -177,4 +179,4 @@ styles-short indent before line most short =
     let count : length now ≤ 15 + length (unknown_settings before) =
     omega (arith, both-kinds now, few-known before) in
     let product = mul-le-mul_left most count in
-    omega (arith, line_len, len, link, styles, product)
+    omega (arith, line_len, len, anew, link, styles, product)

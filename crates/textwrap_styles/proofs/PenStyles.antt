@@ -7,10 +7,11 @@ use Rattle.textwrap_styles.proofs.Common.{style_parameters, with_sequence}
 use Rattle.textwrap_styles.proofs.OpenSettings.{after-more}
 use Rattle.textwrap_styles.proofs.PenOpen.{open-pen, parameters-pen, pen_by, run-append}
 use Rattle.textwrap_styles.proofs.SequenceTexts.{closing_sequences}
-use Rattle.textwrap_styles.proofs.Sequences.{link-plain, next_link, open_link-push}
+use Rattle.textwrap_styles.proofs.LinkIds.{reopened-link, reopened-plain}
+use Rattle.textwrap_styles.proofs.Sequences.{next_link, open_link-push}
 use Rattle.textwrap_styles.proofs.WrittenSettings.{all-settings, open-back, styles-no_link}
 use Rattle.textwrap_styles.specs.Pen.{with_code, with_field}
-use Rattle.textwrap_styles.specs.{Penned.with_link, Penned.with_style, Styles.link_target}
+use Rattle.textwrap_styles.specs.{Penned.with_link, Penned.with_style, Styles.link_target, Styles.reopened_link}
 use Rattle.textwrap_text.proofs.Common.{All, All-head, All-tail, Bool, List, [], ap, arith, cond}
 use Rattle.textwrap_text.proofs.Common.{eqb-true, false, flat_map, fold, ltb-false, nil_from_length}
 use Rattle.textwrap_text.proofs.Common.{refl, rules, true, ℕ, ◌++◌, ◌∙◌, ◌∷◌, ◌≡◌}
@@ -89,9 +90,9 @@ open-link before =
 ruleset apart = (fold-append, links-apart, open-link, open-styles-pen, pens-apart)
 
 pub styles-pen : (before : List (List ℕ))
-    → rendition_of (open_link before ++ open_styles before) ≡ rendition_of before
+    → rendition_of (reopened_link before ++ open_styles before) ≡ rendition_of before
 styles-pen before =
-    search (rules, arith, apart, both, pens-stay, links-stay, link-plain, styles-no_link)
+    search (rules, arith, apart, both, pens-stay, links-stay, reopened-link, reopened-plain, styles-no_link)
 
 -- ---- what ends them
 

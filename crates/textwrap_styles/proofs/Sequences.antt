@@ -56,17 +56,17 @@ style-is parameters =
 
 -- ---- links
 
-abbrev link_start : List ℕ
+abbrev pub link_start : List ℕ
 link_start = codes "\u{1b}]8;"
 
 -- BEL, and the other end of a command
-abbrev bell : List ℕ
+abbrev pub bell : List ℕ
 bell = codes "\u{7}"
 
-abbrev terminator : List ℕ
+abbrev pub terminator : List ℕ
 terminator = codes "\u{1b}\\"
 
-not_link : (rest : List ℕ) → ((before : List ℕ) → rest ≢ before ++ bell)
+pub not_link : (rest : List ℕ) → ((before : List ℕ) → rest ≢ before ++ bell)
     → ((before : List ℕ) → rest ≢ before ++ terminator) → is_link (link_start ++ rest) ≡ false
 not_link [] no_bell none = refl
 not_link (c ∷ []) no_bell none =
@@ -91,12 +91,12 @@ around : (fields ending : List ℕ) (rings : Bool)
     → length ending ≡ cond rings 1 2 → IsAround (link_start ++ (fields ++ ending)) fields
 around fields ending rings rung ended size = search (rules, arith, length-append, take_at)
 
-around-bell : (fields : List ℕ) → IsAround (link_start ++ (fields ++ bell)) fields
+pub around-bell : (fields : List ℕ) → IsAround (link_start ++ (fields ++ bell)) fields
 around-bell fields =
     around fields bell true
     (ends_with-true bell (link_start ++ (fields ++ bell)) (link_start ++ fields) refl) refl refl
 
-around-terminator : (fields : List ℕ) → IsAround (link_start ++ (fields ++ terminator)) fields
+pub around-terminator : (fields : List ℕ) → IsAround (link_start ++ (fields ++ terminator)) fields
 around-terminator fields =
     let whole = link_start ++ (fields ++ terminator) in
     let silent : ends_with nat_eq whole bell ≡ false =

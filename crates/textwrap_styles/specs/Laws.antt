@@ -1,6 +1,6 @@
 -- The statements of the laws, each under a name that a caller can cite.
 use Rattle.std.specs.Prelude.{◌≡◌, ◌≢◌, ℕ, false, true, ◌+◌, ◌*◌, ◌≤◌, List, [], ◌++◌, All}
-use Rattle.std.specs.Prelude.{filter, length, map, not}
+use Rattle.std.specs.Prelude.{drop, filter, length, map, not}
 use Rattle.std.specs.List.{concat, flat_map}
 use Rattle.textwrap_layout.specs.Paragraph.{Slice, line_bytes}
 use Rattle.textwrap_styles.specs.Indents.{after_indent}
@@ -10,8 +10,9 @@ use Rattle.textwrap_styles.specs.Penned.{rendition_of}
 use Rattle.textwrap_styles.specs.Settings.{is_color_code, is_ending_code, is_unknown, kind_of}
 use Rattle.textwrap_styles.specs.Settings.{kind_of_code, open_settings}
 use Rattle.textwrap_styles.specs.Styled.{EachWithIndent, EndsPlain, IsWholeText, MayCarry}
-use Rattle.textwrap_styles.specs.Styles.{carried_line, carried_lines, link_end, open_link}
-use Rattle.textwrap_styles.specs.Styles.{open_styles, sequences, settings_of, style_end}
+use Rattle.textwrap_styles.specs.Styles.{carried_line, carried_lines, is_link, link_end}
+use Rattle.textwrap_styles.specs.Styles.{names_id}
+use Rattle.textwrap_styles.specs.Styles.{open_styles, reopened_link, sequences, settings_of, style_end}
 use Rattle.textwrap_text.specs.Units.{text_width}
 
 -- ---- the table of the settings, by the pen
@@ -33,12 +34,19 @@ EndsAreKnown =
 abbrev pub StylesGiveThePen : Type 0
 StylesGiveThePen =
     (before : List (List ℕ))
-    → rendition_of (open_link before ++ open_styles before) ≡ rendition_of before
+    → rendition_of (reopened_link before ++ open_styles before) ≡ rendition_of before
 
 -- and it is open again, those settings too that the table does not know
 abbrev pub StylesAreSetAnew : Type 0
 StylesAreSetAnew =
     (before : List (List ℕ)) → open_styles (open_styles before) ≡ open_styles before
+
+-- the link that is set anew has an id, and the same one until another link is set or ended
+abbrev pub LinksKeepAnId : Type 0
+LinksKeepAnId =
+    (before more : List (List ℕ))
+    → All (λ s. names_id true (drop 4 s) ≡ true) (reopened_link before)
+    × (filter is_link more ≡ [] → reopened_link (before ++ more) ≡ reopened_link before)
 
 -- of the settings that are open, those that the table knows, and the others
 abbrev pub known_settings : List (List ℕ) → List (List ℕ)
@@ -98,11 +106,11 @@ PlainLinesStay =
     → carried_lines indent later [] lines ≡ map Slice lines
 
 -- a line is longer by at most so many sequences as these, a link and the unknown settings, each as
--- long as the longest of the sequences before, and by what ends it
+-- long as the longest of the sequences before, an id, and what ends it
 abbrev pub CarriedLinesAreShort : Type 0
 CarriedLinesAreShort =
     (indent : List ℕ) (before : List (List ℕ)) (line : List ℕ) (most : ℕ)
     → All (λ s. length s ≤ most) before
     → length (line_bytes (carried_line indent before line))
-    ≤ length line + (16 + length (unknown_settings before)) * most + length style_end
+    ≤ length line + (16 + length (unknown_settings before)) * most + 25 + length style_end
     + length link_end

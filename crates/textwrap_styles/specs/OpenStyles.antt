@@ -1,12 +1,13 @@
 -- What is open at a place of a text, as the code keeps it.
-use Rattle.std.specs.Prelude.{◌≡◌, ◌<◌, ◌&&◌, ◌==◌, ℕ, List, bytes_eq, map, false}
+use Rattle.std.specs.Prelude.{◌≡◌, ◌<◌, ◌&&◌, ◌==◌, ℕ, List, bytes_eq, filter, length, map, false}
 use Rattle.std.specs.Borrow.{Bor}
 use Rattle.std.specs.BTreeSet.{contains}
 use Rattle.std.specs.Cmp.Lexicographic.{slice_cmp}
 use Rattle.std.specs.List.{flat_map, list_any, slice_index_or}
 use Rattle.std.specs.Option.{option_copied, option_to_list}
 use Rattle.std.specs.Ordering.{nat_cmp}
-use Rattle.textwrap_styles.specs.Styles.{open_link, settings_of}
+use Rattle.textwrap_text.specs.LentText.{as_len}
+use Rattle.textwrap_styles.specs.Styles.{is_link, open_link, settings_of}
 use Rattle.textwrap_styles.specs.Settings.{in_effect, is_unknown, kind_of, latest, number}
 use Rattle.textwrap_styles.specs.Settings.{open_settings}
 use Rattle.textwrap_styles.specs.declared.latest.Later.{Later}
@@ -24,12 +25,14 @@ AreKept settings state = map (λ s. s.now) state.settings.items ≡ settings
 pub record IsReadTo {Z : Type 0} (before : List (List ℕ)) (state : OpenStyles Z) : Type 0 where
   pub settings : AreOpen (open_settings (flat_map settings_of before)) state
   pub link : option_to_list (option_copied state.link) ≡ open_link before
+  pub links : state.links ≡ as_len (length (filter is_link before))
 
 -- and where a line begins
 pub record IsKeptAfter {Z : Type 0} (before : List (List ℕ)) (state : OpenStyles Z) : Type 0
   where
     pub settings : AreKept (open_settings (flat_map settings_of before)) state
     pub link : option_to_list (option_copied state.link) ≡ open_link before
+    pub links : state.links ≡ as_len (length (filter is_link before))
 
 -- these settings were added, the last ones first
 pub record AreLater {Z : Type 0} (later : List (List ℕ)) (state : Later Z) : Type 0 where

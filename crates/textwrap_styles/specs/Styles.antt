@@ -2,11 +2,12 @@
 -- begins, and ends plain.
 use Rattle.std.specs.Prelude.{ℕ, ◌-◌, Bool, ◌&&◌, ◌||◌, ◌==◌, nat_eq, nat_lt, List, [], ◌∷◌, ◌++◌}
 use Rattle.std.specs.Prelude.{length, take, drop, filter, chars, encode_utf8_all, codes}
-use Rattle.std.specs.Prelude.{if◌then◌else◌, map}
+use Rattle.std.specs.Prelude.{decimal, false, if◌then◌else◌, map, true}
 use Rattle.std.specs.Int.{is_in_range}
 use Rattle.std.specs.List.{after_first, concat, ends_with, flat_map, list_all, list_any}
 use Rattle.std.specs.List.{starts_with}
 use Rattle.std.specs.declared.borrow.CowStr.{CowStr}
+use Rattle.textwrap_text.specs.LentText.{as_len}
 use Rattle.textwrap_text.specs.Units.{TextUnit, Visible, Sequence, units}
 use Rattle.textwrap_layout.specs.Paragraph.{Line, Built, Slice, line_bytes, line_view}
 use Rattle.textwrap_styles.specs.Indents.{after_indent, before_text}
@@ -54,6 +55,26 @@ link_target sequence = after_first (λ c. c == 0x3B) (link_fields sequence)
 abbrev pub has_target : List ℕ → Bool
 has_target sequence = nat_lt 0 (length (link_target sequence))
 
+-- whether one of the parameters, which colons part and a semicolon ends, is an id; `begins` says that
+-- one begins here
+abbrev pub names_id : Bool → List ℕ → Bool
+names_id begins [] = false
+names_id begins (c ∷ cs) =
+    if c == 0x3B then false
+    else begins && starts_with nat_eq (c ∷ cs) (codes "id=") || names_id (c == 0x3A) cs
+
+-- the parameter that is the id of this number, before the others
+abbrev pub id_before : ℕ → List ℕ → List ℕ
+id_before number fields =
+    codes "id=w" ++ decimal number
+    ++ (if starts_with nat_eq fields (codes ";") then [] else codes ":")
+
+-- the link with this number as its id, if it has none: parts with one id are one link of a terminal
+unfoldable pub with_id : ℕ → List ℕ → List ℕ
+with_id number link =
+    let fields = drop 4 link in
+    if names_id true fields then link else take 4 link ++ id_before number fields ++ fields
+
 -- the settings of a style
 abbrev pub settings_of : List ℕ → List (List ℕ)
 settings_of sequence = if is_style sequence then settings (style_parameters sequence) else []
@@ -73,6 +94,10 @@ abbrev pub open_link : List (List ℕ) → List (List ℕ)
 open_link before =
     let links = filter is_link before in filter has_target (drop (length links - 1) links)
 
+-- that link, as a line sets it anew: by the number of links so far, if it has no id
+abbrev pub reopened_link : List (List ℕ) → List (List ℕ)
+reopened_link before = map (with_id (as_len (length (filter is_link before)))) (open_link before)
+
 abbrev pub style_end : List ℕ
 style_end = codes "\u{1b}[0m"
 
@@ -83,7 +108,7 @@ link_end = codes "\u{1b}]8;;\u{1b}\\"
 
 -- what sets anew what is open, and what ends it
 abbrev pub opening : List (List ℕ) → List ℕ
-opening before = concat (open_link before) ++ concat (open_styles before)
+opening before = concat (reopened_link before) ++ concat (open_styles before)
 
 abbrev pub closing : List (List ℕ) → List ℕ
 closing before =

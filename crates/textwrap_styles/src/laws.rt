@@ -8,7 +8,7 @@
 ghost use Rattle.textwrap_styles.specs.Laws.{CarriedLinesAreAsWide, CarriedLinesAreShort};
 ghost use Rattle.textwrap_styles.specs.Laws.{CarriedLinesEndPlain, CarriedLinesKeepPens};
 ghost use Rattle.textwrap_styles.specs.Laws.{CarriedLinesShowTheirText, EndsAreKnown};
-ghost use Rattle.textwrap_styles.specs.Laws.{NumbersAreKnown, PlainLinesStay, StylesAreFew};
+ghost use Rattle.textwrap_styles.specs.Laws.{LinksKeepAnId, NumbersAreKnown, PlainLinesStay, StylesAreFew};
 ghost use Rattle.textwrap_styles.specs.Laws.{StylesAreSetAnew, StylesGiveThePen};
 ghost use Rattle.textwrap_styles.specs.Laws.{WholeLinesMayCarry};
 
@@ -33,6 +33,12 @@ pub fn styles_give_the_pen()
 /// the table does not know, of which no pen tells.
 pub fn styles_are_set_anew()
     ensures { StylesAreSetAnew }
+{}
+
+/// A link that is set anew has an id, its own or one by its number, and the same one in each line until
+/// another link is set or ended: so a terminal takes its parts for one link.
+pub fn links_keep_an_id()
+    ensures { LinksKeepAnId }
 {}
 
 /// At most 15 of the settings that are open are of kinds that the table knows.
@@ -62,7 +68,7 @@ pub fn carried_lines_are_as_wide()
 {}
 
 /// A line is longer by 15 sequences, a link and the different settings that the table does not
-/// know, each at most as long as the longest sequence before it, and by what ends it, at most.
+/// know, each at most as long as the longest sequence before it, an id, and what ends it, at most.
 pub fn carried_lines_are_short()
     ensures { CarriedLinesAreShort }
 {}

@@ -9,15 +9,16 @@ ghost use Rattle.std.specs.List.{list_all};
 ghost use Rattle.std.specs.Option.{option_copied, option_to_list};
 ghost use Rattle.textwrap_styles.specs.OpenStyles.{AreOpen, IsKeptAfter, IsReadTo};
 ghost use Rattle.textwrap_styles.specs.Settings.{open_settings, settings};
-ghost use Rattle.textwrap_styles.specs.Styles.{carried_lines, closing, is_link, is_style, link_end};
-ghost use Rattle.textwrap_styles.specs.Styles.{link_target, opening, sequences, style_end};
-ghost use Rattle.textwrap_styles.specs.Styles.{style_parameters, texts_of};
+ghost use Rattle.textwrap_styles.specs.Styles.{carried_lines, closing, id_before, is_link, is_style, link_end};
+ghost use Rattle.textwrap_styles.specs.Styles.{link_target, names_id, opening, sequences, style_end};
+ghost use Rattle.textwrap_styles.specs.Styles.{style_parameters, texts_of, with_id};
 ghost use Rattle.textwrap_layout.specs.Paragraph.{Built, Slice, line_view};
 ghost use Rattle.textwrap_text.specs.Units.{escape_len};
 
 use crate::indents::indent_end;
 use crate::latest::keep_open;
 use crate::settings::{kind_of, next_setting};
+use itoa::Buffer;
 use std::alloc::{AllocError, Allocator};
 use std::borrow::CowStr;
 use textwrap::Options;
@@ -54,6 +55,8 @@ const STYLE_AND_LINK_END: &str = "\x1b[0m\x1b]8;;\x1b\\";
 ///   attribute is set anew too, since it may end what the unknown setting set.
 /// - A link is set by ESC `]8;`, parameters, a semicolon, its target, and BEL or ESC `\` (OSC 8,
 ///   the hyperlinks of terminals). A later one takes its place, and one without a target ends it.
+///   It is set anew with its `id=`, or with `id=w` and how many links were set or ended so far: a
+///   terminal takes parts with one id for one link.
 /// - All other sequences are left as they are.
 ///
 /// The indents are those of the options, by which `wrap` made the lines; nothing else of the
@@ -140,6 +143,8 @@ struct OpenStyles<'t, A: Allocator> {
     settings: Vec<&'t str, A>,
     /// The sequence of the link, if there is one.
     link: Option<&'t str>,
+    /// How many links were set or ended.
+    links: usize,
 }
 
 impl<'t, A: Allocator + Copy> OpenStyles<'t, A> {
@@ -150,6 +155,7 @@ impl<'t, A: Allocator + Copy> OpenStyles<'t, A> {
         OpenStyles {
             settings: Vec::new(alloc),
             link: None,
+            links: 0,
         }
     }
 
@@ -174,6 +180,7 @@ impl<'t, A: Allocator + Copy> OpenStyles<'t, A> {
         if let Some(parameters) = style_parameters(sequence) {
             self.read_parameters(parameters)?;
         } else if let Some(target) = link_target(sequence) {
+            self.links = self.links.saturating_add(1);
             self.link = if target.is_empty() {
                 None
             } else {
@@ -189,6 +196,7 @@ impl<'t, A: Allocator + Copy> OpenStyles<'t, A> {
         ensures settings { (before : List (List ℕ)) → AreOpen (open_settings before) self.old
             → OnOk result (AreOpen (open_settings (before ++ settings parameters.now)) self.new) }
         ensures link { self.new.link ≡ self.old.link }
+        ensures links { self.new.links ≡ self.old.links }
     {
         let mut left = parameters;
         loop {
@@ -206,6 +214,7 @@ impl<'t, A: Allocator + Copy> OpenStyles<'t, A> {
         ensures settings { (before : List (List ℕ)) → AreOpen (open_settings before) self.old
             → OnOk result (AreOpen (open_settings (before ++ setting.now ∷ [])) self.new) }
         ensures link { self.new.link ≡ self.old.link }
+        ensures links { self.new.links ≡ self.old.links }
     {
         if kind_of(setting).is_reset() {
             self.settings.clear();
@@ -221,7 +230,7 @@ impl<'t, A: Allocator + Copy> OpenStyles<'t, A> {
             (string_bytes text.new ≡ string_bytes text.old ++ opening before) }
     {
         if let Some(link) = self.link {
-            text.push_str(link)?;
+            push_link(text, link, self.links)?;
         }
         for setting in &self.settings {
             text.push_str("\x1b[")?;
@@ -238,6 +247,62 @@ impl<'t, A: Allocator + Copy> OpenStyles<'t, A> {
     {
         ending(self.settings.is_empty(), self.link)
     }
+}
+
+/// Adds the sequence of a link, with this number as its id where it has none.
+fn push_link<A: Allocator>(
+    text: &mut String<A>,
+    link: &str,
+    number: usize,
+) -> Result<(), AllocError>
+    ensures { is_link link.now ≡ true → OnOk result
+        (string_bytes text.new ≡ string_bytes text.old ++ with_id number link.now) }
+{
+    let Some(fields) = link.strip_prefix("\x1b]8;") else {
+        return Ok(());
+    };
+    if names_id(fields.as_bytes()) {
+        return text.push_str(link);
+    }
+    text.push_str("\x1b]8;")?;
+    push_id(text, number, fields)?;
+    text.push_str(fields)
+}
+
+/// Adds the id of this number, and a colon where parameters follow it.
+fn push_id<A: Allocator>(
+    text: &mut String<A>,
+    number: usize,
+    fields: &str,
+) -> Result<(), AllocError>
+    ensures { OnOk result
+        (string_bytes text.new ≡ string_bytes text.old ++ id_before number fields.now) }
+{
+    text.push_str("id=w")?;
+    text.push_str(Buffer::new().format(number))?;
+    if fields.starts_with(';') {
+        return Ok(());
+    }
+    text.push_str(":")
+}
+
+/// Whether one of the parameters, which colons part and a semicolon ends, is an id.
+fn names_id(fields: &[u8]) -> bool
+    ensures { result ≡ names_id true fields.now }
+{
+    let mut begins = true;
+    let mut left = fields;
+    while let [first, rest @ ..] = left {
+        if *first == b';' {
+            return false;
+        }
+        if begins && left.starts_with(b"id=") {
+            return true;
+        }
+        begins = *first == b':';
+        left = rest;
+    }
+    false
 }
 
 /// What ends all styles, unless the text is plain without it, and the link, if there is one.

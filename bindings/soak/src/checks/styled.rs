@@ -44,7 +44,7 @@ pub fn visible(text: &str) -> String {
 pub struct Reader {
     /// The attributes that are set, each with the parameters that set it.
     styles: BTreeMap<u32, String>,
-    /// The command that set the link, or nothing.
+    /// The target of the link, or nothing.
     link: String,
     /// The visible characters that were read, and after each the styles and the link it has,
     /// between two ESC.
@@ -128,9 +128,7 @@ impl Reader {
             return;
         };
         self.link.clear();
-        if !target.is_empty() {
-            self.link.push_str(command);
-        }
+        self.link.push_str(target);
     }
 }
 

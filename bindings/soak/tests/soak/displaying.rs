@@ -39,6 +39,7 @@ const CARRIED: &[(&str, usize, &str, bool)] = &[
     ("", 1, "\x1b[31mre\x1b[md", false),
     ("", 2, "\x1b]8;;x\x1b\\link\x1b]8;;\x1b\\", true),
     ("", 2, "\x1b]8;;x\x07link\x1b]8;;\x07", true),
+    ("", 2, "\x1b]8;id=w1;x\x07link\x1b]8;;\x07", true),
     ("", 2, "\x1b]8;;x\x1b\\link", false),
     ("", 2, "\x1b]8;;y\x1b\\link\x1b]8;;\x1b\\", false),
     ("", 3, "\x1b]8;;x\x1b\\\x1b[1mbold\x1b[0m\x1b]8;;\x1b\\", true),

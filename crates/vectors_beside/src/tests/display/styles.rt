@@ -45,7 +45,7 @@ fn many_lines_are_carried(rt: HostRuntime) {
     let (first, other) = ("\x1b]8;;u\x07some", "more \x1b[0m\x1b[1mwords");
     let lines = many_lines(rt.alloc(), first, 9_999, other).expect(&rt, "lines");
     let carried = plain_carry_styles(rt.alloc(), &lines, &Options::new(0)).expect(&rt, "carried");
-    let last = "\x1b]8;;u\x07\x1b[1mmore \x1b[0m\x1b[1mwords\x1b[0m\x1b]8;;\x1b\\";
+    let last = "\x1b]8;id=w1;u\x07\x1b[1mmore \x1b[0m\x1b[1mwords\x1b[0m\x1b]8;;\x1b\\";
     assert_last(&rt, &carried, 10_000, last);
 }
 

@@ -1,11 +1,13 @@
 use Rattle.textwrap_styles.proofs.styles.OpenStyles.read.Goals as goal
 use Rattle.textwrap_layout.proofs.Text.Sinks.{on_ok_both}
-use Rattle.textwrap_styles.proofs.Common.{IsKeptAfter, in_effect, latest, open_link, open_settings}
+use Rattle.textwrap_styles.proofs.Common.{IsKeptAfter, in_effect, is_link, latest, open_link}
+use Rattle.textwrap_styles.proofs.Common.{open_settings}
 use Rattle.textwrap_styles.proofs.Common.{sequences, settings_of}
 use Rattle.textwrap_styles.proofs.OpenSettings.{effect-again, resets}
 use Rattle.textwrap_styles.specs.{OpenStyles.IsReadTo, declared.styles.OpenStyles.OpenStyles}
 use Rattle.textwrap_text.proofs.Common.{List, [], after_last, ap, append-nil, append_assoc}
-use Rattle.textwrap_text.proofs.Common.{flat_map, refl, rules, subst, sym, ℕ, ◌++◌, ◌∙◌, ◌∷◌, ◌≡◌}
+use Rattle.textwrap_text.specs.LentText.{as_len}
+use Rattle.textwrap_text.proofs.Common.{filter, flat_map, length, refl, rules, subst, sym, ℕ, ◌++◌, ◌∙◌, ◌∷◌, ◌≡◌}
 
 -- what is kept where a line begins is read up to there
 kept-read : {Z : Type 0} (before : List (List ℕ)) (state : OpenStyles Z)
@@ -14,6 +16,7 @@ kept-read before state kept = record {
   settings = ap (λ ss. in_effect (latest ss)) kept.settings
       ∙ effect-again (after_last resets (flat_map settings_of before));
   link = kept.link;
+  links = kept.links;
 }
 
 pub loop-sequence-preserved : goal.loop-sequence-preserved
@@ -52,4 +55,5 @@ returns g c = λ before state.
       settings = kept ∙ all.1.settings
           ∙ ap (λ ss. open_settings (flat_map settings_of (before ++ ss))) text;
       link = all.1.link ∙ ap (λ ss. open_link (before ++ ss)) text;
+      links = all.1.links ∙ ap (λ ss. as_len (length (filter is_link (before ++ ss)))) text;
     }) c.keep_open.ensures c.keep_open.ensures

@@ -12,6 +12,7 @@ invariant-loop-rest g l = record {
   range : list_all (is_in_range 0x30 0x3B) l.left ≡ true;
   utf8 : shadow (Utf8 l.left);
   link : l.self.link ≡ l.fn.self.link;
+  links : l.self.links ≡ l.fn.self.links;
 }
 
 abbrev pub decreases-loop-rest : goal.decreases-loop-rest

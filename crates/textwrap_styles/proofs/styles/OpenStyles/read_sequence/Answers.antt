@@ -2,7 +2,7 @@ use Rattle.textwrap_styles.proofs.styles.OpenStyles.read_sequence.Goals as goal
 use Rattle.textwrap_styles.proofs.Common.{open_settings, settings, settings_of}
 use Rattle.textwrap_styles.proofs.Sequences.{open_link-push, style-no_link}
 use Rattle.textwrap_styles.specs.OpenStyles.{AreOpen}
-use Rattle.textwrap_text.proofs.Common.{[], append-nil, arith, cases_Bool, flat_map}
+use Rattle.textwrap_text.proofs.Common.{[], append-nil, arith, cases_Bool, filter-append, flat_map}
 use Rattle.textwrap_text.proofs.Common.{flat_map-append, subst, sym, ◌++◌, ◌∷◌, ◌≡◌}
 
 pub returns-in_ok-read_parameters : goal.returns-in_ok-read_parameters
@@ -19,4 +19,5 @@ returns-in_ok-read_parameters g c = λ before state.
           (c.in_ok-read_parameters.ensures.settings (flat_map settings_of before) state.settings);
       link = let push = open_link-push before s in
           grind (arith, cases_Bool, push, plain, c.read_parameters.ensures.link, state.link);
+      links = grind (arith, cases_Bool, append-nil, filter-append, plain, c.read_parameters.ensures.links, state.links);
     }

@@ -30,9 +30,9 @@ use crate::tables::Column;
 use textwrap::Options;
 pub use textwrap_styles::laws::{
     carried_lines_are_as_wide, carried_lines_are_short, carried_lines_end_plain,
-    carried_lines_keep_pens, carried_lines_show_their_text, ends_are_known, numbers_are_known,
-    plain_lines_stay, styles_are_few, styles_are_set_anew, styles_give_the_pen,
-    whole_lines_may_carry,
+    carried_lines_keep_pens, carried_lines_show_their_text, ends_are_known, links_keep_an_id,
+    nothing_shorter_gives_the_pen, numbers_are_known, open_styles_are_setters, plain_lines_stay,
+    styles_are_few, styles_are_set_anew, styles_give_the_pen, whole_lines_may_carry,
 };
 
 /// A line that is not wider than the width is exactly as wide once it is aligned, if its escape

@@ -2,6 +2,7 @@ pub mod Common
 pub mod ProvedLaws
 pub mod CarriedLines
 pub mod FewStyles
+pub mod FewestSettings
 pub mod LinkIds
 pub mod OpenSettings
 pub mod SettingTexts

@@ -76,20 +76,26 @@ abbrev pub is_own : Color → Bool
 is_own Own = true
 is_own _ = false
 
--- some field is not plain
-abbrev differs : Pen → Bool
-differs p =
-    p.bold || p.faint || p.italic || not (p.underline == 0) || not (p.blink == 0) || p.inverse
-    || p.hidden || p.crossed_out || not (p.font == 0) || not (is_own p.foreground)
-    || not (is_own p.background) || not (p.framed == 0) || p.overlined
-    || not (is_own p.underline_color)
+-- the field that a kind sets is not plain
+unfoldable pub differs_at : Pen → ℕ → Bool
+differs_at p i =
+    p.bold && (i == 1) || p.faint && (i == 2) || p.italic && (i == 4)
+    || not (p.underline == 0) && (i == 5) || not (p.blink == 0) && (i == 6)
+    || p.inverse && (i == 7) || p.hidden && (i == 8) || p.crossed_out && (i == 9)
+    || not (p.font == 0) && (i == 10) || not (is_own p.foreground) && (i == 11)
+    || not (is_own p.background) && (i == 12) || not (p.framed == 0) && (i == 13)
+    || p.overlined && (i == 14) || not (is_own p.underline_color) && (i == 15)
+
+pub plain-differs : (i : ℕ) → differs_at plain_pen i ≡ false
+unfolding differs_at
+plain-differs i = refl
 
 pub record Row (c : ℕ) : Type 0 where
   pub sets : (p : Pen) → with_code c p ≡ mix (touches c) (with_code c plain_pen) p
   pub ends : cond (is_ending_code c) (with_code c plain_pen) plain_pen ≡ plain_pen
   pub unknown : (p : Pen) → cond (is_unknown (kind_of_code c)) (with_code c p) p ≡ p
   pub known : (is_color_code c || is_unknown (kind_of_code c) || is_ending_code c
-      || differs (with_code c plain_pen)) ≡ true
+      || differs_at (with_code c plain_pen) (number (kind_of_code c))) ≡ true
 
 -- so many rows from this number on
 abbrev Rows : ℕ → ℕ → Type 0
@@ -97,11 +103,11 @@ Rows zero c = ⊤
 Rows (suc n) c = Row c × Rows n (c + 1)
 
 first-rows : Rows 54 0
-unfolding with_code kind_of_code is_ending_code number is_color_code is_unknown
+unfolding with_code kind_of_code is_ending_code number is_color_code is_unknown differs_at
 first-rows = search arith
 
 last-rows : Rows 54 54
-unfolding with_code kind_of_code is_ending_code number is_color_code is_unknown
+unfolding with_code kind_of_code is_ending_code number is_color_code is_unknown differs_at
 last-rows = search arith
 
 rows-at : (n c at : ℕ) → Rows n at → at ≤ c → c < at + n → Row c
@@ -113,7 +119,7 @@ rows-at (suc n) c at (row, rows) from to = elim (cases_Bool (c == at)) [
 
 -- and none further on
 far-row : (c : ℕ) → 108 ≤ c → Row c
-unfolding with_code kind_of_code is_ending_code number is_color_code is_unknown
+unfolding with_code kind_of_code is_ending_code number is_color_code is_unknown differs_at
 far-row c far = record {
   sets = λ p. grind (arith, nat_tests);
   ends = grind (arith, nat_tests);
@@ -130,6 +136,21 @@ row c = elim (cases_lt c 54) [
   ]
 ]
 
+-- which of the fields are not plain, where some come from another pen
+pick-at : {X : Type 0} (f : X → Bool) (m : Mask) (i j : ℕ) (a b : X)
+    → (f (cond (m j) a b) && (i == j)) ≡ cond (m i) (f a && (i == j)) (f b && (i == j))
+pick-at f m i j a b = grind (arith, cases_Bool, eqb-true)
+
+pick-or : (c a b x y : Bool) → (cond c a b || cond c x y) ≡ cond c (a || x) (b || y)
+pick-or c a b x y = grind (arith, cases_Bool)
+
+pub mix-differs : (m : Mask) (v p : Pen) (i : ℕ)
+    → differs_at (mix m v p) i ≡ cond (m i) (differs_at v i) (differs_at p i)
+unfolding differs_at
+mix-differs m v p i =
+    let colors = pick-at (λ c. not (is_own c)) m i in
+    simp (pick-at (λ b. b) m i, pick-at (λ n. not (n == 0)) m i, colors, pick-or)
+
 -- ---- the laws
 
 -- what the table does not know does nothing
@@ -141,9 +162,10 @@ unknown-nothing c is p =
 pub other-something : (c : ℕ) → is_unknown (kind_of_code c) ≡ false → is_color_code c ≡ false
     → is_ending_code c ≡ false → with_code c plain_pen ≢ plain_pen
 other-something c known plain other same =
+    let kind = number (kind_of_code c) in
     let all = (row c).known in
-    let differ : differs (with_code c plain_pen) ≡ true = grind (arith, cases_Bool) in
-    true≢false (sym differ ∙ ap differs same)
+    let differ : differs_at (with_code c plain_pen) kind ≡ true = grind (arith, cases_Bool) in
+    true≢false (sym differ ∙ ap (λ p. differs_at p kind) same ∙ plain-differs kind)
 
 -- ---- changes that set some fields and leave the others
 

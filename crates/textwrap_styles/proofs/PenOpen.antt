@@ -7,7 +7,7 @@ use Rattle.textwrap_styles.proofs.OpenSettings.{Sets, after-more, all-latest, kn
 use Rattle.textwrap_styles.proofs.OpenSettings.{none-latest, resets, unknown-number}
 use Rattle.textwrap_styles.proofs.PenCodes.{Changes, apply-changes, changes-then, mix, mix-again}
 use Rattle.textwrap_styles.proofs.PenCodes.{mix-swap, mix-within, nothing, sets}
-use Rattle.textwrap_styles.proofs.PenSettings.{all-known, among, kind-code, reset-end}
+use Rattle.textwrap_styles.proofs.PenSettings.{all-known, among, kind-code, many-end}
 use Rattle.textwrap_styles.proofs.SettingTexts.{InRange, IsSetting, are-settings, between-append}
 use Rattle.textwrap_styles.proofs.SettingTexts.{drop-all, fields-split, first-take, settings-next}
 use Rattle.textwrap_styles.proofs.SettingTexts.{settings-one, taken-again}
@@ -128,11 +128,11 @@ run-latest (s ∷ ss) p are =
 -- ---- those in effect give the same pen
 
 -- no later one takes back an earlier one
-abbrev AreLatest : List (List ℕ) → Type 0
+abbrev pub AreLatest : List (List ℕ) → Type 0
 AreLatest [] = ⊤
 AreLatest (s ∷ ss) = (list_any (λ t. replaces t s) ss ≡ false) × AreLatest ss
 
-are-latest : (ss : List (List ℕ)) → AreLatest (latest ss)
+pub are-latest : (ss : List (List ℕ)) → AreLatest (latest ss)
 are-latest [] = tt
 are-latest (s ∷ ss) = grind (arith, cases_Bool, nat_tests, are-latest ss, none-latest)
 
@@ -193,7 +193,7 @@ reset-plain t is reset p =
     grind (arith, cases_Bool, nat_tests, unknown-number (kind_of t)) in
     let all = all-known t is known in
     all.sets p ∙ ap (λ n. mix (sets n) (apply t plain_pen) p) (eqb-true (number (kind_of t)) 0 reset)
-    ∙ all.ends (reset-end t is known reset)
+    ∙ all.ends (many-end t is known (ap (λ b. b || (number (kind_of t) == 3)) reset))
 
 -- those since then set something, and give the pen that all give
 since-reset : (more before : List (List ℕ)) (p : Pen) → All IsSetting more → All Setter before

@@ -1,21 +1,22 @@
--- What a setting that the table knows does to a pen: it sets the fields of its kind, and one that
--- ends something sets them as in the plain pen.
-use Rattle.textwrap_styles.proofs.Common.{Color, Pen, Reset, apply, between, digits_value, fields}
+-- What a setting that the table knows does to a pen: it sets the fields of its kind, one that ends
+-- something as in the plain pen, and any other unlike it.
+use Rattle.textwrap_styles.proofs.Common.{Color, Pen, apply, between, digits_value, fields}
 use Rattle.textwrap_styles.proofs.Common.{first_of, is_ascii_digit, is_in_range, numbers_of}
-use Rattle.textwrap_styles.proofs.{Common.plain_pen, PenCodes.mix, PenCodes.row, PenCodes.sets}
+use Rattle.textwrap_styles.proofs.{Common.plain_pen, PenCodes.differs_at, PenCodes.is_own}
+use Rattle.textwrap_styles.proofs.PenCodes.{mix, row, sets}
 use Rattle.textwrap_styles.proofs.SettingTexts.{InRange, IsSetting, between-rest, between-some}
-use Rattle.textwrap_styles.proofs.SettingTexts.{code-first, colon-first, details-cons, drop-all}
-use Rattle.textwrap_styles.proofs.SettingTexts.{fields-few, fields-many, first-value, first_field}
+use Rattle.textwrap_styles.proofs.SettingTexts.{code-first, colon-first, details-cons, details-nil}
+use Rattle.textwrap_styles.proofs.SettingTexts.{drop-all, fields-few, fields-many, first_field}
 use Rattle.textwrap_styles.proofs.SettingTexts.{first_number, first_text, first_text-first}
 use Rattle.textwrap_styles.proofs.SettingTexts.{has_colon}
-use Rattle.textwrap_styles.specs.Pen.{Reading, color_of, is_whole_color, read, with_code}
-use Rattle.textwrap_styles.specs.Pen.{with_color, with_field, with_first, with_parts}
+use Rattle.textwrap_styles.specs.Pen.{Reading, color_of, direct_color, is_whole_color, read}
+use Rattle.textwrap_styles.specs.Pen.{with_code, with_color, with_field, with_first, with_parts}
 use Rattle.textwrap_styles.specs.Settings.{code, color_fields, details, first_setting}
 use Rattle.textwrap_styles.specs.Settings.{is_color_code, is_end, is_ending_code, is_unknown}
 use Rattle.textwrap_styles.specs.Settings.{kind_of, kind_of_code, number, taken_fields}
-use Rattle.textwrap_text.proofs.Common.{Bool, List, [], ap, arith, cases_Bool, drop, eqb-true}
-use Rattle.textwrap_text.proofs.Common.{false, fold, inl, inr, length, length-map, list_all, map}
-use Rattle.textwrap_text.proofs.Common.{min, nat_tests, prefix_len, refl, rules, subst, sym, true}
+use Rattle.textwrap_text.proofs.Common.{List, [], ap, arith, cases_Bool, drop, eqb-true}
+use Rattle.textwrap_text.proofs.Common.{false, fold, inl, inr, length, length-map, map}
+use Rattle.textwrap_text.proofs.Common.{min, nat_tests, prefix_len, refl, rules, sym, true}
 use Rattle.textwrap_text.proofs.Common.{true≢false, ℕ, ◌+◌, ◌<◌, ◌==◌, ◌||◌, ◌∙◌, ◌∷◌, ◌≡◌, ◌≢◌}
 use Rattle.textwrap_text.proofs.Common.{◌≤◌, ◌⊎◌}
 
@@ -76,6 +77,23 @@ color-sets c color is p =
     among (λ c. with_color c color p
     ≡ mix (sets (number (kind_of_code c))) (with_color c color plain_pen) p) c is refl refl refl
 
+-- none of them is the terminal's own
+direct-own : (numbers : List ℕ) → is_own (direct_color numbers) ≡ false
+direct-own (r ∷ g ∷ b ∷ []) = refl
+direct-own (space ∷ r ∷ g ∷ b ∷ more) = refl
+direct-own _ = refl
+
+color-own : (numbers : List ℕ) → is_own (color_of numbers) ≡ false
+unfolding color_of
+color-own numbers = grind (arith, cases_Bool, direct-own (drop 1 numbers))
+
+color-differs : (c : ℕ) (color : Color) → is_color_code c ≡ true → is_own color ≡ false
+    → differs_at (with_color c color plain_pen) (number (kind_of_code c)) ≡ true
+unfolding with_color kind_of_code number differs_at
+color-differs c color is other =
+    among (λ c. differs_at (with_color c color plain_pen) (number (kind_of_code c)) ≡ true) c is
+    (rw other refl) (rw other refl) (rw other refl)
+
 pub underline-sets : (parts : List ℕ) (p : Pen)
     → with_parts 4 parts p ≡ mix (sets (number (kind_of_code 4))) (with_parts 4 parts plain_pen) p
 unfolding with_parts kind_of_code number
@@ -84,6 +102,11 @@ underline-sets parts p = refl
 pub underline-ends : (parts : List ℕ) → first_of parts ≡ 0 → with_parts 4 parts plain_pen ≡ plain_pen
 unfolding with_parts
 underline-ends parts none = ap (λ n. record plain_pen { underline = n }) none
+
+underline-differs : (parts : List ℕ) → (first_of parts == 0) ≡ false
+    → differs_at (with_parts 4 parts plain_pen) (number (kind_of_code 4)) ≡ true
+unfolding with_parts kind_of_code number differs_at
+underline-differs parts other = rw other refl
 
 pub color-parts : (c : ℕ) (parts : List ℕ) (p : Pen) → is_color_code c ≡ true
     → with_parts c parts p ≡ with_color c (color_of parts) p
@@ -96,17 +119,20 @@ pub record Known (t : List ℕ) : Type 0 where
   pub settled : (p : Pen) → read t p ≡ alone (apply t p)
   pub sets : (p : Pen) → apply t p ≡ mix (sets (number (kind_of t))) (apply t plain_pen) p
   pub ends : is_end t ≡ true → apply t plain_pen ≡ plain_pen
+  pub differs : is_end t ≡ false → differs_at (apply t plain_pen) (number (kind_of t)) ≡ true
 
 -- where it does this
 pub known-by : (t : List ℕ) (act : Pen → Pen) → ((p : Pen) → read t p ≡ alone (act p))
     → ((p : Pen) → act p ≡ mix (sets (number (kind_of t))) (act plain_pen) p)
-    → (is_end t ≡ true → act plain_pen ≡ plain_pen) → Known t
-known-by t act is own ends =
+    → (is_end t ≡ true → act plain_pen ≡ plain_pen)
+    → (is_end t ≡ false → differs_at (act plain_pen) (number (kind_of t)) ≡ true) → Known t
+known-by t act is own ends differ =
     let same : (p : Pen) → apply t p ≡ act p = λ p. ap (λ (r : Reading). r.pen) (is p) in
     record {
       settled = λ p. is p ∙ ap alone (sym (same p));
       sets = λ p. rw (same p, same plain_pen) (own p);
       ends = λ end. same plain_pen ∙ ends end;
+      differs = λ stays. rw (same plain_pen) (differ stays);
     }
 
 -- its fields
@@ -145,16 +171,13 @@ far-unknown : is_unknown (kind_of_code 255) ≡ true
 unfolding kind_of_code is_unknown
 far-unknown = refl
 
-kind-reset : (c : ℕ) → (number (kind_of_code c) == number Reset) ≡ (c == 0)
+-- 0 and 22 set more than one field
+kind-many : (c : ℕ) → ((number (kind_of_code c) == 0) || (number (kind_of_code c) == 3))
+    ≡ ((c == 0) || (c == 22))
 unfolding kind_of_code number
-kind-reset c = grind (arith, cases_Bool, nat_tests)
+kind-many c = grind (arith, cases_Bool, nat_tests)
 
--- ---- zeros behind a colon
-
-zero-value : (c : ℕ) (ds : List ℕ) → (c == 0x30) ≡ true
-    → digits_value 10 (c ∷ ds) ≡ digits_value 10 ds
-zero-value c ds is =
-    subst (λ n. digits_value 10 (n ∷ ds) ≡ digits_value 10 ds) (sym (eqb-true c 0x30 is)) refl
+-- ---- the number behind a colon
 
 -- one more character of the first number does not change the later ones
 later-values : (c : ℕ) (texts : List (List ℕ))
@@ -162,28 +185,31 @@ later-values : (c : ℕ) (texts : List (List ℕ))
 later-values c [] = refl
 later-values c (t ∷ texts) = refl
 
-abbrev is_zero_part : ℕ → Bool
-is_zero_part c = (c == 0x30) || (c == 0x3A)
+rest-range : (t : List ℕ) → InRange t → InRange (drop 1 (details t))
+unfolding details
+rest-range t all =
+    drop-all (is_in_range 0x30 0x3B) 1 (details t)
+    (drop-all (is_in_range 0x30 0x3B) (prefix_len is_ascii_digit t) t all)
 
-zeros-value : (t : List ℕ) → list_all is_zero_part t ≡ true
-    → digits_value 10 (first_text (between 0x3A (first_field t))) ≡ 0
-zeros-value [] all = refl
-zeros-value (c ∷ cs) all =
-    grind (arith, cases_Bool, nat_tests, first_text-first, zero-value, zeros-value cs)
+-- the second number of a field is the first one behind the colon
+second-first : (t : List ℕ) → InRange t → has_colon t ≡ true
+    → first_of (drop 1 (numbers_of (first_field t))) ≡ first_number (drop 1 (details t))
+second-first [] all colon = rw details-nil refl
+second-first (c ∷ cs) all colon =
+    let others = second-first cs in
+    grind (arith, cases_Bool, nat_tests, details-cons, first_text-first, later-values, others)
 
-zeros-part : (t : List ℕ) → InRange t → list_all is_zero_part (details t) ≡ true
-    → first_of (drop 1 (numbers_of (first_field t))) ≡ 0
-zeros-part [] all zeros = refl
-zeros-part (c ∷ cs) all zeros =
-    let first = first-value (between 0x3A (first_field cs)) in
-    let value = zeros-value cs in
-    let others = zeros-part cs in
-    grind (arith, cases_Bool, nat_tests, details-cons, first_text-first, later-values, first, value, others)
+min-none : (n : ℕ) → (min 255 n == 0) ≡ (n == 0)
+min-none n = grind (arith, cases_Bool, nat_tests)
 
-end-zeros : (t : List ℕ) → has_colon t ≡ true → is_end t ≡ true
-    → list_all is_zero_part (details t) ≡ true
+colon-end : (t : List ℕ) → InRange t → has_colon t ≡ true → (code t == 4) ≡ true
+    → is_end t ≡ (first_of (drop 1 (numbers_of (first_field t))) == 0)
 unfolding is_end
-end-zeros t colon end = grind (arith, cases_Bool)
+colon-end t range colon four =
+    let rest = drop 1 (details t) in
+    let value = code-first rest (rest-range t range) in
+    let second = second-first t range colon in
+    grind (arith, cases_Bool, value, second, min-none (first_number rest))
 
 colon-other : (t : List ℕ) → has_colon t ≡ true → (code t == 4) ≡ false → is_end t ≡ false
 unfolding is_end
@@ -196,10 +222,6 @@ color-cases : (t : List ℕ) (mode : ℕ) → (color_fields t mode == 0) ≡ fal
     ⊎ ((mode == 2) ≡ true) × (color_fields t mode ≡ 5) × (length (fields 4 t) < length t)
 unfolding color_fields
 color-cases t mode some = grind (arith, cases_Bool, nat_tests)
-
-details-range : (t : List ℕ) → InRange t → InRange (details t)
-unfolding details
-details-range t all = drop-all (is_in_range 0x30 0x3B) (prefix_len is_ascii_digit t) t all
 
 module _ (t : List ℕ) (is : IsSetting t) (known : is_unknown (kind_of t) ≡ false) where
   abbrev field : List ℕ
@@ -223,6 +245,14 @@ module _ (t : List ℕ) (is : IsSetting t) (known : is_unknown (kind_of t) ≡ f
   field-one : has_colon t ≡ false → length (numbers_of field) ≡ 1
   field-one none = grind (arith, cases_Bool, nat_tests, colon-first, field-len)
 
+  plain-differs : has_colon t ≡ false → is_color_code (code t) ≡ false → is_end t ≡ false
+      → differs_at (with_code (code t) plain_pen) (number (kind_of t)) ≡ true
+  plain-differs none plain stays =
+      let all = (row (code t)).known in
+      let kind = kind-code t known in
+      let end = plain-end none in
+      grind (arith, cases_Bool, all, kind, end)
+
   plain-known : has_colon t ≡ false → is_color_code (code t) ≡ false → Known t
   plain-known none plain =
       known-by t (with_code (code t))
@@ -231,14 +261,17 @@ module _ (t : List ℕ) (is : IsSetting t) (known : is_unknown (kind_of t) ≡ f
       ∙ ap (λ n. alone (with_code n p)) number-is)
       (λ p. rw (kind-code t known) (rw plain at (row (code t)).sets p))
       (λ end. rw (sym (plain-end none) ∙ end) at (row (code t)).ends)
+      (plain-differs none plain)
 
   -- a colour, however it is written
-  color-by : (color : Color) → is_color_code (code t) ≡ true → is_end t ≡ false
-      → ((p : Pen) → read t p ≡ alone (with_color (code t) color p)) → Known t
-  color-by color one stays reads =
+  color-by : (numbers : List ℕ) → is_color_code (code t) ≡ true → is_end t ≡ false
+      → ((p : Pen) → read t p ≡ alone (with_color (code t) (color_of numbers) p)) → Known t
+  color-by numbers one stays reads =
+      let color = color_of numbers in
       known-by t (with_color (code t) color) reads
       (λ p. rw (kind-code t known) (color-sets (code t) color one p))
       (λ end. absurd (true≢false (sym end ∙ stays)))
+      (λ stays. rw (kind-code t known) (color-differs (code t) color one (color-own numbers)))
 
   -- ---- colons
 
@@ -264,16 +297,19 @@ module _ (t : List ℕ) (is : IsSetting t) (known : is_unknown (kind_of t) ≡ f
   colon-known colon = elim (cases_Bool (code t == 4)) [
     | inl four ↦
         let same : code t ≡ 4 = eqb-true (code t) 4 four in
+        let ends = colon-end t is.range colon four in
         known-by t (with_parts 4 (drop 1 (numbers_of field)))
         (λ p. colon-read colon p
         ∙ ap (λ n. alone (with_parts n (drop 1 (numbers_of field)) p)) same)
         (λ p. rw (kind-code t known, same) (underline-sets (drop 1 (numbers_of field)) p))
         (λ end. underline-ends (drop 1 (numbers_of field))
-        (zeros-part t is.range (end-zeros t colon end)))
+        (eqb-true (first_of (drop 1 (numbers_of field))) 0 (sym ends ∙ end)))
+        (λ stays. rw (kind-code t known, same)
+        (underline-differs (drop 1 (numbers_of field)) (sym ends ∙ stays)))
     | inr other ↦
         let color : is_color_code (code t) ≡ true =
         ap (λ b. b || is_color_code (code t)) (sym other) ∙ colon-code colon in
-        color-by (color_of (drop 1 (numbers_of field))) color (colon-other t colon other)
+        color-by (drop 1 (numbers_of field)) color (colon-other t colon other)
         (λ p. colon-read colon p
         ∙ ap alone (color-parts (code t) (drop 1 (numbers_of field)) p color))
   ]
@@ -292,13 +328,10 @@ module _ (t : List ℕ) (is : IsSetting t) (known : is_unknown (kind_of t) ≡ f
   abbrev rest : List ℕ
   rest = drop 1 (details t)
 
-  rest-range : InRange rest
-  rest-range = drop-all (is_in_range 0x30 0x3B) 1 (details t) (details-range t is.range)
-
   mode-is : (mode : ℕ) → (code rest == mode) ≡ true → mode < 255 → first_number rest ≡ mode
   mode-is mode same small =
       code-same mode (first_number rest) (sym (eqb-true (code rest) mode same)
-      ∙ code-first rest rest-range) (omega arith)
+      ∙ code-first rest (rest-range t is.range)) (omega arith)
 
   -- as many fields as the colour takes
   color-of : (n : ℕ) → has_colon t ≡ false → is_color_code (code t) ≡ true
@@ -311,7 +344,7 @@ module _ (t : List ℕ) (is : IsSetting t) (known : is_unknown (kind_of t) ≡ f
       let all = between-rest t is.range none (omega arith) in
       let len : length (between 0x3B t) ≡ length (between 0x3B rest) + 1 =
       ap length all ∙ omega arith in
-      color-by (color_of (map (λ f. first_of (numbers_of f)) (between 0x3B rest))) color
+      color-by (map (λ f. first_of (numbers_of f)) (between 0x3B rest)) color
       (plain-end none ∙ color-open (code t) color)
       (λ p. ap (λ fs. fold with_field (alone p) (map numbers_of fs)) all
       ∙ ap (λ r. fold with_field r (map numbers_of (between 0x3B rest))) (color-first none color p)
@@ -330,8 +363,10 @@ module _ (t : List ℕ) (is : IsSetting t) (known : is_unknown (kind_of t) ≡ f
   pub all-known : Known t
   all-known = grind (arith, cases_Bool, nat_tests, has_colon, colon-known, color-known, plain-known)
 
-  -- one that takes all back is an end
-  pub reset-end : (number (kind_of t) == number Reset) ≡ true → is_end t ≡ true
+  -- one that sets more than one field is an end
+  pub many-end : ((number (kind_of t) == 0) || (number (kind_of t) == 3)) ≡ true → is_end t ≡ true
   unfolding is_color_code is_ending_code
-  reset-end reset =
-      search (rules, arith, eqb-true, kind-reset, kind-code, has_colon, colon-code, plain-end)
+  many-end many =
+      let codes = kind-many (code t) in
+      let kind = kind-code t known in
+      grind (arith, cases_Bool, nat_tests, codes, kind, colon-code, plain-end)

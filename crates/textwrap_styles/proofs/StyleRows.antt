@@ -24,9 +24,9 @@ ended : Gives (codes "1;2;3;22") (record plain_pen { italic = true })
     × Gives (codes "4;58;5;9;24") (record plain_pen { underline_color = Indexed 9 })
     × Gives (codes "21;58;5;9;59") (record plain_pen { underline = 2 })
     × Gives (codes "4:3") (record plain_pen { underline = 3 })
-    × Gives (codes "4:3;4:0") plain_pen
+    × Gives (codes "4:3;4:0") plain_pen × Gives (codes "4:3;4:0:3") plain_pen
 unfolding with_field with_code with_parts is_whole_color with_color color_of
-ended = (refl, refl, refl, refl, refl, refl, refl)
+ended = (refl, refl, refl, refl, refl, refl, refl, refl)
 
 -- colours of the table, and by red, green and blue, with a space of colours or without one between
 -- colons; what follows them is read on. A colour that is not whole does nothing, and takes what
@@ -69,11 +69,18 @@ others-set = (refl, refl)
 
 -- ---- worked rows on what the table leaves open
 
-colors-ended : open_settings (settings (codes "4:3;4:0;38:5:1;39;48:5:1;49;58:2:1:2:3;59;38;5;1;39"
+colors-ended : open_settings (settings (codes "4:3;4:0:3;38:5:1;39;48:5:1;49;58:2:1:2:3;59;38;5;1;39"
     ++ codes ";48;2;1;2;3;49;58;5;1;59"))
     ≡ []
 unfolding first_setting taken_fields code details kind_of kind_of_code is_color_code is_unknown color_fields takes_back replaces is_end is_ending_code number
 colors-ended = refl
+
+-- an end is open behind what the table does not know, and this may end what it knows
+unknown-open : (open_settings (codes "99" ∷ codes "39" ∷ []) ≡ codes "99" ∷ codes "39" ∷ [])
+    × (open_settings (codes "1" ∷ codes "26;22" ∷ []) ≡ codes "1" ∷ codes "26;22" ∷ [])
+    × Gives (codes "99;39") plain_pen × Gives (codes "1;26;22") plain_pen
+unfolding first_setting taken_fields code details kind_of kind_of_code is_color_code is_unknown color_fields takes_back replaces is_end is_ending_code number with_field with_code
+unknown-open = (refl, refl, refl, refl)
 
 bold-is_style : is_style (codes "\u{1b}[1m") ≡ true
 bold-is_style = refl

@@ -4,11 +4,11 @@ use Rattle.std.specs.Prelude.{drop, filter, length, map, not}
 use Rattle.std.specs.List.{concat, flat_map}
 use Rattle.textwrap_layout.specs.Paragraph.{Slice, line_bytes}
 use Rattle.textwrap_styles.specs.Indents.{after_indent}
-use Rattle.textwrap_styles.specs.Pen.{Pen, plain_pen, with_code}
+use Rattle.textwrap_styles.specs.Pen.{Pen, apply, plain_pen, with_code}
 use Rattle.textwrap_styles.specs.Penned.{penned_lines, penned_text, plain_rendition}
 use Rattle.textwrap_styles.specs.Penned.{rendition_of}
-use Rattle.textwrap_styles.specs.Settings.{is_color_code, is_ending_code, is_unknown, kind_of}
-use Rattle.textwrap_styles.specs.Settings.{kind_of_code, open_settings}
+use Rattle.textwrap_styles.specs.Settings.{is_color_code, is_end, is_ending_code, is_unknown}
+use Rattle.textwrap_styles.specs.Settings.{kind_of, kind_of_code, open_settings}
 use Rattle.textwrap_styles.specs.Styled.{EachWithIndent, EndsPlain, IsWholeText, MayCarry}
 use Rattle.textwrap_styles.specs.Styles.{carried_line, carried_lines, is_link, link_end}
 use Rattle.textwrap_styles.specs.Styles.{names_id}
@@ -60,6 +60,29 @@ unknown_settings before =
 -- of those that it knows there are at most 15
 abbrev pub StylesAreFew : Type 0
 StylesAreFew = (before : List (List ℕ)) → length (known_settings before) ≤ 15
+
+-- those of them that end nothing
+abbrev pub setters : List (List ℕ) → List (List ℕ)
+setters before = filter (λ s. not (is_end s)) (known_settings before)
+
+-- they are all that are open, if the table knows all
+abbrev pub OpenStylesAreSetters : Type 0
+OpenStylesAreSetters =
+    (before : List (List ℕ)) → unknown_settings before ≡ []
+    → setters before ≡ open_settings (flat_map settings_of before)
+
+-- a setting that the table does not know changes no pen
+abbrev pub NothingIfUnknown : List ℕ → Type 0
+NothingIfUnknown s = is_unknown (kind_of s) ≡ true → (pen : Pen) → apply s pen ≡ pen
+
+-- if so, no sequences of fewer settings give the pen
+abbrev pub NothingShorterGivesThePen : Type 0
+NothingShorterGivesThePen =
+    (before others : List (List ℕ))
+    → All NothingIfUnknown (open_settings (flat_map settings_of before))
+    → All NothingIfUnknown (flat_map settings_of others)
+    → (rendition_of others).pen ≡ (rendition_of before).pen
+    → length (setters before) ≤ length (flat_map settings_of others)
 
 -- ---- lines whose styles are carried
 

@@ -6,7 +6,7 @@ use Rattle.std.specs.Prelude.{nat_lt, List, [], ◌∷◌, length, drop, codes, 
 use Rattle.std.specs.Prelude.{if◌then◌else◌}
 use Rattle.std.specs.Char.{is_ascii_digit}
 use Rattle.std.specs.Int.{is_in_range}
-use Rattle.std.specs.List.{after_last, list_all, list_any, prefix_len, starts_with, take_while}
+use Rattle.std.specs.List.{after_last, list_any, prefix_len, starts_with, take_while}
 use Rattle.std.specs.Str.Parse.{digits_value}
 use Rattle.textwrap_styles.specs.declared.settings.Kind.{Kind}
 use Rattle.textwrap_styles.specs.declared.settings.Kind.TheVariants.{Background, Blink, Bold}
@@ -106,12 +106,12 @@ unfoldable pub kind_of : List ℕ → Kind
 kind_of setting =
     if taken_fields setting == 0 then Unknown else kind_of_code (code setting)
 
--- whether it ends something: `4:0` does, too
+-- whether it ends something: `4:0` does, too, whatever follows the 0
 unfoldable pub is_end : List ℕ → Bool
 is_end setting =
     let rest = details setting in
     if starts_with nat_eq rest (codes ":")
-    then (code setting == 4) && list_all (λ c. (c == 0x30) || (c == 0x3A)) rest
+    then (code setting == 4) && (code (drop 1 rest) == 0)
     else is_ending_code (code setting)
 
 unfoldable pub number : Kind → ℕ

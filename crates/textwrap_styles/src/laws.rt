@@ -8,7 +8,8 @@
 ghost use Rattle.textwrap_styles.specs.Laws.{CarriedLinesAreAsWide, CarriedLinesAreShort};
 ghost use Rattle.textwrap_styles.specs.Laws.{CarriedLinesEndPlain, CarriedLinesKeepPens};
 ghost use Rattle.textwrap_styles.specs.Laws.{CarriedLinesShowTheirText, EndsAreKnown};
-ghost use Rattle.textwrap_styles.specs.Laws.{LinksKeepAnId, NumbersAreKnown, PlainLinesStay, StylesAreFew};
+ghost use Rattle.textwrap_styles.specs.Laws.{LinksKeepAnId, NothingShorterGivesThePen, NumbersAreKnown};
+ghost use Rattle.textwrap_styles.specs.Laws.{OpenStylesAreSetters, PlainLinesStay, StylesAreFew};
 ghost use Rattle.textwrap_styles.specs.Laws.{StylesAreSetAnew, StylesGiveThePen};
 ghost use Rattle.textwrap_styles.specs.Laws.{WholeLinesMayCarry};
 
@@ -44,6 +45,17 @@ pub fn links_keep_an_id()
 /// At most 15 of the settings that are open are of kinds that the table knows.
 pub fn styles_are_few()
     ensures { StylesAreFew }
+{}
+
+/// All settings that are open set something, and end nothing, if the table knows them all.
+pub fn open_styles_are_setters()
+    ensures { OpenStylesAreSetters }
+{}
+
+/// The open settings that the table knows and that set something are as few as can be: no sequences
+/// of fewer settings give the same pen, if what the table does not know changes no pen.
+pub fn nothing_shorter_gives_the_pen()
+    ensures { NothingShorterGivesThePen }
 {}
 
 /// Each visible character of lines whose styles are carried, each line read by itself from a plain

@@ -181,7 +181,7 @@ fn taken_fields(parameters: &[u8]) -> usize
     }
 }
 
-/// The number that follows 38, 48 or 58.
+/// The number behind the sign that follows 4, 38, 48 or 58.
 fn mode(details: &[u8]) -> u8
     ensures { result ≡ code (drop 1 details.now) }
 {
@@ -251,7 +251,7 @@ pub(crate) fn kind_of(setting: &str) -> Kind
     }
 }
 
-/// Whether it ends what was set: `4:0` does, too.
+/// Whether it ends what was set: `4:0` does, too, whatever follows the 0.
 #[tactic(auto, unfolding(crate::specs::Settings::is_end))]
 pub(crate) fn is_end(setting: &str) -> bool
     ensures { result ≡ is_end setting.now }
@@ -259,15 +259,8 @@ pub(crate) fn is_end(setting: &str) -> bool
     let setting = setting.as_bytes();
     let details = details(setting);
     if details.starts_with(b":") {
-        code(setting) == 4 && are_zeros_and_colons(details)
+        code(setting) == 4 && mode(details) == 0
     } else {
         is_ending_code(code(setting))
     }
-}
-
-/// Whether these are zeros and colons alone.
-fn are_zeros_and_colons(details: &[u8]) -> bool
-    ensures { result ≡ list_all (λ c. (c == 0x30) || (c == 0x3A)) details.now }
-{
-    details.iter().all(|byte| matches!(byte, b'0' | b':'))
 }

@@ -1,0 +1,171 @@
+-- No fewer settings give a pen than those that are open: each of these leaves the field of its kind
+-- unlike that of the plain pen, and one setting does so to one field alone.
+use Rattle.std.proofs.lemmas.{Bool.true_from_ne_false, Cmp.nat_eq_equiv}
+use Rattle.std.proofs.lemmas.Map.Made.{IsDistinct-from_count, length-le_from_is_member}
+use Rattle.std.specs.Set.{is_member, unique_keys}
+use Rattle.textwrap_styles.proofs.Common.{Pen, Rendition, apply, in_effect, kind_of, latest}
+use Rattle.textwrap_styles.proofs.Common.{open_settings, plain_pen, plain_rendition, settings_of}
+use Rattle.textwrap_styles.proofs.Common.{with_sequence}
+use Rattle.textwrap_styles.proofs.OpenSettings.{Sets, all-open, all-set, known-below}
+use Rattle.textwrap_styles.proofs.OpenSettings.{latest-in_effect, resets, unknown-number}
+use Rattle.textwrap_styles.proofs.PenCodes.{differs_at, mix-differs, plain-differs, sets}
+use Rattle.textwrap_styles.proofs.PenOpen.{AreLatest, are-latest, open-pen, parameters-pen, pen_by}
+use Rattle.textwrap_styles.proofs.PenOpen.{run-append}
+use Rattle.textwrap_styles.proofs.PenSettings.{all-known, many-end}
+use Rattle.textwrap_styles.proofs.SettingTexts.{IsSetting}
+use Rattle.textwrap_styles.proofs.WrittenSettings.{all-settings}
+use Rattle.textwrap_styles.specs.Laws.{NothingIfUnknown, NothingShorterGivesThePen}
+use Rattle.textwrap_styles.specs.{Laws.OpenStylesAreSetters, Penned.with_style}
+use Rattle.textwrap_styles.specs.Settings.{is_end, is_unknown, number, replaces, takes_back}
+use Rattle.textwrap_text.proofs.Common.{All, All-head, All-tail, List, [], after_last, ap, arith}
+use Rattle.textwrap_text.proofs.Common.{cases_Bool, cond, eqb, eqb-true, false}
+use Rattle.textwrap_text.proofs.Common.{filter, flat_map, fold, inl, inr, length, length-map}
+use Rattle.textwrap_text.proofs.Common.{list_any, map, nat_tests, not, refl, rules, subst, sym}
+use Rattle.textwrap_text.proofs.Common.{true, true≢false, ℕ, ◌&&◌, ◌==◌, ◌||◌, ◌∙◌, ◌∷◌, ◌≡◌}
+
+-- ---- the fields of a pen that are not plain
+
+-- a setting that the table knows, or that does nothing
+record Told (t : List ℕ) : Type 0 where
+  setting : IsSetting t
+  nothing : NothingIfUnknown t
+
+-- a kind sets its own field, and others only if it ends something
+sets-own : (k : ℕ) → sets k k ≡ true
+sets-own k = grind (arith, cases_Bool, nat_tests)
+
+sets-other : (k i : ℕ) → sets k i ≡ true → eqb i k ≡ false → ((k == 0) || (k == 3)) ≡ true
+sets-other k i is other = grind (arith, cases_Bool, nat_tests)
+
+-- a field differs after it as it set it, or as before
+module _ (t : List ℕ) (told : Told t) (p : Pen) (i : ℕ) where
+  changed : differs_at (apply t p) i
+      ≡ cond (not (is_unknown (kind_of t)) && sets (number (kind_of t)) i)
+      (differs_at (apply t plain_pen) i) (differs_at p i)
+  changed = elim (cases_Bool (is_unknown (kind_of t))) [
+    | inl unknown ↦ rw unknown (ap (λ q. differs_at q i) (told.nothing unknown p))
+    | inr known ↦
+        rw (known, (all-known t told.setting known).sets p)
+        (mix-differs (sets (number (kind_of t))) (apply t plain_pen) p i)
+  ]
+
+  -- it leaves the fields of other kinds plain
+  plain-stays : eqb i (number (kind_of t)) ≡ false → differs_at p i ≡ false
+      → differs_at (apply t p) i ≡ false
+  plain-stays other plain =
+      let end = λ (known : is_unknown (kind_of t) ≡ false).
+      (all-known t told.setting known).ends in
+      grind (arith, cases_Bool, changed, end, many-end t told.setting, sets-other, plain-differs i)
+
+-- the kinds of some settings
+abbrev kinds : List (List ℕ) → List ℕ
+kinds ss = map (λ s. number (kind_of s)) ss
+
+-- so settings of other kinds do
+run-plain : (ss : List (List ℕ)) (p : Pen) (i : ℕ) → All Told ss
+    → is_member eqb (kinds ss) i ≡ false → differs_at p i ≡ false
+    → differs_at (pen_by p ss) i ≡ false
+run-plain [] p i told none plain = plain
+run-plain (t ∷ ss) p i told none plain =
+    let rest = run-plain ss (apply t p) i (All-tail Told t ss told) in
+    grind (arith, cases_Bool, rest, plain-stays t (All-head Told t ss told) p i)
+
+-- ---- those that are open
+
+-- one of them: none of these takes back all
+record Open (t : List ℕ) : Type 0 where
+  told : Told t
+  sets : Sets t
+
+abbrev setters_of : List (List ℕ) → List (List ℕ)
+setters_of ss = filter (λ s. not (is_end s)) (filter (λ s. not (is_unknown (kind_of s))) ss)
+
+-- what does not take back a setting leaves its field
+apart : (t s : List ℕ) → Sets t → is_unknown (kind_of s) ≡ false → replaces t s ≡ false
+    → sets (number (kind_of t)) (number (kind_of s)) ≡ false
+unfolding replaces takes_back number
+apart t s first known none = grind (arith, cases_Bool, nat_tests, unknown-number, known-below)
+
+run-stays : (s : List ℕ) (ss : List (List ℕ)) (p : Pen) → is_unknown (kind_of s) ≡ false
+    → All Open ss → list_any (λ t. replaces t s) ss ≡ false
+    → differs_at (pen_by p ss) (number (kind_of s)) ≡ differs_at p (number (kind_of s))
+run-stays s [] p known are none = refl
+run-stays s (t ∷ ss) p known are none =
+    let own = All-head Open t ss are in
+    let one = changed t own.told p (number (kind_of s)) in
+    let rest = run-stays s ss (apply t p) known (All-tail Open t ss are) in
+    grind (arith, cases_Bool, one, apart t s own.sets known, rest)
+
+-- the field of each differs
+each-differs : (ss : List (List ℕ)) (p : Pen) (i : ℕ) → All Open ss → AreLatest ss
+    → is_member eqb (kinds (setters_of ss)) i ≡ true → differs_at (pen_by p ss) i ≡ true
+each-differs [] p i are latest is = absurd (true≢false (sym is))
+each-differs (s ∷ ss) p i are (none, latest) is =
+    let own = (All-head Open s ss are).told in
+    let rest = All-tail Open s ss are in
+    let kind = number (kind_of s) in
+    let others = each-differs ss (apply s p) i rest latest in
+    let differs = λ (known : is_unknown (kind_of s) ≡ false) (stays : is_end s ≡ false).
+    run-stays s ss (apply s p) known rest none
+    ∙ (rw (known, sets-own) at (changed s own p kind))
+    ∙ (all-known s own.setting known).differs stays in
+    grind (arith, cases_Bool, nat_tests, others, differs, eqb-true)
+
+-- so no two are of one kind
+kinds-once : (ss : List (List ℕ)) → All Open ss → AreLatest ss
+    → unique_keys eqb (kinds (setters_of ss)) ≡ kinds (setters_of ss)
+kinds-once [] are latest = refl
+kinds-once (s ∷ ss) are (none, latest) =
+    let kind = number (kind_of s) in
+    let rest = All-tail Open s ss are in
+    let other = each-differs ss plain_pen kind rest latest in
+    let stays = λ (known : is_unknown (kind_of s) ≡ false).
+    run-stays s ss plain_pen known rest none ∙ plain-differs kind in
+    grind (arith, cases_Bool, other, stays, kinds-once ss rest latest)
+
+-- ---- the pen of sequences is that of their settings
+
+given : (s : List ℕ) (p : Pen) → with_style p s ≡ pen_by p (settings_of s)
+given s p = search (rules, arith, pen_by, parameters-pen)
+
+all-given : (ss : List (List ℕ)) (now : Rendition)
+    → (fold with_sequence now ss).pen ≡ pen_by now.pen (flat_map settings_of ss)
+all-given [] now = refl
+all-given (s ∷ ss) now = grind (arith, given, all-given ss (with_sequence now s), run-append)
+
+-- ---- the laws
+
+all-set_something : (ss : List (List ℕ)) → filter (λ s. is_unknown (kind_of s)) (in_effect ss) ≡ []
+    → setters_of (in_effect ss) ≡ in_effect ss
+all-set_something [] none = refl
+all-set_something (s ∷ ss) none = grind (arith, cases_Bool, all-set_something ss)
+
+pub open-setters : OpenStylesAreSetters
+open-setters before none =
+    all-set_something (latest (after_last resets (flat_map settings_of before))) none
+
+pub fewest : NothingShorterGivesThePen
+fewest before others nothing more same =
+    let all = flat_map settings_of before in
+    let now = open_settings all in
+    let rest = flat_map settings_of others in
+    let is = all-settings before in
+    let own = all-open IsSetting all is in
+    let are : All Open now =
+    λ k d within. record {
+      told = record { setting = own k d within; nothing = nothing k d within };
+      sets = all-set all k d within;
+    } in
+    let told : All Told rest =
+    λ k d within. record { setting = all-settings others k d within; nothing = more k d within } in
+    let latest = subst AreLatest (latest-in_effect (after_last resets all)) (are-latest now) in
+    let pens : pen_by plain_pen now ≡ pen_by plain_pen rest =
+    open-pen all is ∙ sym (all-given before plain_rendition) ∙ sym same
+    ∙ all-given others plain_rendition in
+    let once = IsDistinct-from_count nat_eq_equiv (kinds (setters_of now))
+    (ap length (kinds-once now are latest)) in
+    let most = length-le_from_is_member nat_eq_equiv (kinds (setters_of now)) (kinds rest) once
+    (λ i set. true_from_ne_false (is_member eqb (kinds rest) i) (λ none.
+    true≢false (sym (each-differs now plain_pen i are latest set) ∙ ap (λ p. differs_at p i) pens
+    ∙ run-plain rest plain_pen i told none (plain-differs i)))) in
+    simp length-map at most

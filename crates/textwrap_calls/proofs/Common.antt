@@ -8,7 +8,7 @@ pub use Rattle.textwrap_calls.specs.Options.{Divides, options_settings, says_yes
 pub use Rattle.textwrap_calls.specs.declared.options.TextwrapOptions.{TextwrapOptions}
 pub use Rattle.textwrap_calls.specs.{Columns.ArePlacedRows, Options.{options_algorithm, separator_of}}
 pub use Rattle.textwrap_calls.specs.{Status.{done, too_small}, Texts.bytes_of, Wrapping.ShowLines}
-pub use Rattle.textwrap_display.specs.JustifiedText.{joined_on, justified_after_indents}
+pub use Rattle.textwrap_display.specs.JustifiedText.{added_lines}
 pub use Rattle.textwrap_display.specs.{Shortening.texts_of, Tables.shape_of}
 pub use Rattle.textwrap_layout.proofs.Common.{AreGroups, line_from, line_view, LineParts, widths_of}
 pub use Rattle.textwrap_layout.proofs.Common.{covered_by, line_bytes, parts_from, settings_view}

@@ -1,9 +1,8 @@
 -- A text that is filled with its lines justified, one paragraph after another.
-use Rattle.std.proofs.lemmas.List.{drop-map}
-use Rattle.textwrap_display.proofs.Common.{Adds, CowStr, IsJustifiedText, WordText, cow_str_bytes}
-use Rattle.textwrap_display.proofs.Common.{justified, line_bytes, line_bytes-line_view, line_view}
+use Rattle.textwrap_display.proofs.Common.{IsJustifiedText, WordText}
+use Rattle.textwrap_display.proofs.Common.{justified, line_bytes}
 use Rattle.textwrap_display.specs.JustifiedText.{all_but_last, joined_on, justified_after}
-use Rattle.textwrap_display.specs.JustifiedText.{justified_after_indents, justified_line}
+use Rattle.textwrap_display.specs.JustifiedText.{added_lines, justified_after_indents, justified_line}
 use Rattle.textwrap_display.specs.JustifiedText.{justified_lines}
 use Rattle.textwrap_layout.proofs.Common.{AreGroups, AreParagraphParts, DividesAs, DividesBy}
 use Rattle.textwrap_layout.proofs.Common.{HasParts, LineParts, Settings, indent_of, line_from}
@@ -11,13 +10,13 @@ use Rattle.textwrap_layout.proofs.Common.{parts_from, parts_of, settings_view}
 use Rattle.textwrap_layout.proofs.{Paragraph.Pieces.divides, Text.Sinks.assembled-bytes}
 use Rattle.textwrap_layout.specs.declared.options.Options.{Options}
 use Rattle.textwrap_text.proofs.Common.{Bool, List, [], ap, append-nil, append_assoc, arith}
-use Rattle.textwrap_text.proofs.Common.{cases_Bool, cond, drop, drop_all, drop_at, ending_bytes}
-use Rattle.textwrap_text.proofs.Common.{false, flat_map, join_with, length, length-append}
-use Rattle.textwrap_text.proofs.Common.{length-map, map, nat_lt, paragraphs_of, refl, rules, subst}
-use Rattle.textwrap_text.proofs.Common.{suc, sym, take, take_all, take_at, text_width, true, ℕ}
+use Rattle.textwrap_text.proofs.Common.{cases_Bool, drop_all, drop_at, ending_bytes}
+use Rattle.textwrap_text.proofs.Common.{false, flat_map, join_with, length}
+use Rattle.textwrap_text.proofs.Common.{map, nat_lt, paragraphs_of, refl, rules, subst}
+use Rattle.textwrap_text.proofs.Common.{suc, sym, take_all, take_at, text_width, true, ℕ}
 use Rattle.textwrap_text.proofs.Common.{◌++◌, ◌+◌, ◌-◌, ◌||◌, ◌∙◌, ◌∷◌, ◌≡◌}
 use Rattle.textwrap_text.proofs.Lists.Parts.{starts_with-true}
-use Rattle.textwrap_text.proofs.Numbers.{is_later-or, or_false, some_later}
+use Rattle.textwrap_text.proofs.Numbers.{or_false, some_later}
 use Rattle.textwrap_words.proofs.Common.{Algorithm, Splitter}
 
 -- ---- worked rows on lists of which all but the last are changed
@@ -34,34 +33,6 @@ row-of-one = refl
 
 rows-of-none : all_but_last (λ (n : ℕ). n + 10) (λ n. n + 20) (λ n. n) [] ≡ []
 rows-of-none = refl
-
--- ---- what the lines of a paragraph add to a text, the first of them and those after it
-
-module _ {Z : Type 0} (settings : Settings) where
-  -- what the lines add to a text
-  abbrev pub added : Bool → List (CowStr Z) → List ℕ
-  added is_later lines =
-      joined_on (ending_bytes settings.line_ending) is_later
-      (justified_after_indents settings is_later (map line_view lines))
-
-  -- a line that is not the last, and those after it
-  pub added-next : (is_later : Bool) (line : CowStr Z) (lines : List (CowStr Z)) (last : CowStr Z)
-      → added is_later (line ∷ (lines ++ last ∷ []))
-      ≡ (cond is_later (ending_bytes settings.line_ending) []
-      ++ justified_after settings.width (indent_of settings is_later)
-      (line_bytes (line_view line))) ++ added true (lines ++ last ∷ [])
-  added-next is_later line [] last = refl
-  added-next is_later line (next ∷ lines) last = refl
-
-  -- such a line is written
-  pub added-step : (is_later : Bool) (line : CowStr Z) (lines : List (CowStr Z)) (last : CowStr Z)
-      (old begun new indent text : List ℕ)
-      → begun ≡ old ++ cond is_later (ending_bytes settings.line_ending) []
-      → new ≡ begun ++ justified_after settings.width indent text
-      → indent ≡ indent_of settings is_later → text ≡ cow_str_bytes line
-      → new ++ added true (lines ++ last ∷ []) ≡ old ++ added is_later (line ∷ (lines ++ last ∷ []))
-  added-step is_later line lines last old begun new indent text begins writes indent_is given =
-      grind (arith, append_assoc, line_bytes-line_view, added-next)
 
 -- ---- one line
 
@@ -87,7 +58,7 @@ line-justified settings is_later (w ∷ words) =
 
 pub parts-justified : (settings : Settings) (is_later : Bool) (division : List (List WordText))
     → justified_after_indents settings is_later
-    (map line_from (parts_from settings is_later division))
+    (map line_bytes (map line_from (parts_from settings is_later division)))
     ≡ justified_lines settings.width (parts_from settings is_later division)
 parts-justified settings is_later [] = refl
 parts-justified settings is_later (words ∷ []) = refl
@@ -130,9 +101,8 @@ module _ (settings : Settings) where
   -- those of one more group
   pub rows-more : (filled new : List ℕ) (is_later then_later : Bool) (division : List (List WordText))
       (groups : List (List LineParts))
-      → new ≡ filled ++ joined_on (ending_bytes settings.line_ending) is_later
-      (justified_after_indents settings is_later
-      (map line_from (parts_from settings is_later division)))
+      → new ≡ filled ++ added_lines settings is_later
+      (map line_bytes (map line_from (parts_from settings is_later division)))
       → then_later ≡ is_later || nat_lt 0 (length (parts_from settings is_later division))
       → filled ++ rows is_later (parts_from settings is_later division ∷ groups)
       ≡ new ++ rows then_later groups
@@ -140,11 +110,6 @@ module _ (settings : Settings) where
       grind (arith, append_assoc, joined_on-append, justified-length, parts-justified)
 
 -- ---- a text that is filled with its lines justified, one paragraph after another
-
--- whether any stands before, where one is kept
-kept-some : {X : Type 0} (xs : List X) → nat_lt 0 (length (take 1 xs)) ≡ nat_lt 0 (length xs)
-kept-some [] = refl
-kept-some (x ∷ xs) = sym (some_later false (length xs))
 
 module _ (settings : Settings) (Divides : Bool → List ℕ → List (List WordText) → Type 0) where
   -- with right lines of the paragraphs that are left, it is the whole
@@ -161,39 +126,22 @@ module _ (settings : Settings) (Divides : Bool → List ℕ → List (List WordT
   so_far-start text filled none = search (rules, arith, join-on)
 
   -- the lines of one more paragraph
-  pub so_far-more : {Z : Type 0} (text filled new : List ℕ)
-      (items kept found slice : List (CowStr Z)) (start : ℕ) (paragraph : List ℕ) (after : List (List ℕ))
-      → IsJustifiedSoFar text filled (nat_lt 0 (length items)) (paragraph ∷ after)
-      → kept ≡ take 1 items → start ≡ length kept
-      → (parts : List LineParts)
-      × AreParagraphParts settings Divides (nat_lt 0 (length kept)) paragraph parts
-      × Adds kept found parts
-      → slice ≡ drop start found
-      → new ≡ filled ++ joined_on (ending_bytes settings.line_ending) (nat_lt 0 start)
-      (justified_after_indents settings (nat_lt 0 start) (map line_view slice))
-      → IsJustifiedSoFar text new (nat_lt 0 (length found)) after
-  so_far-more text filled new items kept found slice start paragraph after so_far keeps starts
-      (parts, (division, laid_out, are), adds) slice_is is =
-      let later = nat_lt 0 (length kept) in
-      let views = length-map kept line_view in
-      let count = ap length adds ∙ length-append (map line_view kept) (map line_from parts) in
-      let len : length found ≡ length kept + length parts =
-      omega (arith, length-map found line_view, count, views, length-map parts line_from) in
-      let begins : nat_lt 0 (length items) ≡ later =
-      sym (kept-some items) ∙ ap (λ ls. nat_lt 0 (length ls)) (sym keeps) in
-      let lines : map line_view slice ≡ map line_from parts =
-      ap (map line_view) slice_is ∙ sym (drop-map line_view start found) ∙ ap (drop start) adds
-      ∙ drop_at (map line_view kept) (map line_from parts) start (views ∙ sym starts) in
-      let then = is_later-or (length found) (length kept) (length parts) len in
-      record {
+  pub so_far-more : (text filled new : List ℕ) (is_later then_later : Bool) (paragraph : List ℕ)
+      (after : List (List ℕ)) (parts : List LineParts)
+      → IsJustifiedSoFar text filled is_later (paragraph ∷ after)
+      → AreParagraphParts settings Divides is_later paragraph parts
+      → new ≡ filled ++ added_lines settings is_later (map line_bytes (map line_from parts))
+      → then_later ≡ is_later || nat_lt 0 (length parts)
+      → IsJustifiedSoFar text new then_later after
+  so_far-more text filled new is_later then_later paragraph after parts so_far
+      (division, laid_out, are) is then = record {
         done = so_far.done ++ paragraph ∷ [];
         paragraphs = so_far.paragraphs ∙ sym (append_assoc so_far.done (paragraph ∷ []) after);
         whole = λ groups rest.
             subst (IsJustifiedText settings Divides text)
-            (rw are (rows-more settings filled new later (nat_lt 0 (length found)) division groups
-            (rw are at (rw (starts, lines) at is)) (rw are at then)))
-            ((rw begins at so_far).whole (parts ∷ groups)
-            ((division, laid_out, are), rw then at rest));
+            (rw are (rows-more settings filled new is_later then_later division groups (rw are at is)
+            (rw are at then)))
+            (so_far.whole (parts ∷ groups) ((division, laid_out, are), rw then at rest));
       }
 
   pub so_far-end : (text filled : List ℕ) (is_later : Bool)

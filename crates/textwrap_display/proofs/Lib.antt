@@ -3,6 +3,7 @@ pub mod ProvedLaws
 pub mod ColumnNeeds
 pub mod FittingWidths
 pub mod JustifiedLines
+pub mod JustifiedSinks
 pub mod KeptLines
 pub mod KeptWords
 pub mod WholeBeginnings

@@ -6,7 +6,7 @@ use Rattle.textwrap_styles.specs.Indents.{after_indent, before_text}
 use Rattle.textwrap_display.specs.Justifying.{justified}
 use Rattle.textwrap_text.specs.LineEnding.{ending_bytes, join_with, paragraphs_of}
 use Rattle.textwrap_layout.specs.Options.{Settings}
-use Rattle.textwrap_layout.specs.Paragraph.{Line, LineParts, AreParagraphParts, indent_of}
+use Rattle.textwrap_layout.specs.Paragraph.{LineParts, AreParagraphParts, indent_of}
 use Rattle.textwrap_layout.specs.Paragraph.{line_bytes, line_from}
 use Rattle.textwrap_layout.specs.Text.{AreGroups}
 use Rattle.textwrap_text.specs.Units.{text_width}
@@ -46,16 +46,11 @@ justified_after width indent line =
     before_text indent line
     ++ line_bytes (justified (width - text_width indent) (after_indent indent line))
 
--- after the indent that a line has where one stands before it, or where none does
-abbrev pub justified_after_its : Settings → Bool → Line → List ℕ
-justified_after_its settings is_later line =
-    justified_after settings.width (indent_of settings is_later) (line_bytes line)
-
--- all but the last are; `is_later` says that a line stands before them
-abbrev pub justified_after_indents : Settings → Bool → List Line → List (List ℕ)
+-- after the indent that each has, all but the last are; `is_later` says that a line stands before them
+abbrev pub justified_after_indents : Settings → Bool → List (List ℕ) → List (List ℕ)
 justified_after_indents settings is_later =
-    all_but_last (justified_after_its settings is_later) (justified_after_its settings true)
-    line_bytes
+    all_but_last (justified_after settings.width (indent_of settings is_later))
+    (justified_after settings.width (indent_of settings true)) (λ line. line)
 
 -- the lines one after another, each with the ending before it; the first has none if no line stands
 -- before it
@@ -63,3 +58,9 @@ abbrev pub joined_on : List ℕ → Bool → List (List ℕ) → List ℕ
 joined_on ending is_later [] = []
 joined_on ending is_later (line ∷ lines) =
     (if is_later then ending else []) ++ line ++ joined_on ending true lines
+
+-- what the lines of a paragraph add to the text
+abbrev pub added_lines : Settings → Bool → List (List ℕ) → List ℕ
+added_lines settings is_later lines =
+    joined_on (ending_bytes settings.line_ending) is_later
+    (justified_after_indents settings is_later lines)

@@ -1,6 +1,7 @@
 pub mod Alignment
 pub mod Justifying
 pub mod JustifiedText
+pub mod JustifiedSinks
 pub mod Shortening
 pub mod Tables
 pub mod Needs

@@ -1,3 +1,3 @@
 //! What the crates above need beside the public calls.
 
-pub use crate::filling::push_justified_lines;
+pub use crate::justified_lines::JustifiedLines;

@@ -22,6 +22,7 @@ mod alignment;
 mod filling;
 mod fitting;
 pub mod inner;
+mod justified_lines;
 mod justifying;
 pub mod laws;
 mod needs;

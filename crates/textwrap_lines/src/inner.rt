@@ -8,7 +8,7 @@ ghost use Rattle.textwrap_layout.specs.Paragraph.{first_width, is_whole, later_w
 
 pub use crate::filling::fill_by;
 use crate::wrapping;
-pub use crate::wrapping::{fill_to, wrap_by, wrap_paragraph};
+pub use crate::wrapping::{fill_to, push_paragraph_by, wrap_by};
 use textwrap_layout::frame::Frame;
 use textwrap_layout::layout::{Layout, next_indent};
 use textwrap_layout::options::Options;

@@ -373,7 +373,7 @@ pub fn wrap_single_line<'t, A: Allocator + Copy>(
 ///
 /// # Errors
 /// Those of [`wrap_single_line`].
-pub fn wrap_paragraph<'t, A: Allocator + Copy, P: Parts<A>>(
+pub(crate) fn wrap_paragraph<'t, A: Allocator + Copy, P: Parts<A>>(
     alloc: A,
     paragraph: &'t str,
     layout: Layout<'_>,
@@ -388,12 +388,37 @@ pub fn wrap_paragraph<'t, A: Allocator + Copy, P: Parts<A>>(
         paragraph.now → OnlyMemoryRunsOut result }
 {
     // A list of its own, so that an error leaves the other as it was.
-    let frame = Frame::at(layout, !lines.is_empty());
     let mut own = Vec::new(alloc);
     let mut found = ListedLines { lines: &mut own };
-    let built_in = parts.built_in();
-    push_paragraph(alloc, paragraph, parts, &frame, &built_in, &mut found)?;
+    let is_later = !lines.is_empty();
+    push_paragraph_by(alloc, paragraph, layout, parts, is_later, &mut found)?;
     Ok(lines.append(&mut own)?)
+}
+
+/// Pushes the lines of one paragraph by this layout and any parts. `is_later` says that a line stands
+/// before them.
+///
+/// # Errors
+/// Those of [`wrap`].
+pub fn push_paragraph_by<'t, A: Allocator + Copy, S: LineSink<'t, A>, P: Parts<A>>(
+    alloc: A,
+    paragraph: &'t str,
+    layout: Layout<'_>,
+    parts: &P,
+    is_later: bool,
+    lines: &mut S,
+) -> Result<(), WrapError>
+    ensures name { S.name lines.new ≡ S.name lines.old }
+    ensures taken { OnOk result ((own : List LineParts)
+        × AreParagraphParts (layout_view layout.entry)
+        (DividesWith (P.may parts.now) (layout_view layout.entry)) is_later paragraph.now own
+        × Pushed S.holds lines.old lines.new (cut_lines 0 own)) }
+    ensures only_memory { ¬ P.may_overflow parts.now → OnlyMemoryRunsOut result }
+    ensures no_overflow { ¬ MayPass64BitsWith (P.may parts.now) (layout_view layout.entry)
+        paragraph.now → OnlyMemoryRunsOut result }
+{
+    let frame = Frame::at(layout, is_later);
+    push_paragraph(alloc, paragraph, parts, &frame, &parts.built_in(), lines)
 }
 
 /// Whether a paragraph is one line as a whole, with this indent before it in so many columns.

@@ -1,12 +1,12 @@
 -- The lines of a text, each paragraph of which comes with its steps, as they are or justified.
 use Rattle.std.{proofs.Common.{Fits, w64}, specs.declared.borrow.CowStr.CowStr, specs.Result.IfOk}
 use Rattle.textwrap_calls.proofs.Common.{AreEnds, is_whole, length, lines_of, pieces_at, Settings}
-use Rattle.textwrap_calls.proofs.Common.{HasPlacesMore, join-paragraphs_of, justified_after_indents}
+use Rattle.textwrap_calls.proofs.Common.{HasPlacesMore, added_lines, join-paragraphs_of, line_bytes}
 use Rattle.textwrap_calls.proofs.Common.{[], append_assoc, ending_bytes, paragraphs_of, rest-within}
 use Rattle.textwrap_calls.proofs.Common.{append-nil, covered_by, length-map, parts_from, StartsWith}
 use Rattle.textwrap_calls.proofs.Common.{arith, Bool, false, flat, List, nat_lt, refl, subst, Tiles}
 use Rattle.textwrap_calls.proofs.Common.{further-cut_lines, HasPlaces, length-append, lines_between}
-use Rattle.textwrap_calls.proofs.Common.{join_with, joined_on, line_from, line_view, map, ShowLines}
+use Rattle.textwrap_calls.proofs.Common.{join_with, line_from, line_view, map, ShowLines}
 use Rattle.textwrap_calls.proofs.Common.{sym, ℕ, ◌++◌, ◌+◌, ◌<◌, ◌^◌, ◌||◌, ◌↔◌, ◌∙◌, ◌∷◌, ◌≡◌, ◌≤◌}
 use Rattle.textwrap_calls.proofs.PlaceLemmas.{AreBegun, groups-cut, shown-places}
 use Rattle.textwrap_calls.proofs.{Common.ap, Lengths.Sums.texts-joined, Lengths.Texts.ending-length}
@@ -197,8 +197,7 @@ module _ {settings : Settings} {steps : List TextwrapSteps} {text : List ℕ} wh
       {others : List TextwrapSteps} (lines : List (CowStr Z))
       → IsJustifiedTo settings steps text filled is_later (paragraph ∷ after) (one ∷ others)
       → map line_view lines ≡ map line_from (parts_at settings is_later paragraph one)
-      → new ≡ filled ++ joined_on (ending_bytes settings.line_ending) is_later
-      (justified_after_indents settings is_later (map line_view lines))
+      → new ≡ filled ++ added_lines settings is_later (map line_bytes (map line_view lines))
       → then_later ≡ is_later || nat_lt 0 (length lines)
       → (is_whole settings is_later paragraph ≡ false → AreLineSteps settings one.cuts.now
       one.points.now one.ends.now paragraph)
@@ -210,8 +209,7 @@ module _ {settings : Settings} {steps : List TextwrapSteps} {text : List ℕ} wh
       sym (length-map lines line_view) ∙ ap length views ∙ length-map parts line_from in
       let then : then_later ≡ is_later || nat_lt 0 (length parts) =
       later ∙ ap (λ n. is_later || nat_lt 0 n) count in
-      let added = is ∙ ap (λ ls. filled ++ joined_on (ending_bytes settings.line_ending) is_later
-      (justified_after_indents settings is_later ls)) views in
+      let added = is ∙ ap (λ ls. filled ++ added_lines settings is_later (map line_bytes ls)) views in
       rw then (record {
         whole = so_far.whole ∙ rows-more settings filled new is_later _
             (division_at settings is_later paragraph one)

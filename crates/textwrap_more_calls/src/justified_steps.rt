@@ -1,6 +1,6 @@
 //! A whole text in steps, with its lines justified.
-ghost use Rattle.std.specs.Prelude.{◌≡◌, ◌≢◌, ◌≤◌, ◌⊎◌, ◌||◌, false, IfErr, IfOk, IsUtf8, length};
-ghost use Rattle.std.specs.Prelude.{◌∷◌, [], map, nat_lt, string_bytes};
+ghost use Rattle.std.specs.Prelude.{◌≡◌, ◌≢◌, ◌≤◌, ◌⊎◌, false, IfErr, IfOk, IsUtf8};
+ghost use Rattle.std.specs.Prelude.{◌∷◌, [], map, string_bytes};
 ghost use Rattle.textwrap_more_calls.specs.JustifiedSteps.{justified_at};
 ghost use Rattle.textwrap_calls.specs.Options.{step_settings, AreKnown, AreTexts, TellsUnknown};
 ghost use Rattle.textwrap_calls.specs.Options.{TellsNotUtf8};
@@ -21,7 +21,7 @@ use textwrap::Options;
 use textwrap_calls::options::{TextwrapOptions, read_layout};
 use textwrap_calls::room::put;
 use textwrap_calls::status::{NOT_UTF8, OUT_OF_MEMORY, WRONG_PLACES};
-use textwrap_display::inner::push_justified_lines;
+use textwrap_display::inner::JustifiedLines;
 use textwrap_layout::layout::Layout;
 use textwrap_lines::inner::{is_one_line, whole_line};
 use textwrap_lines::parts::split_paragraph;
@@ -81,8 +81,13 @@ fn justify_text(
         × ¬ AreTextSteps (settings_view options.now) false
         (paragraphs_of options.now.line_ending text.now) steps.now) ⊎ (status ≡ out_of_memory)) }
 {
-    let mut filled = String::new(alloc);
-    let mut is_later = false;
+    let mut filled = JustifiedLines {
+        text: String::new(alloc),
+        has_lines: false,
+        line: String::new(alloc),
+        waits: false,
+        layout: Layout::of(options),
+    };
     let mut number = 0;
     let mut rest = Some(text);
     while let Some(text) = rest {
@@ -90,29 +95,22 @@ fn justify_text(
         if number >= steps.len() {
             return Err(WRONG_PLACES);
         }
+        let is_later = filled.has_lines;
         let lines = match list_paragraph(alloc, paragraph, &steps[number], options, is_later) {
             Ok(lines) => lines,
             Err(status) => return Err(status),
         };
-        match push_justified_lines(&mut filled, &lines, &Layout::of(options), is_later) {
+        match filled.push_lines(&lines) {
             Ok(()) => {}
             Err(_) => return Err(OUT_OF_MEMORY),
         }
-        is_later = has_line(is_later, &lines);
         number += 1;
         rest = after;
     }
     if number < steps.len() {
         return Err(WRONG_PLACES);
     }
-    Ok(filled)
-}
-
-/// Whether a line stands after these lines, where `is_later` says that one stands before them.
-fn has_line(is_later: bool, lines: &Vec<CowStr<'_, Global>>) -> bool
-    ensures { result ≡ is_later || nat_lt 0 (length lines.now.items) }
-{
-    is_later || !lines.is_empty()
+    Ok(filled.text)
 }
 
 /// The lines of a paragraph, as a whole or at these steps.

@@ -1,79 +1,79 @@
 use Rattle.textwrap_display.proofs.filling.fill_justified.Goals as goal
-use Rattle.std.proofs.lemmas.Slice.{between_to_end}
-use Rattle.textwrap_display.proofs.Common.{layout_view, paragraphs_left}
+use Rattle.textwrap_display.proofs.Common.{layout_view, line_bytes, paragraphs_left}
 use Rattle.textwrap_display.proofs.JustifiedLines.{so_far-end, so_far-more, so_far-start}
-use Rattle.textwrap_display.proofs.filling.fill_justified.Goals.{After-deref}
+use Rattle.textwrap_display.proofs.JustifiedSinks.{justified-none, paragraph-written}
+use Rattle.textwrap_display.specs.JustifiedSinks.{HoldsJustified}
+use Rattle.textwrap_display.specs.JustifiedText.{added_lines}
+use Rattle.textwrap_layout.proofs.Common.{cut_lines, line_from}
+use Rattle.textwrap_layout.proofs.Text.Sinks.{lines_of-cut_lines, lines_of-more}
 use Rattle.textwrap_layout.{proofs.Text.Lines.paragraphs_left-split, specs.Paragraph.DividesWith}
 use Rattle.textwrap_lines.proofs.Paragraph.KeepsTo.{passed-on}
-use Rattle.textwrap_text.proofs.Common.{ap, arith, drop, length, length-append, length-map}
-use Rattle.textwrap_text.proofs.Common.{string_bytes, ◌++◌, ◌∙◌, ◌≤◌}
+use Rattle.textwrap_text.proofs.Common.{[], ap, length-map, map, nat_lt, refl, string_bytes, subst}
+use Rattle.textwrap_text.proofs.Common.{◌++◌, ◌||◌, ◌∙◌}
 
 pub loop-rest-init : goal.loop-rest-init
 loop-rest-init g c =
-    let settings = layout_view c.args.layout in
-    rw c.new-lines.ensures.items (so_far-start settings
-    (DividesWith (g.P.Parts.may c.args.parts.now) settings) c.args.text.now _
-    c.in_ok-filled.ensures.bytes)
+    let settings = layout_view c.args.layout in record {
+      so_far = so_far-start settings (DividesWith (g.P.Parts.may c.args.parts.now) settings)
+          c.args.text.now _ c.in_ok-filled.ensures.bytes;
+      waits = refl;
+      layout_is = refl;
+    }
 
 pub loop-rest-preserved : goal.loop-rest-preserved
 loop-rest-preserved g c =
     let settings = layout_view c.args.layout in
     let ending = c.args.layout.line_ending in
+    let first = c.loop-rest.lines in
     let paragraph = c.split_paragraph.result.0.now in
     let after = c.split_paragraph.result.1 in
-    so_far-more settings (DividesWith (g.P.Parts.may c.args.parts.now) settings) c.args.text.now
-    (string_bytes c.loop-rest.filled) (string_bytes c.push_justified_lines.new.text)
-    c.loop-rest.lines.items c.truncate.new.self.items c.wrap_paragraph.new.lines.items _
-    c.len-start.result paragraph (paragraphs_left ending after)
-    (rw (
-      c.in-Some.is,
-      paragraphs_left-split ending c.in-Some.text.now after paragraph
-          c.split_paragraph.ensures.paragraphs,
-    ) at c.loop-rest.invariant)
-    c.truncate.ensures.items (omega arith) c.in_ok-wrap_paragraph.ensures.appended.lines
-    (between_to_end c.deref.result.now c.len-start.result (length c.deref.result.now) (omega arith)
-    ∙ ap (drop c.len-start.result) c.deref.ensures.value) c.in_ok-push_justified_lines.ensures
+    let so_far = c.loop-rest.invariant in
+    let (own, are, pushed) = c.in_ok-push_paragraph_by.ensures.taken in
+    let lines = map line_bytes (map line_from own) in
+    let more = paragraph-written first c.push_paragraph_by.new.lines c.end_paragraph.new.self lines
+    (subst (HoldsJustified first c.push_paragraph_by.new.lines) (ap (map line_bytes)
+    (lines_of-more [] 0 (cut_lines 0 own) ∙ lines_of-cut_lines 0 own))
+    (pushed.held first 0 [] (justified-none first so_far.waits)))
+    c.in_ok-end_paragraph.ensures.written c.in_ok-end_paragraph.ensures.none in
+    record {
+      so_far = so_far-more settings (DividesWith (g.P.Parts.may c.args.parts.now) settings)
+          c.args.text.now (string_bytes first.text) (string_bytes c.end_paragraph.new.self.text)
+          first.has_lines c.end_paragraph.new.self.has_lines paragraph (paragraphs_left ending after)
+          own (rw (
+            c.in-Some.is,
+            paragraphs_left-split ending c.in-Some.text.now after paragraph
+                c.split_paragraph.ensures.paragraphs,
+          ) at so_far.so_far) are
+          (more.text ∙ ap (λ l. string_bytes first.text ++ added_lines (layout_view l) first.has_lines
+          lines) so_far.layout_is)
+          (more.has_lines ∙ ap (λ n. first.has_lines || nat_lt 0 n)
+          (length-map (map line_from own) line_bytes ∙ length-map own line_from));
+      waits = more.waits;
+      layout_is = more.layout_is ∙ so_far.layout_is;
+    }
 
 pub returns-clause-filled : goal.returns-clause-filled
 returns-clause-filled g c =
     let settings = layout_view c.args.layout in
     so_far-end settings (DividesWith (g.P.Parts.may c.args.parts.now) settings) c.args.text.now _ _
-    (rw c.in_default.is at c.loop-rest.invariant)
+    (rw c.in_default.is at c.loop-rest.invariant.so_far)
 
-pub returns-in_err-wrap_paragraph-clause-no_overflow :
-    goal.returns-in_err-wrap_paragraph-clause-no_overflow
-returns-in_err-wrap_paragraph-clause-no_overflow g c = λ never.
+pub returns-in_err-push_paragraph_by-clause-no_overflow :
+    goal.returns-in_err-push_paragraph_by-clause-no_overflow
+returns-in_err-push_paragraph_by-clause-no_overflow g c = λ never.
     let ending = c.args.layout.line_ending in
     let paragraph = c.split_paragraph.result.0.now in
     let after = c.split_paragraph.result.1 in
+    let so_far = c.loop-rest.invariant.so_far in
     let left = ap (paragraphs_left ending) c.in-Some.is
     ∙ paragraphs_left-split ending c.in-Some.text.now after paragraph
     c.split_paragraph.ensures.paragraphs in
-    passed-on c.from_residual-in_err-wrap_paragraph.result c.in_err-wrap_paragraph.field-0.0
-    c.from_residual-in_err-wrap_paragraph.ensures.1
-    (c.in_err-wrap_paragraph.ensures.no_overflow (λ passes. never (
-      c.loop-rest.invariant.done,
+    passed-on c.from_residual-in_err-push_paragraph_by.result c.in_err-push_paragraph_by.field-0.0
+    c.from_residual-in_err-push_paragraph_by.ensures.1
+    (c.in_err-push_paragraph_by.ensures.no_overflow (λ passes. never (
+      so_far.done,
       paragraph,
       paragraphs_left ending after,
-      c.loop-rest.invariant.paragraphs ∙ ap (λ ps. c.loop-rest.invariant.done ++ ps) left,
+      so_far.paragraphs ∙ ap (λ ps. so_far.done ++ ps) left,
       passes,
     )))
-
--- the lines that were kept are among those that are lent
-kept : (g : _) (c : After-deref g) → c.len-start.result ≤ length c.deref.result.now
-kept g c =
-    let (parts, are, adds) = c.in_ok-wrap_paragraph.ensures.appended.lines in
-    omega (
-      arith,
-      ap length c.deref.ensures.value,
-      simp (length-append, length-map) at (ap length adds),
-    )
-
-pub slice_bounds-push_justified_lines-count : goal.slice_bounds-push_justified_lines-count
-slice_bounds-push_justified_lines-count g c = kept g c
-
-pub slice_bounds-push_justified_lines-start : goal.slice_bounds-push_justified_lines-start
-slice_bounds-push_justified_lines-start g c = kept g c
-
-pub slice_bounds-push_justified_lines-end : goal.slice_bounds-push_justified_lines-end
-slice_bounds-push_justified_lines-end g c = omega (arith, kept g c)

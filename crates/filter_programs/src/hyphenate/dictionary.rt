@@ -8,8 +8,8 @@ use std::alloc::Global;
 use text_files::files::Files;
 use text_filters::faults::{Fault, opening_fault};
 use text_filters::streams::ReadWhole;
-use textwrap_hyphens::dictionary::Patterns;
 use textwrap_dictionaries::errors::{self, ParseError};
+use textwrap_hyphens::dictionary::Patterns;
 
 /// Why there is no dictionary.
 #[derive(Clone, Copy, Debug, PartialEq, Eq)]

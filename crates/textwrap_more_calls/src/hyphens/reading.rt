@@ -11,9 +11,9 @@ use simdutf8::basic::from_utf8;
 use std::alloc::Global;
 use textwrap_calls::room::put;
 use textwrap_calls::status::{DONE, NOT_UTF8, OUT_OF_MEMORY};
+use textwrap_dictionaries::errors::ParseError;
 use textwrap_hyphens::dictionary::Patterns;
 use textwrap_hyphens::table::is_sealed;
-use textwrap_dictionaries::errors::ParseError;
 
 /// Reads the text of a dictionary, and writes its numbers to the front of the room and to `len` how many
 /// they are. Where the room is too short it holds the first of them, and `len` says what a second call

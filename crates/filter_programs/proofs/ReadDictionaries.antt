@@ -2,8 +2,7 @@
 use Rattle.filter_programs.specs.HyphenateDictionary.{IsDictionary, ReadsDictionary}
 use Rattle.filter_programs.specs.declared.hyphenate.dictionary.Failure.{Failure}
 use Rattle.filter_programs.specs.declared.hyphenate.dictionary.Failure.TheVariants.{Unread, Wrong}
-use Rattle.std.proofs.Common.{List, ℕ}
-use Rattle.std.specs.Prelude.{Err, Ok, Option, Result}
+use Rattle.std.proofs.Common.{List, ℕ, Err, Ok, Option, Result}
 use Rattle.text_filters.specs.declared.faults.Fault.TheVariants.{Memory, NotUtf8, Output, Read}
 use Rattle.text_filters.specs.declared.faults.Fault.TheVariants.{Write}
 use Rattle.textwrap_hyphens.specs.declared.dictionary.Patterns.{Patterns}

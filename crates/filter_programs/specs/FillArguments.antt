@@ -1,14 +1,13 @@
 -- What the program's arguments mean.
-use Rattle.std.specs.Prelude.{◌≡◌, ◌&&◌, not, List, [], ◌∷◌, ◌++◌, map, codes, Some, if◌then◌else◌}
-use Rattle.std.specs.List.{flat_map}
 use Rattle.clap.specs.Words.{App, Row, Rule, Text}
+use Rattle.filter_programs.specs.declared.fill.arguments.Request.{Request}
+use Rattle.std.specs.List.{flat_map}
+use Rattle.std.specs.Prelude.{◌≡◌, ◌&&◌, not, List, [], ◌∷◌, ◌++◌, map, codes, Some, if◌then◌else◌}
 use Rattle.text_filters.specs.Arguments.{file_rule, flag_in, flag_rule, texts_in, tool_app}
 use Rattle.text_filters.specs.Arguments.{width_in, width_rule}
 use Rattle.text_filters.specs.declared.arguments.Mode.TheVariants.{Print}
-use Rattle.textwrap_program.specs.Program.{line_feed}
-use Rattle.textwrap_program.specs.declared.arguments.Algorithm.{Algorithm}
+use Rattle.textwrap_program.specs.{Program.line_feed, declared.arguments.Algorithm.Algorithm}
 use Rattle.textwrap_program.specs.declared.arguments.Algorithm.TheVariants.{FirstFit, OptimalFit}
-use Rattle.filter_programs.specs.declared.fill.arguments.Request.{Request}
 
 -- ---- the command line
 

@@ -1,16 +1,13 @@
 -- What the program leaves behind, and how it ends.
-use Rattle.std.specs.Prelude.{◌≡◌, ◌⊎◌, ℕ, List, codes, None}
 use Rattle.clap.specs.Words.{Row}
-use Rattle.text_filters.specs.Arguments.{width_in}
-use Rattle.text_filters.specs.Messages.{AboutText, joined_texts, value_texts}
-use Rattle.text_filters.specs.Program.{IsFault, OnlySays, Says, Serves, World}
-use Rattle.text_filters.specs.Streams.{StreamFaults}
-use Rattle.text_filters.specs.Tool.{ExecutesTool, ToolText}
-use Rattle.text_filters.specs.declared.program.Ending.{Ending}
 use Rattle.filter_programs.specs.FillArguments.{IsRequest, fill_app, help_text, version_text}
-use Rattle.filter_programs.specs.FillFilling.{filling}
-use Rattle.filter_programs.specs.FillWords.{spelled_for_fill}
+use Rattle.filter_programs.specs.{FillFilling.filling, FillWords.spelled_for_fill}
 use Rattle.filter_programs.specs.declared.fill.arguments.Request.{Request}
+use Rattle.std.specs.Prelude.{◌≡◌, ◌⊎◌, ℕ, List, codes, None}
+use Rattle.text_filters.specs.{Arguments.width_in, Messages.AboutText, Messages.joined_texts}
+use Rattle.text_filters.specs.{Messages.value_texts, Program.IsFault, Program.OnlySays}
+use Rattle.text_filters.specs.{Program.Says, Program.Serves, Program.World, Streams.StreamFaults}
+use Rattle.text_filters.specs.{Tool.ExecutesTool, Tool.ToolText, declared.program.Ending.Ending}
 
 abbrev pub fill_about : AboutText
 fill_about = record {

@@ -1,17 +1,16 @@
 -- What the program's arguments mean.
-use Rattle.std.specs.Prelude.{◌≡◌, ℕ, true, List, [], ◌∷◌, ◌++◌, map, codes, Option, Some, None}
-use Rattle.std.specs.Prelude.{option_map, unwrap_or}
-use Rattle.std.specs.List.{flat_map}
 use Rattle.clap.specs.Words.{App, Row, Rule, Text, first_of, new_rule}
 use Rattle.clap.specs.declared.builder.action.ArgAction.TheVariants.{Set}
-use Rattle.text_filters.specs.Arguments.{file_rule, flag_in, flag_rule, texts_in, tool_app}
-use Rattle.text_filters.specs.declared.arguments.Mode.TheVariants.{Print}
-use Rattle.textwrap_program.specs.Arguments.{width_of}
-use Rattle.textwrap_program.specs.Program.{line_feed}
 use Rattle.filter_programs.specs.declared.hyphenate.arguments.Count.{Count}
 use Rattle.filter_programs.specs.declared.hyphenate.arguments.Count.TheVariants.{Width, Left, Right}
 use Rattle.filter_programs.specs.declared.hyphenate.arguments.Request.{Request}
 use Rattle.filter_programs.specs.declared.hyphenate.texts.Filling.{Filling}
+use Rattle.std.specs.List.{flat_map}
+use Rattle.std.specs.Prelude.{◌≡◌, ℕ, true, List, [], ◌∷◌, ◌++◌, map, codes, Option, Some, None}
+use Rattle.std.specs.Prelude.{option_map, unwrap_or}
+use Rattle.text_filters.specs.Arguments.{file_rule, flag_in, flag_rule, texts_in, tool_app}
+use Rattle.text_filters.specs.declared.arguments.Mode.TheVariants.{Print}
+use Rattle.textwrap_program.specs.{Arguments.width_of, Program.line_feed}
 
 -- ---- the command line
 

@@ -1,18 +1,16 @@
 -- What is read of a dictionary.
-use Rattle.std.specs.Prelude.{◌≡◌, ℕ, List, ⊤, Option, Result, Ok, Err, unwrap_or}
-use Rattle.std.specs.Str.{IsUtf8}
-use Rattle.textwrap_program.specs.Filling.{ReadsAll}
-use Rattle.textwrap_patterns.specs.Charsets.{charset_of}
-use Rattle.textwrap_dictionaries.specs.Parsing.{parsed, parsed_in}
-use Rattle.textwrap_dictionaries.specs.declared.errors.ParseError.TheVariants.{Line}
-use Rattle.textwrap_hyphens.specs.Hyphenation.{Hyphenation}
-use Rattle.textwrap_hyphens.specs.Parsed.{Holds}
-use Rattle.textwrap_hyphens.specs.Table.{patterns_view}
-use Rattle.textwrap_hyphens.specs.declared.dictionary.Patterns.{Patterns}
-use Rattle.text_filters.specs.declared.faults.Fault.TheVariants.{Read, Memory}
 use Rattle.filter_programs.specs.declared.hyphenate.arguments.Request.{Request}
 use Rattle.filter_programs.specs.declared.hyphenate.dictionary.Failure.{Failure}
 use Rattle.filter_programs.specs.declared.hyphenate.dictionary.Failure.TheVariants.{Unread, Wrong}
+use Rattle.std.specs.Prelude.{◌≡◌, ℕ, List, ⊤, Option, Result, Ok, Err, unwrap_or}
+use Rattle.std.specs.Str.{IsUtf8}
+use Rattle.text_filters.specs.declared.faults.Fault.TheVariants.{Read, Memory}
+use Rattle.textwrap_dictionaries.specs.Parsing.{parsed, parsed_in}
+use Rattle.textwrap_dictionaries.specs.declared.errors.ParseError.TheVariants.{Line}
+use Rattle.textwrap_hyphens.specs.{Hyphenation.Hyphenation, Parsed.Holds, Table.patterns_view}
+use Rattle.textwrap_hyphens.specs.declared.dictionary.Patterns.{Patterns}
+use Rattle.textwrap_patterns.specs.Charsets.{charset_of}
+use Rattle.textwrap_program.specs.Filling.{ReadsAll}
 
 -- these bytes say this, as a text or in the charset that they name
 abbrev pub IsSaid : List ℕ → Hyphenation → Type 0

@@ -1,26 +1,21 @@
 -- What the program leaves behind, and how it ends.
-use Rattle.std.specs.Prelude.{◌≡◌, ◌⊎◌, ◌==◌, ◌&&◌, ◌||◌, ℕ, Bool, List, [], ◌∷◌, codes, decimal, false}
-use Rattle.std.specs.Prelude.{Option, None, Err, IfSome}
 use Rattle.clap.specs.Words.{Row}
-use Rattle.text_files.specs.Files.{bytes_at}
-use Rattle.text_filters.specs.Messages.{AboutText, joined_texts, message_line, value_texts}
-use Rattle.text_filters.specs.Program.{IsFault, OnlySays, ReportsInput, Says, SaysUnless, Serves}
-use Rattle.text_filters.specs.Program.{World}
-use Rattle.text_filters.specs.Streams.{StreamFaults}
-use Rattle.text_filters.specs.Tool.{ExecutesTool, ToolText}
-use Rattle.text_filters.specs.declared.faults.Fault.TheVariants.{Memory}
-use Rattle.text_filters.specs.declared.faults.Reason.{Reason}
-use Rattle.text_filters.specs.Words.{spelled_out}
-use Rattle.text_filters.specs.declared.program.Ending.{Ending}
-use Rattle.textwrap_hyphens.specs.Hyphenation.{Hyphenation}
 use Rattle.filter_programs.specs.HyphenateArguments.{IsRequest, filling_of, help_text, hyphenate_app}
 use Rattle.filter_programs.specs.HyphenateArguments.{name_of, number_if_given, version_text}
 use Rattle.filter_programs.specs.HyphenateDictionary.{ReadsNone, ReadsSaid, as_asked}
 use Rattle.filter_programs.specs.HyphenateTexts.{hyphenating_by}
-use Rattle.filter_programs.specs.declared.hyphenate.arguments.Count.{Count}
-use Rattle.filter_programs.specs.declared.hyphenate.arguments.Request.{Request}
+use Rattle.filter_programs.specs.declared.hyphenate.arguments.{Count.Count, Request.Request}
 use Rattle.filter_programs.specs.declared.hyphenate.dictionary.Failure.{Failure}
 use Rattle.filter_programs.specs.declared.hyphenate.dictionary.Failure.TheVariants.{Unread, Wrong}
+use Rattle.std.specs.Prelude.{◌≡◌, ◌⊎◌, ◌==◌, ◌&&◌, ◌||◌, ℕ, Bool, List, [], ◌∷◌, codes, decimal, false}
+use Rattle.std.specs.Prelude.{Option, None, Err, IfSome}
+use Rattle.text_files.specs.Files.{bytes_at}
+use Rattle.text_filters.specs.Messages.{AboutText, joined_texts, message_line, value_texts}
+use Rattle.text_filters.specs.Program.{IsFault, OnlySays, ReportsInput, Says, SaysUnless, Serves, World}
+use Rattle.text_filters.specs.{Streams.StreamFaults, Tool.ExecutesTool, Tool.ToolText}
+use Rattle.text_filters.specs.{Words.spelled_out, declared.faults.Fault.TheVariants.Memory}
+use Rattle.text_filters.specs.declared.{faults.Reason.Reason, program.Ending.Ending}
+use Rattle.textwrap_hyphens.specs.Hyphenation.{Hyphenation}
 
 abbrev pub hyphenate_about : AboutText
 hyphenate_about = record {

@@ -1,24 +1,19 @@
 -- What texts become by a dictionary: words with hyphens, and filled paragraphs.
-use Rattle.std.specs.Prelude.{◌≡◌, ℕ, Bool, List, [], ◌∷◌, ◌++◌, if◌then◌else◌, Option, None, Some, true}
+use Rattle.filter_programs.specs.declared.hyphenate.texts.{Filling.Filling, Hyphenating.Hyphenating}
 use Rattle.std.specs.List.{flat_map, join_with_byte}
+use Rattle.std.specs.Prelude.{◌≡◌, ℕ, Bool, List, [], ◌∷◌, ◌++◌, if◌then◌else◌, Option, None, Some, true}
 use Rattle.std.specs.Str.Lines.{lines}
-use Rattle.textwrap_text.specs.LineEnding.{line_feed}
-use Rattle.textwrap_words.specs.Cuts.{parts_onward}
-use Rattle.textwrap_words.specs.WordSplitters.{hyphen}
-use Rattle.textwrap_words.specs.WrapAlgorithms.{Algorithm, ByFirstFit}
-use Rattle.textwrap_layout.specs.Filling.{IsFilled}
-use Rattle.textwrap_layout.specs.Options.{default_algorithm, settings_at}
-use Rattle.textwrap_hyphens.specs.Hyphenation.{Hyphenation}
-use Rattle.textwrap_hyphens.specs.Points.{hyphenation_points}
-use Rattle.textwrap_hyphens.specs.Splitting.{split_points}
-use Rattle.textwrap_hyphens.specs.Table.{held}
 use Rattle.text_filters.specs.Filter.{Work}
+use Rattle.textwrap_hyphens.specs.Hyphenation.{Hyphenation}
+use Rattle.textwrap_hyphens.specs.{Points.hyphenation_points, Splitting.split_points, Table.held}
+use Rattle.textwrap_layout.specs.{Filling.IsFilled, Options.default_algorithm, Options.settings_at}
 use Rattle.textwrap_plain.specs.Options.{DividesFrom, words_by}
 use Rattle.textwrap_plain.specs.declared.options.PlainSeparator.{PlainSeparator}
 use Rattle.textwrap_plain.specs.declared.options.PlainSeparator.TheVariants.{AtBlanks, AtBreaks}
+use Rattle.textwrap_text.specs.LineEnding.{line_feed}
 use Rattle.textwrap_unicode.specs.declared.numbers.Numbers.TheVariants.{ByPairs}
-use Rattle.filter_programs.specs.declared.hyphenate.texts.Filling.{Filling}
-use Rattle.filter_programs.specs.declared.hyphenate.texts.Hyphenating.{Hyphenating}
+use Rattle.textwrap_words.specs.{Cuts.parts_onward, WordSplitters.hyphen}
+use Rattle.textwrap_words.specs.WrapAlgorithms.{Algorithm, ByFirstFit}
 
 -- the parts of a word between these points, joined by hyphens
 abbrev pub hyphenated_at : List ℕ → List ℕ → List ℕ

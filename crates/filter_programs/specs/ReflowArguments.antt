@@ -1,24 +1,21 @@
 -- What the program's arguments mean.
-use Rattle.std.specs.Prelude.{◌≡◌, ℕ, ◌&&◌, not, List, [], ◌∷◌, ◌++◌, map, codes, Option}
-use Rattle.std.specs.Prelude.{Some, None, if◌then◌else◌, ◌==◌, length, nat_lt, option_map}
-use Rattle.textwrap_base.specs.Penalties.{default_penalties}
-use Rattle.std.specs.List.{flat_map, after_first, before_first, position_or_len}
 use Rattle.clap.specs.Words.{App, Row, Rule, Text, first_of, new_rule}
 use Rattle.clap.specs.declared.builder.action.ArgAction.TheVariants.{Append}
-use Rattle.textwrap_text.specs.declared.line_ending.LineEnding.{LineEnding}
-use Rattle.textwrap_text.specs.declared.line_ending.LineEnding.TheVariants.{CRLF, LF}
-use Rattle.textwrap_program.specs.Arguments.{width_of}
-use Rattle.textwrap_program.specs.Program.{line_feed}
+use Rattle.filter_programs.specs.declared.reflow.arguments.{Request.Request, Unfit.Unfit}
+use Rattle.std.specs.List.{flat_map, after_first, before_first, position_or_len}
+use Rattle.std.specs.Prelude.{◌≡◌, ℕ, ◌&&◌, not, List, [], ◌∷◌, ◌++◌, map, codes, Option, Some, None}
+use Rattle.std.specs.Prelude.{if◌then◌else◌, ◌==◌, length, nat_lt, option_map}
+use Rattle.text_filters.specs.Arguments.{file_rule, flag_in, flag_rule, texts_in, tool_app, width_in}
+use Rattle.text_filters.specs.{Arguments.width_rule, declared.arguments.Mode.Mode}
+use Rattle.text_filters.specs.declared.arguments.Mode.TheVariants.{Print, Check, CheckDiff, Diff, InPlace}
+use Rattle.textwrap_base.specs.Penalties.{default_penalties}
+use Rattle.textwrap_marked.specs.declared.within.LineRange.{LineRange}
 use Rattle.textwrap_marks.specs.declared.options.Algorithm.{Algorithm}
 use Rattle.textwrap_marks.specs.declared.options.Algorithm.TheVariants.{FirstFit, LeastCost}
 use Rattle.textwrap_marks.specs.declared.options.ReflowOptions.{ReflowOptions}
-use Rattle.textwrap_marked.specs.declared.within.LineRange.{LineRange}
-use Rattle.text_filters.specs.declared.arguments.Mode.{Mode}
-use Rattle.text_filters.specs.declared.arguments.Mode.TheVariants.{Print, Check, CheckDiff, Diff, InPlace}
-use Rattle.text_filters.specs.Arguments.{file_rule, flag_in, flag_rule, texts_in, tool_app}
-use Rattle.text_filters.specs.Arguments.{width_in, width_rule}
-use Rattle.filter_programs.specs.declared.reflow.arguments.Request.{Request}
-use Rattle.filter_programs.specs.declared.reflow.arguments.Unfit.{Unfit}
+use Rattle.textwrap_program.specs.{Arguments.width_of, Program.line_feed}
+use Rattle.textwrap_text.specs.declared.line_ending.LineEnding.{LineEnding}
+use Rattle.textwrap_text.specs.declared.line_ending.LineEnding.TheVariants.{CRLF, LF}
 use Rattle.filter_programs.specs.declared.reflow.arguments.Unfit.TheVariants as unfit
 
 -- ---- the command line

@@ -1,12 +1,10 @@
 -- How the program lays out a text.
-use Rattle.std.specs.Prelude.{ℕ, ◌==◌, ◌||◌, Bool, List, None, Option, Some, length}
-use Rattle.textwrap_marked.specs.Choosing.{has_chosen}
-use Rattle.textwrap_marked.specs.Reflow.{IsReflowed}
-use Rattle.textwrap_marked.specs.Within.{IsReflowedWithin}
-use Rattle.textwrap_marks.specs.declared.options.ReflowOptions.{ReflowOptions}
-use Rattle.textwrap_marked.specs.declared.within.LineRange.{LineRange}
-use Rattle.text_filters.specs.Filter.{Work}
 use Rattle.filter_programs.specs.declared.reflow.layout.Reflowing.{Reflowing}
+use Rattle.std.specs.Prelude.{ℕ, ◌==◌, ◌||◌, Bool, List, None, Option, Some, length}
+use Rattle.text_filters.specs.Filter.{Work}
+use Rattle.textwrap_marked.specs.{Choosing.has_chosen, Reflow.IsReflowed, Within.IsReflowedWithin}
+use Rattle.textwrap_marked.specs.declared.within.LineRange.{LineRange}
+use Rattle.textwrap_marks.specs.declared.options.ReflowOptions.{ReflowOptions}
 
 -- the paragraphs of the text are filled again, those at some lines or all
 abbrev pub IsLaidOutAt : Option LineRange → ReflowOptions → List ℕ → List ℕ → Type 0

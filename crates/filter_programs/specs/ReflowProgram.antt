@@ -1,16 +1,13 @@
 -- What the program leaves behind, and how it ends.
-use Rattle.std.specs.Prelude.{◌⊎◌, ℕ, List, codes, false}
 use Rattle.clap.specs.Words.{Row}
+use Rattle.filter_programs.specs.ReflowArguments.{IsRequest, IsUnfit, help_text, reflow_app, version_text}
+use Rattle.filter_programs.specs.{ReflowLayout.reflowing, declared.reflow.arguments.Request.Request}
+use Rattle.filter_programs.specs.declared.reflow.arguments.Unfit.{Unfit}
+use Rattle.std.specs.Prelude.{◌⊎◌, ℕ, List, codes, false}
 use Rattle.text_filters.specs.Messages.{AboutText, joined_texts, value_texts}
 use Rattle.text_filters.specs.Program.{IsFault, OnlySays, Says, Serves, World}
-use Rattle.text_filters.specs.Streams.{StreamFaults}
-use Rattle.text_filters.specs.Tool.{ExecutesTool, ToolText}
-use Rattle.text_filters.specs.Words.{spelled_out}
+use Rattle.text_filters.specs.{Streams.StreamFaults, Tool.ExecutesTool, Tool.ToolText, Words.spelled_out}
 use Rattle.text_filters.specs.declared.program.Ending.{Ending}
-use Rattle.filter_programs.specs.ReflowArguments.{IsRequest, IsUnfit, help_text, reflow_app, version_text}
-use Rattle.filter_programs.specs.ReflowLayout.{reflowing}
-use Rattle.filter_programs.specs.declared.reflow.arguments.Request.{Request}
-use Rattle.filter_programs.specs.declared.reflow.arguments.Unfit.{Unfit}
 use Rattle.filter_programs.specs.declared.reflow.arguments.Unfit.TheVariants as unfit
 
 abbrev pub reflow_about : AboutText

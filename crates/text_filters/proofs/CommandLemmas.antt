@@ -1,14 +1,10 @@
 -- Lemmas on the command line as a value: what the builders make of it, and what a parse gives.
+use Rattle.clap.specs.{Simple.{app_of_fields, on_top}, Words.{App, FailsBy, HasMatchesOf, Text}}
+use Rattle.clap.specs.Words.{fault_of, found_of, is_simple, is_simple_and_free, matches_of, rows_of}
+use Rattle.clap.specs.declared.builder.command.Command.{Command, TheOpen.Command-F}
+use Rattle.clap.specs.declared.{error.Error.Error, parser.matches.ArgMatches.ArgMatches}
 use Rattle.std.proofs.Common.{◌≡◌, ap, refl, subst, List, [], true, Option, None, Some, Bor, map}
-use Rattle.std.specs.Prelude.{option_map, unwrap_or}
-use Rattle.std.proofs.Common.{Result}
-use Rattle.clap.specs.Words.{App, FailsBy, HasMatchesOf, Text, fault_of, found_of, is_simple}
-use Rattle.clap.specs.Words.{is_simple_and_free, matches_of, rows_of}
-use Rattle.clap.specs.Simple.{app_of_fields, on_top}
-use Rattle.clap.specs.declared.builder.command.Command.{Command}
-use Rattle.clap.specs.declared.builder.command.Command.TheOpen.{Command-F}
-use Rattle.clap.specs.declared.error.Error.{Error}
-use Rattle.clap.specs.declared.parser.matches.ArgMatches.{ArgMatches}
+use Rattle.std.proofs.Common.{option_map, unwrap_or, Result}
 
 -- a command with a version
 abbrev pub versioned : App → App

@@ -1,19 +1,14 @@
 -- Lemmas on what becomes of one input: whether its output is another text, and what is written of it.
-use Rattle.std.proofs.Common.{◌≡◌, ◌≢◌, ◌∙◌, sym, subst, true, false, ℕ, List, Bool, Option, Err}
-use Rattle.std.proofs.lemmas.Bool.{false≢true}
-use Rattle.std.proofs.lemmas.Slice.Eq.{bytes_eq-Decides}
-use Rattle.std.specs.Str.{bytes_eq}
-use Rattle.textwrap_program.specs.Filling.{ReadsAll, WritesPrefix}
-use Rattle.textwrap_program.specs.Program.{TriesLine}
-use Rattle.text_filters.specs.Faults.{IsOfOutput}
-use Rattle.text_files.specs.Files.{Folder, KeepsFiles, bytes_at}
-use Rattle.text_files.proofs.FileLemmas.{KeepsFiles-refl}
-use Rattle.unified_diff.specs.Differences.{IsDiffText}
-use Rattle.text_filters.specs.Inputs.{Checks, Differs, Prints, Reads, ReadsText, Replaces}
-use Rattle.text_filters.specs.declared.faults.Fault.{Fault}
-use Rattle.text_filters.specs.declared.faults.Reason.{Reason}
+use Rattle.std.{proofs.lemmas.Slice.Eq.bytes_eq-Decides, specs.Str.bytes_eq}
+use Rattle.text_files.{proofs.FileLemmas.KeepsFiles-refl, specs.Files.{Folder, KeepsFiles, bytes_at}}
+use Rattle.text_filters.specs.{Faults.IsOfOutput, Filter.Work, Inputs.{Checks, Differs, Prints}}
+use Rattle.text_filters.specs.{Inputs.{Reads, ReadsText, Replaces}, declared.faults.Fault.Fault}
 use Rattle.text_filters.specs.declared.faults.Fault.TheVariants.{Read, NotUtf8, Memory, Write, Output}
-use Rattle.text_filters.specs.Filter.{Work}
+use Rattle.text_filters.specs.declared.faults.Reason.{Reason}
+use Rattle.textwrap_program.specs.{Filling.{ReadsAll, WritesPrefix}, Program.TriesLine}
+use Rattle.textwrap_text.proofs.Common.{◌≡◌, ◌≢◌, ◌∙◌, sym, subst, true, false, ℕ, List, Bool, Option}
+use Rattle.textwrap_text.proofs.Common.{Err, false≢true}
+use Rattle.unified_diff.specs.Differences.{IsDiffText}
 
 -- ---- two texts that were compared
 

@@ -1,17 +1,12 @@
 -- Lemmas on texts that are written one after another.
 use Rattle.std.proofs.Common.{◌≡◌, ◌∙◌, ℕ, ◌+◌, ◌<◌, ◌≤◌, List, [], ◌++◌, map, drop, get_or, Bor, Option}
-use Rattle.std.proofs.Common.{append_assoc, ap, length, refl, subst, sym, Bool, Result, Ok, Err}
-use Rattle.std.proofs.Common.{IfErr, OnOk, OnErr}
-use Rattle.std.specs.Result.{is_ok}
-use Rattle.std.proofs.KnownBytes.{Appends-nil, Appends-trans}
+use Rattle.std.proofs.Common.{append_assoc, ap, length, refl, subst, sym, Bool, Result, Ok, Err, IfErr}
+use Rattle.std.proofs.{Common.OnOk, Common.OnErr, KnownBytes.Appends-nil, KnownBytes.Appends-trans}
 use Rattle.std.proofs.lemmas.List.{at_drop_more, drop_all}
-use Rattle.std.specs.Io.KnownBytes.{Appends}
+use Rattle.std.specs.{Io.KnownBytes.Appends, Result.is_ok}
+use Rattle.text_filters.specs.{Messages.joined_texts, Program.Says, declared.faults.Reason.Reason}
 use Rattle.textwrap_program.proofs.WriteLemmas.{Appends-whole, WritesPrefix-after, WritesPrefix-longer}
-use Rattle.textwrap_program.proofs.WriteLemmas.{WrittenSoFar}
-use Rattle.textwrap_program.specs.Filling.{WritesPrefix}
-use Rattle.text_filters.specs.Messages.{joined_texts}
-use Rattle.text_filters.specs.Program.{Says}
-use Rattle.text_filters.specs.declared.faults.Reason.{Reason}
+use Rattle.textwrap_program.{proofs.WriteLemmas.WrittenSoFar, specs.Filling.WritesPrefix}
 
 abbrev pub joined : List (Bor (List ℕ)) → List ℕ
 joined texts = joined_texts (map (λ text. text.now) texts)

@@ -1,16 +1,12 @@
 -- What the planted bugs of this crate do, on a row where it matters, and that the clause does not allow
 -- it. Each theorem has the name of its edit in must-fail/.
-use Rattle.std.proofs.Common.{◌≡◌, [], ◌∷◌, ap, Bool, false, true, inl, refl, subst, sym, List, ℕ, Some}
-use Rattle.std.proofs.lemmas.Bool.{false≢true}
-use Rattle.std.specs.Prelude.{⊤}
-use Rattle.text_files.specs.Files.{Absent, FolderEntry, File, Folder, PutsOver, PutsSynced}
-use Rattle.text_files.specs.Files.{FolderSteps}
+use Rattle.text_files.specs.Files.{Absent, FolderEntry, File, Folder, PutsOver, PutsSynced, FolderSteps}
 use Rattle.text_files.specs.Rights.{Granted, HasKeptRights, IsNoWider, kept, mode_of}
-use Rattle.text_filters.specs.Streams.{IsPossible, NoReason}
-use Rattle.text_filters.specs.declared.faults.Fault.TheVariants.{Output}
-use Rattle.text_filters.specs.declared.faults.Reason.{Reason}
-use Rattle.text_filters.specs.declared.faults.Reason.TheVariants.{NoSpace}
 use Rattle.text_files.specs.declared.rights.Rights.{Rights}
+use Rattle.text_filters.specs.{Streams.{IsPossible, NoReason}, declared.faults.Fault.TheVariants.Output}
+use Rattle.text_filters.specs.declared.faults.Reason.{Reason, TheVariants.NoSpace}
+use Rattle.textwrap_text.proofs.Common.{◌≡◌, [], ◌∷◌, ap, Bool, false, true, inl, refl, subst, sym}
+use Rattle.textwrap_text.proofs.Common.{List, ℕ, Some, false≢true, ⊤}
 
 -- a program that runs as the super-user
 abbrev of_root : Rights

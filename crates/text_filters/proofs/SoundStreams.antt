@@ -1,21 +1,15 @@
 -- Over streams that do not fail, what the standard input becomes is printed, or it is said why not.
-use Rattle.std.proofs.Common.{◌≡◌, ◌∙◌, ap, arith, inl, inr, max, refl, subst, ℕ, Bool, true}
-use Rattle.std.proofs.Common.{false, List, [], ◌∷◌, Option, Result, Ok, Err, IfErr}
-use Rattle.std.proofs.KnownBytes.{Appends-kept, Keeps-trans}
-use Rattle.std.proofs.Math.Bool.{and-true}
-use Rattle.std.specs.Prelude.{◌⊎◌, if◌then◌else◌}
+use Rattle.std.proofs.Common.{◌≡◌, ◌∙◌, ap, arith, inl, inr, max, refl, subst, ℕ, Bool, true, false}
+use Rattle.std.proofs.Common.{List, [], ◌∷◌, Option, Result, Ok, Err, IfErr, ◌⊎◌, if◌then◌else◌}
+use Rattle.std.proofs.{KnownBytes.Appends-kept, KnownBytes.Keeps-trans, Math.Bool.and-true}
 use Rattle.std.specs.Io.KnownBytes.{Appends, Keeps}
-use Rattle.text_filters.specs.Filter.{Work}
-use Rattle.text_filters.specs.Inputs.{Prints}
-use Rattle.text_filters.specs.Laws.{PrintsNothing, PrintsText, SaysIfIdle, SoundStreamsAreServed}
-use Rattle.text_filters.specs.Messages.{AboutText, fault_texts, message_line}
-use Rattle.text_filters.specs.Program.{ReportsInput, Says, SaysUnless, World, all_well, joined}
-use Rattle.text_filters.specs.Program.{standard_input}
-use Rattle.text_filters.specs.Streams.{IsPossible, NoReason}
-use Rattle.text_filters.specs.declared.faults.Fault.{Fault}
+use Rattle.text_filters.specs.{Filter.Work, Inputs.Prints, Laws.PrintsNothing, Laws.PrintsText}
+use Rattle.text_filters.specs.{Laws.SaysIfIdle, Laws.SoundStreamsAreServed, Messages.AboutText}
+use Rattle.text_filters.specs.{Messages.fault_texts, Messages.message_line, Program.ReportsInput}
+use Rattle.text_filters.specs.Program.{Says, SaysUnless, World, all_well, joined, standard_input}
+use Rattle.text_filters.specs.{Streams.IsPossible, Streams.NoReason, declared.faults.Fault.Fault}
 use Rattle.text_filters.specs.declared.faults.Fault.TheVariants.{Memory, NotUtf8, Output, Read, Write}
-use Rattle.text_filters.specs.declared.inputs.Treated.{Treated}
-use Rattle.text_filters.specs.declared.program.Ending.{Ending}
+use Rattle.text_filters.specs.declared.{inputs.Treated.Treated, program.Ending.Ending}
 
 -- what is said where messages cannot fail
 is-said : (text : List ℕ) (old new : Option (List ℕ)) (said : Bool) → Says NoReason text old new said

@@ -1,18 +1,12 @@
 -- Lemmas on inputs that are treated one after another.
-use Rattle.std.proofs.Common.{◌≡◌, ◌∙◌, ap, ap₂, refl, sym, subst, ℕ, ◌+◌, ◌<◌, ◌≤◌, max, arith, Bool, false, true, ◌-◌, ◌^◌, min}
-use Rattle.std.proofs.Common.{List, [], ◌∷◌, length, map, drop, get_or, Bor, Result}
-use Rattle.std.proofs.KnownBytes.{Keeps-refl}
-use Rattle.std.proofs.Math.Bool.{and-true, and_assoc}
-use Rattle.std.proofs.lemmas.List.{at_drop_more, drop_all}
-use Rattle.text_filters.specs.Messages.{AboutText, is_closed}
-use Rattle.text_filters.specs.Program.{ReportsInput, SameWorld, TreatsAll, TreatsName, World, all_well}
-use Rattle.text_filters.specs.Program.{joined, shown_name}
-use Rattle.text_filters.specs.Streams.{StreamFaults}
-use Rattle.text_filters.specs.declared.faults.Fault.{Fault}
-use Rattle.text_filters.specs.declared.inputs.Treated.{Treated}
-use Rattle.text_filters.specs.declared.arguments.Mode.{Mode}
-use Rattle.text_filters.specs.Filter.{Work}
-use Rattle.text_filters.specs.declared.program.Ending.{Ending}
+use Rattle.std.proofs.{KnownBytes.Keeps-refl, Math.Bool.and-true, Math.Bool.and_assoc, lemmas.List.at_drop_more}
+use Rattle.text_filters.specs.{Filter.Work, Messages.AboutText, Messages.is_closed, Program.ReportsInput}
+use Rattle.text_filters.specs.Program.{SameWorld, TreatsAll, TreatsName, World, all_well, joined, shown_name}
+use Rattle.text_filters.specs.{Streams.StreamFaults, declared.arguments.Mode.Mode, declared.faults.Fault.Fault}
+use Rattle.text_filters.specs.declared.{inputs.Treated.Treated, program.Ending.Ending}
+use Rattle.textwrap_text.proofs.Common.{◌≡◌, ◌∙◌, ap, ap₂, refl, sym, subst, ℕ, ◌+◌, ◌<◌, ◌≤◌, max, arith, Bool}
+use Rattle.textwrap_text.proofs.Common.{false, true, ◌-◌, ◌^◌, min, List, [], ◌∷◌, length, map, drop, get_or, Bor}
+use Rattle.textwrap_text.proofs.Common.{Result, drop_all}
 
 -- ---- how a run ends that goes on
 

@@ -1,19 +1,16 @@
 -- What becomes of one input by the work of a filter.
-use Rattle.std.specs.Prelude.{◌≡◌, ◌≢◌, ◌&&◌, ℕ, Bool, true, false, List, Option, Result, Ok, Err}
-use Rattle.std.specs.Prelude.{[], ◌∷◌, ◌++◌, ◌⊎◌, ⊤, string_bytes}
-use Rattle.std.specs.Str.{IsUtf8}
-use Rattle.std.specs.Str.Lossy.{utf8_valid_len}
 use Rattle.std.specs.Io.KnownBytes.{Appends, Keeps}
+use Rattle.std.specs.Prelude.{◌≡◌, ◌≢◌, ◌&&◌, ℕ, Bool, true, false, List, Option, Result, Ok, Err, []}
+use Rattle.std.specs.Prelude.{◌∷◌, ◌++◌, ◌⊎◌, ⊤, string_bytes}
+use Rattle.std.specs.Str.{IsUtf8, Lossy.utf8_valid_len}
+use Rattle.text_files.specs.Files.{Folder, KeepsFiles, ReplacesFile, bytes_at}
+use Rattle.text_filters.specs.{Filter.Work, declared.faults.Fault.Fault}
+use Rattle.text_filters.specs.declared.faults.Fault.TheVariants.{Read, NotUtf8, Memory, Output, Write}
+use Rattle.text_filters.specs.declared.{filter.Made.Made, inputs.Filtered.Filtered}
+use Rattle.text_filters.specs.declared.inputs.Treated.{Treated}
 use Rattle.textwrap_program.specs.Filling.{ReadsAll, WritesPrefix}
 use Rattle.textwrap_program.specs.Program.{TriesLine, line_feed}
 use Rattle.unified_diff.specs.Differences.{IsDiffText}
-use Rattle.text_files.specs.Files.{Folder, KeepsFiles, ReplacesFile, bytes_at}
-use Rattle.text_filters.specs.Filter.{Work}
-use Rattle.text_filters.specs.declared.faults.Fault.{Fault}
-use Rattle.text_filters.specs.declared.faults.Fault.TheVariants.{Read, NotUtf8, Memory, Output, Write}
-use Rattle.text_filters.specs.declared.inputs.Filtered.{Filtered}
-use Rattle.text_filters.specs.declared.inputs.Treated.{Treated}
-use Rattle.text_filters.specs.declared.filter.Made.{Made}
 
 -- this is no text, and so many bytes before the first that is none are one
 abbrev pub IsNoText : List ℕ → ℕ → Type 0

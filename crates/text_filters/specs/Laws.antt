@@ -1,13 +1,11 @@
 -- Laws of what a run leaves behind.
-use Rattle.std.specs.Prelude.{◌≡◌, ◌⊎◌, ⊤, ℕ, Bool, true, false, List, [], ◌∷◌, Option, codes}
 use Rattle.std.specs.Io.KnownBytes.{Appends, Keeps}
-use Rattle.text_filters.specs.Filter.{Work}
-use Rattle.text_filters.specs.Inputs.{ReadsNoText, ReadsText}
+use Rattle.std.specs.Prelude.{◌≡◌, ◌⊎◌, ⊤, ℕ, Bool, true, false, List, [], ◌∷◌, Option, codes}
+use Rattle.text_filters.specs.{Filter.Work, Inputs.ReadsNoText, Inputs.ReadsText}
 use Rattle.text_filters.specs.Messages.{AboutText, fault_texts, message_line}
 use Rattle.text_filters.specs.Program.{TreatsAll, World, standard_input}
 use Rattle.text_filters.specs.Streams.{NoReason, StreamFaults, faults_of}
-use Rattle.text_filters.specs.declared.arguments.Mode.TheVariants.{Print}
-use Rattle.text_filters.specs.declared.faults.Fault.{Fault}
+use Rattle.text_filters.specs.declared.{arguments.Mode.TheVariants.Print, faults.Fault.Fault}
 use Rattle.text_filters.specs.declared.faults.Fault.TheVariants.{Memory, NotUtf8}
 use Rattle.text_filters.specs.declared.program.Ending.{Ending}
 

@@ -1,18 +1,17 @@
 -- What a program says of an input.
-use Rattle.std.specs.Prelude.{ℕ, Bool, true, false, List, [], ◌∷◌, ◌++◌, codes, decimal}
-use Rattle.std.specs.Prelude.{Result, Ok, Err, unwrap_or}
 use Rattle.clap.specs.Words.{Row, first_of}
 use Rattle.std.specs.List.{flat_map}
-use Rattle.textwrap_program.specs.Program.{line_feed}
+use Rattle.std.specs.Prelude.{ℕ, Bool, true, false, List, [], ◌∷◌, ◌++◌, codes, decimal, Result, Ok}
+use Rattle.std.specs.Prelude.{Err, unwrap_or}
 use Rattle.text_filters.specs.declared.faults.Fault.{Fault}
 use Rattle.text_filters.specs.declared.faults.Fault.TheVariants.{Read, NotUtf8, Memory, Write, Output}
 use Rattle.text_filters.specs.declared.faults.Reason.{Reason}
 use Rattle.text_filters.specs.declared.faults.Reason.TheVariants.{NotFound, NotPermitted, IsFolder}
 use Rattle.text_filters.specs.declared.faults.Reason.TheVariants.{ReadOnly, IsPipe, IsDevice, TooLong}
 use Rattle.text_filters.specs.declared.faults.Reason.TheVariants.{Busy, Changed, TooManyDrafts, NoSpace}
-use Rattle.text_filters.specs.declared.faults.Reason.TheVariants.{Closed}
-use Rattle.text_filters.specs.declared.inputs.Treated.{Treated}
+use Rattle.text_filters.specs.declared.{faults.Reason.TheVariants.Closed, inputs.Treated.Treated}
 use Rattle.text_filters.specs.declared.program.About.{About}
+use Rattle.textwrap_program.specs.Program.{line_feed}
 
 abbrev pub joined_texts : List (List ℕ) → List ℕ
 joined_texts = flat_map (λ text. text)

@@ -1,27 +1,21 @@
 -- What a program leaves behind, and how it ends.
-use Rattle.std.specs.Prelude.{◌≡◌, ◌⊎◌, ◌&&◌, ℕ, max, Bool, true, false, List, [], ◌∷◌, map, codes}
-use Rattle.std.specs.Prelude.{Option, None, Some, Result, Ok, Err, bytes_eq, if◌then◌else◌, IfErr}
-use Rattle.std.specs.Prelude.{◌+◌, ◌-◌, ◌^◌, length, min, nat_lt, not}
-use Rattle.std.specs.Io.KnownBytes.{Appends, Keeps}
 use Rattle.clap.specs.declared.error.kind.ErrorKind.{ErrorKind}
 use Rattle.clap.specs.declared.error.kind.ErrorKind.TheVariants.{DisplayHelp, DisplayVersion, OutOfMemory}
-use Rattle.textwrap_program.specs.Filling.{WritesPrefix}
+use Rattle.std.specs.Io.KnownBytes.{Appends, Keeps}
+use Rattle.std.specs.Prelude.{◌≡◌, ◌⊎◌, ◌&&◌, ℕ, max, Bool, true, false, List, [], ◌∷◌, map, codes}
+use Rattle.std.specs.Prelude.{Option, None, Some, Result, Ok, Err, bytes_eq, if◌then◌else◌, IfErr, ◌+◌}
+use Rattle.std.specs.Prelude.{◌-◌, ◌^◌, length, min, nat_lt, not}
 use Rattle.text_files.specs.Files.{Folder, bytes_at}
-use Rattle.text_filters.specs.Filter.{Work}
-use Rattle.text_filters.specs.Inputs.{Checks, ChecksFile, Differs, DiffersFile, Prints, PrintsFile}
-use Rattle.text_filters.specs.Inputs.{Replaces}
+use Rattle.text_filters.specs.{Filter.Work, Inputs.Checks}
+use Rattle.text_filters.specs.Inputs.{ChecksFile, Differs, DiffersFile, Prints, PrintsFile, Replaces}
 use Rattle.text_filters.specs.Messages.{is_closed, is_quiet, joined_texts, message_line, says_nothing}
-use Rattle.text_filters.specs.Messages.{AboutText, run_fault_texts, subject, sum_texts}
-use Rattle.text_filters.specs.Messages.{texts_of}
+use Rattle.text_filters.specs.Messages.{AboutText, run_fault_texts, subject, sum_texts, texts_of}
 use Rattle.text_filters.specs.Streams.{AnyReason, IsPossible, MayFail, StreamFaults}
-use Rattle.text_filters.specs.declared.arguments.Mode.{Mode}
+use Rattle.text_filters.specs.declared.arguments.{Inputs.Inputs, Mode.Mode}
 use Rattle.text_filters.specs.declared.arguments.Mode.TheVariants.{Print, Check, CheckDiff, Diff, InPlace}
-use Rattle.text_filters.specs.declared.arguments.Inputs.{Inputs}
-use Rattle.text_filters.specs.declared.faults.Fault.{Fault}
-use Rattle.text_filters.specs.declared.faults.Fault.TheVariants.{Output}
-use Rattle.text_filters.specs.declared.faults.Reason.{Reason}
-use Rattle.text_filters.specs.declared.inputs.Treated.{Treated}
-use Rattle.text_filters.specs.declared.program.Ending.{Ending}
+use Rattle.text_filters.specs.declared.faults.{Fault.Fault, Fault.TheVariants.Output, Reason.Reason}
+use Rattle.text_filters.specs.declared.{inputs.Treated.Treated, program.Ending.Ending}
+use Rattle.textwrap_program.specs.Filling.{WritesPrefix}
 
 -- what the reader has left, what stood at the names of files after each step so far, and what two
 -- writers hold, where that is known

@@ -1,11 +1,9 @@
 -- Which faults the streams of a run may have.
 use Rattle.std.specs.Prelude.{◌≡◌, ⊤}
 use Rattle.std.specs.declared.io.ErrorKind.{ErrorKind}
-use Rattle.text_filters.specs.Faults.{output_reason}
-use Rattle.text_filters.specs.declared.faults.Fault.{Fault}
+use Rattle.text_filters.specs.{Faults.output_reason, declared.faults.Fault.Fault}
 use Rattle.text_filters.specs.declared.faults.Fault.TheVariants.{Output, Read}
-use Rattle.text_filters.specs.declared.faults.Reason.{Reason}
-use Rattle.text_filters.specs.declared.faults.Reason.TheVariants.{Other}
+use Rattle.text_filters.specs.declared.faults.Reason.{Reason, TheVariants.Other}
 
 -- for which reasons the reader of a run may fail, its output and its messages
 pub record StreamFaults : Type 1 where

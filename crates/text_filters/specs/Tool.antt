@@ -1,12 +1,11 @@
 -- The whole run of a program.
-use Rattle.std.specs.Prelude.{◌≡◌, ◌⊎◌, List, [], None}
-use Rattle.std.specs.Io.KnownBytes.{Keeps}
 use Rattle.clap.specs.Words.{App, HasKind, Row, Text, fault_of, kind_of, matches_of}
 use Rattle.clap.specs.declared.error.Error.{Error}
+use Rattle.std.specs.Io.KnownBytes.{Keeps}
+use Rattle.std.specs.Prelude.{◌≡◌, ◌⊎◌, List, [], None}
 use Rattle.text_filters.specs.Messages.{AboutText}
 use Rattle.text_filters.specs.Program.{ExplainsParse, IsFault, OnlySays, SaysMemory, World}
-use Rattle.text_filters.specs.Streams.{StreamFaults}
-use Rattle.text_filters.specs.declared.program.Ending.{Ending}
+use Rattle.text_filters.specs.{Streams.StreamFaults, declared.program.Ending.Ending}
 
 -- what a program says of itself, its command line, how words are written for that, and what it does with
 -- what they match there

@@ -11,19 +11,18 @@ use Rattle.textwrap_calls.proofs.Common.{append_assoc, ArePlacedRows, length-app
 use Rattle.textwrap_calls.proofs.Common.{arith, join_with, LineParts, take-append-drop, too_small}
 use Rattle.textwrap_calls.proofs.Common.{ending_bytes, length, List, place_of, ShowLines, sizes_of}
 use Rattle.textwrap_calls.proofs.Common.{join-paragraphs_of, line_from, paragraphs_of, slice_range}
+use Rattle.textwrap_calls.proofs.Common.{Divides, TextwrapOptions, options_algorithm}
+use Rattle.textwrap_calls.proofs.Common.{options_settings, separator_of}
+use Rattle.textwrap_calls.{proofs.ReadOptions.options-cuts, specs.Options.options_points}
+use Rattle.textwrap_layout.proofs.{Paragraph.Pieces.pieces-tile, Text.Paragraphs.paragraphs_of-utf8}
+use Rattle.textwrap_layout.proofs.Text.Sinks.{built_text-push, lines_of-cut_lines, places_of-push}
+use Rattle.textwrap_layout.specs.Places.{built_bytes, cut_line, cut_lines, CutLine, text_cuts}
+use Rattle.textwrap_lines.proofs.Text.Groups.{groups-tile}
+use Rattle.textwrap_plain.{proofs.Words.texts-at, specs.Options.words_by}
+use Rattle.textwrap_text.proofs.Common.{drop-drop, map-append, starts_with_length, ⊤}
 use Rattle.textwrap_calls.proofs.{Common.{cond, ◌⊎◌}, RoomLemmas.WritesLines-reported}
 use Rattle.textwrap_calls.specs.{Columns.{AreRows, row_cuts}, Reported.WritesReported}
 use Rattle.textwrap_calls.{proofs.Common.{ArePlacedLines, TextwrapLine}, specs.Wrapping.WritesLines}
-use Rattle.textwrap_layout.proofs.Text.Sinks.{built_text-push, lines_of-cut_lines, places_of-push}
-use Rattle.textwrap_layout.proofs.{Paragraph.Pieces.pieces-tile, Text.Paragraphs.paragraphs_of-utf8}
-use Rattle.textwrap_layout.specs.Places.{built_bytes, cut_line, cut_lines, CutLine, text_cuts}
-use Rattle.textwrap_lines.proofs.Text.Groups.{groups-tile}
-use Rattle.textwrap_calls.proofs.Common.{Divides, TextwrapOptions, options_algorithm}
-use Rattle.textwrap_calls.proofs.Common.{options_settings, separator_of}
-use Rattle.textwrap_calls.proofs.ReadOptions.{options-cuts}
-use Rattle.textwrap_calls.specs.Options.{options_points}
-use Rattle.textwrap_plain.{proofs.Words.texts-at, specs.Options.words_by}
-use Rattle.textwrap_text.proofs.Common.{drop-drop, map-append, starts_with_length, ⊤}
 
 -- ---- lines that were cut from a text stand where they are reported
 

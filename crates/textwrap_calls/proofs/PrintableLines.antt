@@ -1,26 +1,24 @@
 -- Texts of printable ASCII, block by block, and texts that are one line.
-use Rattle.std.{proofs.lemmas.Str.{chars-IsAscii, IsUtf8-from_ascii}, specs.Char.is_whitespace}
-use Rattle.textwrap.specs.Indentation.{HasNoLineFeed, indented}
-use Rattle.textwrap.specs.Refilling.{joined_text, keeps_ending, line_prefix}
-use Rattle.textwrap.specs.Refilling.{unfilled_initial, unfilled_subsequent, with_indents_of}
+use Rattle.textwrap.proofs.Common.{indented, joined_text, keeps_ending, line_prefix}
+use Rattle.textwrap.proofs.Common.{unfilled_initial, unfilled_subsequent, with_indents_of}
+use Rattle.textwrap.{specs.Indentation.HasNoLineFeed}
 use Rattle.textwrap_calls.proofs.Common.{All-from_get_or, Divides, IsPrintableByte, TextwrapOptions}
-use Rattle.textwrap_calls.proofs.Common.{IsRefilled, options_settings, slice_range}
-use Rattle.textwrap_calls.proofs.Common.{word_of}
-use Rattle.textwrap_calls.proofs.Common.{[], All-head, append-nil, nat_tests, ShowLines, true≢false}
-use Rattle.textwrap_calls.proofs.Common.{is_blank_line, length-slice, ℕ}
-use Rattle.textwrap_calls.proofs.Common.{arith, cond, false, get_or, length, List, lt-ltb, subst}
-use Rattle.textwrap_calls.proofs.Common.{cases_lt, is_whole, IsFilled, IsUtf8, place_of, says_yes}
-use Rattle.textwrap_calls.proofs.Common.{drop, inl, inr, refl, sym, true, ◌++◌, ◌+◌, ◌-◌, ◌<◌, ◌==◌}
-use Rattle.textwrap_calls.{proofs.Common.{ap, ◌∙◌, ◌∷◌, ◌≡◌, ◌≢◌, ◌≤◌}, specs.Printable.IsOnlyLine}
-use Rattle.textwrap_calls.proofs.PlaceLemmas.{placed-shown}
-use Rattle.textwrap_calls.proofs.Common.{ArePlacedLines, Bool, Settings, WordText}
+use Rattle.textwrap_calls.proofs.Common.{IsRefilled, options_settings, slice_range, word_of, []}
+use Rattle.textwrap_calls.proofs.Common.{All-head, append-nil, nat_tests, ShowLines}
+use Rattle.textwrap_calls.proofs.Common.{is_blank_line, length-slice, ℕ, arith, cond, false, get_or}
+use Rattle.textwrap_calls.proofs.Common.{length, List, lt-ltb, subst, cases_lt, is_whole, IsFilled}
+use Rattle.textwrap_calls.proofs.Common.{IsUtf8, place_of, says_yes, drop, inl, inr, refl, sym}
+use Rattle.textwrap_calls.proofs.Common.{true, ◌++◌, ◌+◌, ◌-◌, ◌<◌, ArePlacedLines, Bool}
+use Rattle.textwrap_calls.proofs.{Common.Settings, Common.WordText, PlaceLemmas.placed-shown}
 use Rattle.textwrap_layout.proofs.Paragraph.LeftOff.{AreParagraphParts-whole, line_from-whole}
 use Rattle.textwrap_layout.proofs.Text.Paragraphs.{one-paragraph}
-use Rattle.textwrap_layout.proofs.{Common.{parts_of, Slice}, Text.Paragraphs.printable-free}
 use Rattle.textwrap_text.proofs.Common.{get_or-drop, get_or-take, IsPrintable, without_final_blanks}
 use Rattle.textwrap_text.proofs.TextLines.{ended_lines-whole, ended_parts-whole, lines-whole}
-use Rattle.textwrap_text.proofs.{Common.{All-drop, All-take, list_any}, Lists.Elements.contains-any}
-use Rattle.textwrap_text.{proofs.Units.Reading.printable-ascii, specs.LineEnding.line_feed}
+use Rattle.textwrap_text.proofs.Units.Reading.{printable-ascii}
+use Rattle.std.{proofs.lemmas.Str.{chars-IsAscii, IsUtf8-from_ascii}, specs.Char.is_whitespace}
+use Rattle.textwrap_calls.{proofs.Common.{ap, ◌∙◌, ◌∷◌, ◌≡◌, ◌≢◌, ◌≤◌}, specs.Printable.IsOnlyLine}
+use Rattle.textwrap_layout.proofs.{Common.{parts_of, Slice}, Text.Paragraphs.printable-free}
+use Rattle.textwrap_text.proofs.Common.{All-drop, All-take}
 
 -- ---- texts of printable ASCII, block by block, and texts that are one line
 
@@ -73,11 +71,6 @@ indented-line prefix (c ∷ cs) printable some dark =
       printable-dark c (All-head IsPrintableByte c cs printable) dark,
     ) in
     rw (whole, full) (append-nil (prefix ++ c ∷ cs))
-
-pub found-none : (text : List ℕ) → list_any (λ c. c == line_feed) text ≡ false → HasNoLineFeed text
-found-none text none =
-    All-from_get_or (λ c. c ≢ line_feed) text line_feed (λ k within is.
-    true≢false (sym (contains-any line_feed text (k, within, is)) ∙ none))
 
 -- one without an indent that is shorter than the width is the line as it is, but for its last blanks
 free-line : (settings : Settings) (Divides : Bool → List ℕ → List (List WordText) → Type 0)

@@ -1,23 +1,18 @@
 -- What is made by options as the library has them is made by the numbers that they were read from; and
 -- what the points of words keep to.
 use Rattle.textwrap_calls.proofs.Common.{Divides, Settings, options_settings, TextwrapOptions, WordText}
-use Rattle.textwrap_calls.proofs.Common.{ap, arith, false, refl, subst, sym, true, ◌∙◌, ◌≡◌, ◌≤◌}
-use Rattle.textwrap_calls.{proofs.Common.{Bool, IsUtf8, List, ℕ, ◌==◌}, specs.Options.AreRead}
-use Rattle.textwrap_calls.specs.Bounds.{hyphens_of}
-use Rattle.textwrap_calls.specs.Dictionary.{minimum_or, says_yes}
-use Rattle.textwrap_calls.specs.Options.{have_dictionary, options_points}
+use Rattle.textwrap_calls.proofs.Common.{ap, arith, false, refl, subst, sym, true, ◌∙◌, ◌≡◌, ◌≤◌, says_yes}
+use Rattle.textwrap_calls.{proofs.Common.{Bool, IsUtf8, List, ℕ, ◌==◌}, specs.Bounds.hyphens_of}
+use Rattle.textwrap_calls.specs.{Dictionary.minimum_or, Options.{have_dictionary, options_points, AreRead}}
 use Rattle.textwrap_calls.specs.declared.dictionary.TextwrapDictionary.{TextwrapDictionary}
-use Rattle.textwrap_hyphens.specs.Table.{held_in}
-use Rattle.textwrap_hyphens.specs.declared.table.PatternTable.{PatternTable}
-use Rattle.textwrap_plain.specs.declared.options.PlainOptions.{PlainOptions}
-use Rattle.textwrap_plain.specs.declared.options.PlainSplitter.{PlainSplitter}
-use Rattle.textwrap_plain.specs.declared.options.PlainSplitter.TheVariants.{BuiltIn, Dictionary}
-use Rattle.textwrap_plain.{proofs.Named.named, specs.Options.DividesPlainly}
-use Rattle.textwrap_plain.proofs.Balance.Counts.{IsInside, points_by-inside}
+use Rattle.textwrap_hyphens.specs.{Table.held_in, declared.table.PatternTable.PatternTable}
+use Rattle.textwrap_lines.proofs.Common.{None, AreCuts}
+use Rattle.textwrap_plain.proofs.{Balance.Counts.{IsInside, points_by-inside}, Named.named}
 use Rattle.textwrap_plain.specs.CutSides.{points_by-cuts}
-use Rattle.textwrap_plain.specs.Options.{port_splitter, plain_settings, points_by}
-use Rattle.textwrap_text.proofs.Common.{None}
-use Rattle.textwrap_words.specs.Cuts.{AreCuts, AreNext}
+use Rattle.textwrap_plain.specs.Options.{DividesPlainly, port_splitter, plain_settings, points_by}
+use Rattle.textwrap_plain.specs.declared.options.{PlainOptions.PlainOptions, PlainSplitter.PlainSplitter}
+use Rattle.textwrap_plain.specs.declared.options.PlainSplitter.TheVariants.{BuiltIn, Dictionary}
+use Rattle.textwrap_words.proofs.Common.{AreNext}
 use Rattle.textwrap_words.specs.declared.pieces.BuiltInSplitter.TheVariants.{HyphenSplitter, NoHyphenation}
 
 module _ (o : TextwrapOptions) (read : PlainOptions) (are : AreRead o read) where
@@ -52,10 +47,7 @@ splitter-named o = by (have_dictionary o) refl (o.split_at_hyphens == 0) refl
         → (o.split_at_hyphens == 0) ≡ whole → (splitter : PlainSplitter) × IsNamed o splitter
     by true is whole whole_is = (
       Dictionary (table_of o.dictionary),
-      record {
-        points = rw is refl;
-        hyphens = λ none. rw is (omega arith);
-      },
+      record { points = rw is refl; hyphens = λ none. rw is (omega arith) },
     )
     by false is true whole_is = (
       BuiltIn NoHyphenation,

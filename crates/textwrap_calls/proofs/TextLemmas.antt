@@ -1,14 +1,11 @@
 -- Lists of texts and of lines, and columns of a table, as C has them.
-use Rattle.std.proofs.lemmas.List.Elements.{AllWithin-more}
-use Rattle.std.specs.Prelude.{Bool}
-use Rattle.std.specs.{Cow.cow_str_bytes, declared.borrow.CowStr.CowStr}
-use Rattle.textwrap_calls.proofs.Common.{[], length-map, line_bytes, line_view, map_push, too_small}
-use Rattle.textwrap_calls.proofs.Common.{arith, get_or, length, Line, List, Slice, subst, texts_of}
-use Rattle.textwrap_calls.proofs.Common.{done, inl, inr, map, refl, sym, ◌++◌, ◌+◌, ◌<◌, ◌↔◌, ◌∙◌}
-use Rattle.textwrap_calls.specs.Status.{not_utf8, unknown_options}
-use Rattle.textwrap_calls.{proofs.Common.{ap, ℕ, ◌∷◌, ◌≡◌, ◌≢◌, ◌≤◌, ◌⊎◌}, specs.Display.AreShort}
-use Rattle.textwrap_display.specs.Shortening.{AreShortened}
-use Rattle.textwrap_layout.proofs.Text.Lines.{line_bytes-line_view}
+use Rattle.std.{proofs.lemmas.List.Elements.AllWithin-more, specs.declared.borrow.CowStr.CowStr}
+use Rattle.textwrap_calls.proofs.Common.{Bool, [], length-map, line_bytes, line_view, map_push}
+use Rattle.textwrap_calls.proofs.Common.{too_small, arith, get_or, length, Line, List, Slice, subst}
+use Rattle.textwrap_calls.proofs.Common.{texts_of, done, inl, inr, map, refl, sym, ◌++◌, ◌+◌, ◌<◌}
+use Rattle.textwrap_calls.proofs.Common.{◌↔◌, ◌∙◌, ap, ℕ, ◌∷◌, ◌≡◌, ◌≢◌, ◌≤◌, ◌⊎◌}
+use Rattle.textwrap_calls.specs.{Display.AreShort, Status.{not_utf8, unknown_options}}
+use Rattle.textwrap_display.proofs.Common.{cow_str_bytes, AreShortened, line_bytes-line_view}
 use Rattle.textwrap_text.proofs.Common.{get_or_default}
 
 -- ---- the texts of lines: one more of them
@@ -48,21 +45,14 @@ lines-short breaks most width placeholder lines texts short are none whole cut =
       none = λ nothing. ap (map line_bytes) (none nothing);
       whole = λ few. ap (map line_bytes) (whole (subst (λ n. n ≤ most) count few))
           ∙ slices-bytes (texts_of lines);
-      cut = λ some more. (
-        short,
-        cut some (subst (λ n. most < n) count more),
-        refl,
-      );
+      cut = λ some more. (short, cut some (subst (λ n. most < n) count more), refl);
     })
 
 -- what a shortening says is what was given
 pub short-by : {breaks told : Bool} {most width columns : ℕ} {placeholder end : List ℕ}
     {lines rows : List (List ℕ)} → told ≡ breaks → columns ≡ width → end ≡ placeholder
     → AreShort told most columns end lines rows → AreShort breaks most width placeholder lines rows
-short-by {breaks} {told} {most} {width} {columns} {placeholder} {end} {lines} {rows} by room ends are =
-    subst (λ b. AreShort b most width placeholder lines rows) by
-    (subst (λ n. AreShort told most n placeholder lines rows) room
-    (subst (λ l. AreShort told most columns l lines rows) ends are))
+short-by by room ends are = rw (by, room, ends) at are
 
 -- ---- what a call may return that reads columns of a table
 

@@ -1,16 +1,14 @@
 -- How much room answers take at most, by the lengths of the texts.
+pub use Rattle.textwrap_text.specs.LentText.{as_len}
 use Rattle.std.specs.Prelude.{◌≡◌, ℕ, ◌+◌, ◌-◌, ◌*◌, ◌/◌, ◌^◌, ◌≤◌, ◌⊎◌, max, ◌==◌, ◌&&◌, List}
 use Rattle.std.specs.Prelude.{length, IsUtf8, if◌then◌else◌}
-use Rattle.textwrap.specs.Paragraph.{Line}
-use Rattle.textwrap.specs.Columns.{IsInColumns}
+use Rattle.textwrap.specs.{Columns.IsInColumns, Paragraph.Line}
 use Rattle.textwrap_calls.specs.Columns.{AreRows}
 use Rattle.textwrap_calls.specs.Options.{Divides, have_dictionary, options_settings}
 use Rattle.textwrap_calls.specs.declared.columns.TextwrapGaps.{TextwrapGaps}
 use Rattle.textwrap_calls.specs.declared.options.TextwrapOptions.{TextwrapOptions}
+use Rattle.textwrap_layout.specs.{Places.ArePlacedLines, declared.places.Place.Place}
 use Rattle.textwrap_text.specs.LineEnding.{ending_bytes}
-use Rattle.textwrap_layout.specs.Places.{ArePlacedLines}
-use Rattle.textwrap_layout.specs.declared.places.Place.{Place}
-pub use Rattle.textwrap_text.specs.LentText.{as_len}
 
 -- the greatest length that a number holds
 abbrev pub greatest_length : ℕ

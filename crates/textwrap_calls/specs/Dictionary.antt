@@ -1,9 +1,7 @@
 -- Dictionaries of hyphenation, as C has them.
 use Rattle.std.specs.Prelude.{◌≡◌, ◌≤◌, ℕ, ◌==◌, ◌&&◌, ◌||◌, false, length, nat_le, not, Bool, if◌then◌else◌}
-use Rattle.textwrap_hyphens.specs.Hyphenation.{Hyphenation}
-use Rattle.textwrap_hyphens.specs.Seal.{is_sealed}
-use Rattle.textwrap_hyphens.specs.Table.{held_in}
 use Rattle.textwrap_calls.specs.declared.dictionary.TextwrapDictionary.{TextwrapDictionary}
+use Rattle.textwrap_hyphens.specs.{Hyphenation.Hyphenation, Seal.is_sealed, Table.held_in}
 
 -- a number that says yes or no
 abbrev pub says_yes : ℕ → Bool

@@ -1,30 +1,26 @@
 -- What the numbers of the options mean.
+pub use Rattle.textwrap_calls.specs.Dictionary.{says_yes}
 use Rattle.std.specs.Prelude.{◌≡◌, ◌≢◌, ◌↔◌, ℕ, ◌≤◌, ◌==◌, List, [], ◌∷◌, Bool, not, true, IsUtf8}
 use Rattle.std.specs.Prelude.{false, if◌then◌else◌, length, None}
-use Rattle.textwrap_hyphens.specs.Splitting.{split_points}
-use Rattle.textwrap_plain.specs.Options.{plain_algorithm, plain_settings, plain_splitter}
-use Rattle.textwrap_plain.specs.Options.{DividesFrom, points_by, words_by}
-use Rattle.textwrap_words.specs.WordSplitters.{points_of}
-use Rattle.textwrap_plain.specs.declared.options.PlainOptions.{PlainOptions}
-use Rattle.textwrap_plain.specs.declared.options.PlainSeparator.{PlainSeparator}
-use Rattle.textwrap_plain.specs.declared.options.PlainSeparator.TheVariants.{AtBlanks, AtBreaks}
-use Rattle.textwrap_unicode.specs.declared.numbers.Numbers.{Numbers}
-use Rattle.textwrap_unicode.specs.declared.numbers.Numbers.TheVariants.{ByExpression, ByPairs}
-use Rattle.textwrap.specs.Filling.{IsFilled}
-use Rattle.textwrap.specs.Paragraph.{Line}
-use Rattle.textwrap.specs.Refilling.{IsRefilled}
-use Rattle.textwrap.specs.Words.{WordText}
-use Rattle.textwrap.specs.Options.{Settings, settings_at}
-use Rattle.textwrap.specs.WordSplitters.{Splitter, Whole, AtHyphens}
+use Rattle.textwrap.specs.{Filling.IsFilled, Options.Settings, Options.settings_at, Paragraph.Line}
+use Rattle.textwrap.specs.{Refilling.IsRefilled, WordSplitters.Splitter, WordSplitters.Whole}
+use Rattle.textwrap.specs.{WordSplitters.AtHyphens, Words.WordText}
 use Rattle.textwrap.specs.WrapAlgorithms.{Algorithm, ByFirstFit, ByOptimalFit}
 use Rattle.textwrap_base.specs.declared.penalties.Penalties.{Penalties}
-use Rattle.textwrap_layout.specs.Places.{ArePlacedLines}
-use Rattle.textwrap_layout.specs.declared.places.Place.{Place}
-use Rattle.textwrap_text.specs.declared.line_ending.LineEnding.TheVariants.{LF, CRLF}
-pub use Rattle.textwrap_calls.specs.Dictionary.{says_yes}
 use Rattle.textwrap_calls.specs.Dictionary.{hyphenation_of, is_whole}
 use Rattle.textwrap_calls.specs.Status.{not_utf8, out_of_memory, unknown_options}
 use Rattle.textwrap_calls.specs.declared.options.TextwrapOptions.{TextwrapOptions}
+use Rattle.textwrap_hyphens.specs.Splitting.{split_points}
+use Rattle.textwrap_layout.specs.{Places.ArePlacedLines, declared.places.Place.Place}
+use Rattle.textwrap_plain.specs.Options.{plain_algorithm, plain_settings, plain_splitter}
+use Rattle.textwrap_plain.specs.Options.{DividesFrom, points_by, words_by}
+use Rattle.textwrap_plain.specs.declared.options.PlainOptions.{PlainOptions}
+use Rattle.textwrap_plain.specs.declared.options.PlainSeparator.{PlainSeparator}
+use Rattle.textwrap_plain.specs.declared.options.PlainSeparator.TheVariants.{AtBlanks, AtBreaks}
+use Rattle.textwrap_text.specs.declared.line_ending.LineEnding.TheVariants.{LF, CRLF}
+use Rattle.textwrap_unicode.specs.declared.numbers.Numbers.{Numbers}
+use Rattle.textwrap_unicode.specs.declared.numbers.Numbers.TheVariants.{ByExpression, ByPairs}
+use Rattle.textwrap_words.specs.WordSplitters.{points_of}
 
 abbrev pub options_penalties : TextwrapOptions → Penalties
 options_penalties o = record {

@@ -1,11 +1,9 @@
 -- Lines of printable ASCII, for which neither the options nor UTF-8 have to be read.
 use Rattle.std.specs.Prelude.{◌≡◌, ◌≢◌, ℕ, List, [], ◌∷◌, IsUtf8, slice_index}
-use Rattle.textwrap_text.specs.Blanks.{blank}
-use Rattle.textwrap_text.specs.Units.{IsPrintable}
-use Rattle.textwrap_layout.specs.Paragraph.{Slice}
-use Rattle.textwrap_layout.specs.Places.{ArePlacedLines, place_of}
 use Rattle.textwrap_calls.specs.Options.{options_settings, AreKnown, Divides}
 use Rattle.textwrap_calls.specs.declared.options.TextwrapOptions.{TextwrapOptions}
+use Rattle.textwrap_layout.specs.{Paragraph.Slice, Places.ArePlacedLines, Places.place_of}
+use Rattle.textwrap_text.specs.{Blanks.blank, Units.IsPrintable}
 
 -- known options that add nothing to a first line
 pub record HaveNoInitialIndent (o : TextwrapOptions) : Type 0 where

@@ -2,16 +2,15 @@
 use Rattle.std.specs.Prelude.{◌≡◌, ℕ, ◌≤◌, ◌==◌, List, [], ◌∷◌, All, if◌then◌else◌, Option, Some}
 use Rattle.std.specs.Prelude.{None}
 use Rattle.textwrap_base.specs.declared.penalties.Penalties.{Penalties}
-use Rattle.textwrap_text.specs.declared.line_ending.LineEnding.{LineEnding}
-use Rattle.textwrap_text.specs.declared.line_ending.LineEnding.TheVariants.{LF, CRLF}
+use Rattle.textwrap_calls.specs.{Options.says_yes, Texts.bytes_of, Texts.IsText}
+use Rattle.textwrap_calls.specs.declared.reflowing.TextwrapReflowOptions.{TextwrapReflowOptions}
 use Rattle.textwrap_display.specs.Tables.{texts_in}
 use Rattle.textwrap_marked.specs.Reflow.{IsReflowed}
 use Rattle.textwrap_marks.specs.declared.options.Algorithm.{Algorithm}
 use Rattle.textwrap_marks.specs.declared.options.Algorithm.TheVariants.{FirstFit, LeastCost}
 use Rattle.textwrap_marks.specs.declared.options.ReflowOptions.{ReflowOptions}
-use Rattle.textwrap_calls.specs.Options.{says_yes}
-use Rattle.textwrap_calls.specs.Texts.{bytes_of, IsText}
-use Rattle.textwrap_calls.specs.declared.reflowing.TextwrapReflowOptions.{TextwrapReflowOptions}
+use Rattle.textwrap_text.specs.declared.line_ending.LineEnding.{LineEnding}
+use Rattle.textwrap_text.specs.declared.line_ending.LineEnding.TheVariants.{LF, CRLF}
 
 abbrev pub reflow_penalties : TextwrapReflowOptions → Penalties
 reflow_penalties o = record {

@@ -1,11 +1,10 @@
 -- How the lines of a text are reported.
 use Rattle.std.specs.Prelude.{◌≡◌, ℕ, ◌<◌, ◌⊎◌, ◌↔◌, List, length, map}
-use Rattle.textwrap_text.specs.LentText.{written_over}
-use Rattle.textwrap_layout.specs.LentPlaces.{reported_line}
-use Rattle.textwrap_layout.specs.declared.lent_places.LineCounts.{LineCounts}
-use Rattle.textwrap_layout.specs.declared.places.Place.{Place}
-use Rattle.textwrap_layout.specs.declared.places.TextwrapLine.{TextwrapLine}
 use Rattle.textwrap_calls.specs.Status.{done, too_small}
+use Rattle.textwrap_layout.specs.LentPlaces.{reported_line}
+use Rattle.textwrap_layout.specs.declared.{lent_places.LineCounts.LineCounts, places.Place.Place}
+use Rattle.textwrap_layout.specs.declared.places.TextwrapLine.{TextwrapLine}
+use Rattle.textwrap_text.specs.LentText.{written_over}
 
 -- so many lines are reported, and so long; and whether so many have room
 pub record ReportsLines (counts : LineCounts) (lines room : ℕ) (status count len : ℕ) : Type 0 where

@@ -2,12 +2,10 @@
 use Rattle.std.specs.Prelude.{◌≡◌, ◌≢◌, ℕ, ◌+◌, ◌<◌, ◌≤◌, ◌⊎◌, ◌↔◌, true, false, List, [], ◌∷◌}
 use Rattle.std.specs.Prelude.{length, map, slice_range}
 use Rattle.textwrap.specs.Paragraph.{Line, Slice, Built}
-use Rattle.textwrap_layout.specs.Places.{built_text}
-use Rattle.textwrap_layout.specs.LentPlaces.{reported_line}
-use Rattle.textwrap_layout.specs.declared.places.Place.{Place}
-use Rattle.textwrap_layout.specs.declared.places.TextwrapLine.{TextwrapLine}
-use Rattle.textwrap_text.specs.LentText.{as_len, written_over}
 use Rattle.textwrap_calls.specs.Status.{done, too_small}
+use Rattle.textwrap_layout.specs.{LentPlaces.reported_line, Places.built_text}
+use Rattle.textwrap_layout.specs.declared.places.{Place.Place, TextwrapLine.TextwrapLine}
+use Rattle.textwrap_text.specs.LentText.{as_len, written_over}
 
 -- ---- what stands at that place
 

@@ -2,8 +2,7 @@
 ghost use Rattle.std.specs.Prelude.{◌≡◌, ◌≢◌, ◌≤◌, ◌↔◌, ◌⊎◌, IsUtf8, IfOk, IfErr, length};
 ghost use Rattle.std.specs.Prelude.{string_bytes};
 ghost use Rattle.textwrap.specs.InPlace.{IsFilledInPlace};
-ghost use Rattle.textwrap_calls.specs.Options.{AreKnown, TellsFaults};
-ghost use Rattle.textwrap_calls.specs.Options.{AreTexts, NeedsNoMemory};
+ghost use Rattle.textwrap_calls.specs.Options.{AreKnown, TellsFaults, AreTexts, NeedsNoMemory};
 ghost use Rattle.textwrap_calls.specs.Options.{IsFilledByOptions};
 ghost use Rattle.textwrap_calls.specs.Room.{WritesLong};
 ghost use Rattle.textwrap_calls.specs.Status.{done, not_utf8, out_of_memory};

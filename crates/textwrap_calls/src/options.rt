@@ -1,8 +1,7 @@
 //! How a text is wrapped, as C has it.
 ghost use Rattle.std.specs.Prelude.{◌≡◌, ◌≢◌, ◌⊎◌, ◌↔◌, false, None, true, IfOk, IfErr, IsUtf8, MatchOption};
 ghost use Rattle.textwrap_calls.specs.Options.{options_algorithm, AreKnown, AreRead, AreTexts};
-ghost use Rattle.textwrap_calls.specs.Options.{have_dictionary, step_settings, options_points};
-ghost use Rattle.textwrap_calls.specs.Options.{separator_of};
+ghost use Rattle.textwrap_calls.specs.Options.{have_dictionary, step_settings, options_points, separator_of};
 ghost use Rattle.textwrap_calls.specs.Status.{not_utf8, unknown_options};
 ghost use Rattle.textwrap_layout.specs.Direct.{as_algorithm};
 ghost use Rattle.textwrap_layout.specs.Options.{layout_view, settings_view};

@@ -2,8 +2,7 @@
 ghost use Rattle.std.specs.Prelude.{◌≡◌, ◌≢◌, ◌≤◌, ◌⊎◌, ◌↔◌, [], false, IsUtf8};
 ghost use Rattle.textwrap.specs.Options.{settings_view};
 ghost use Rattle.textwrap.specs.Refilling.{line_prefix, unfilled_parts, unfilled_settings};
-ghost use Rattle.textwrap_calls.specs.Options.{AreKnown, TellsFaults};
-ghost use Rattle.textwrap_calls.specs.Options.{AreTexts, IsRefilledBy};
+ghost use Rattle.textwrap_calls.specs.Options.{AreKnown, TellsFaults, AreTexts, IsRefilledBy};
 ghost use Rattle.textwrap_calls.specs.Refilling.{IsLayout};
 ghost use Rattle.textwrap_calls.specs.Room.{WritesText};
 ghost use Rattle.textwrap_calls.specs.Status.{done, not_utf8, out_of_memory, too_small};

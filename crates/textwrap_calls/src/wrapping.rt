@@ -1,7 +1,6 @@
 //! The lines of a text.
 ghost use Rattle.std.specs.Prelude.{IsUtf8};
-ghost use Rattle.textwrap_calls.specs.Options.{AreKnown, TellsFaults};
-ghost use Rattle.textwrap_calls.specs.Options.{AreTexts, NeedsNoMemory};
+ghost use Rattle.textwrap_calls.specs.Options.{AreKnown, TellsFaults, AreTexts, NeedsNoMemory};
 ghost use Rattle.textwrap_calls.specs.Options.{ArePlacedBy};
 ghost use Rattle.textwrap_calls.specs.Wrapping.{WritesLongLines};
 

@@ -1,23 +1,18 @@
 -- Patterns at whose hyphen letters change: the levels that they keep.
-use Rattle.std.specs.Prelude.{Option, None, Some, ◌%◌, if◌then◌else◌, nat_lt}
-use Rattle.std.proofs.lemmas.Bool.{leb-true}
-use Rattle.textwrap_text.proofs.Common.{and_parts, le-leb, lt-ltb}
-use Rattle.std.proofs.lemmas.Grind.{get_or_after_one}
-use Rattle.textwrap_dictionaries.proofs.Common.{Bool, List, ℕ, [], ap, arith, cases_Bool, drop, false, false≢true}
-use Rattle.textwrap_dictionaries.proofs.Common.{get_or, inl, inr, length, refl, suc, true, zero}
-use Rattle.textwrap_dictionaries.proofs.Common.{◌+◌, ◌-◌, ◌<◌, ◌≤◌, ◌⊎◌, ◌∷◌, ◌≡◌}
-use Rattle.textwrap_patterns.specs.Changes.{barred_at, barred_from, text_before, without_changes}
-use Rattle.textwrap_dictionaries.specs.Entries.{Said, Pattern, Changed}
-use Rattle.textwrap_dictionaries.specs.Entries.{Wrong, changed_by, changed_said}
+use Rattle.std.proofs.{Common.{◌%◌, leb-true}, lemmas.Grind.get_or_after_one}
+use Rattle.textwrap_dictionaries.specs.Entries.{Said, Pattern, Changed, Wrong, changed_by, changed_said}
 use Rattle.textwrap_dictionaries.specs.Entries.{changes_at, exception_or_fault, exception_said, exception_written}
 use Rattle.textwrap_dictionaries.specs.Entries.{has_sign, has_slash, is_exception, pattern_said, slashed_said}
 use Rattle.textwrap_dictionaries.specs.Entries.{unslashed_said, word_said}
-use Rattle.textwrap_dictionaries.specs.Laws.{IsChanged}
-use Rattle.textwrap_patterns.specs.Listed.{ExceptionText, PatternText}
-use Rattle.textwrap_patterns.specs.Written.{is_digit, levels_written, letters_written, pattern_written}
-use Rattle.textwrap_patterns.specs.declared.changes.Region.{Region}
-use Rattle.textwrap_dictionaries.specs.declared.entries.Section.{Section}
+use Rattle.textwrap_dictionaries.specs.{Laws.IsChanged, declared.entries.Section.Section}
 use Rattle.textwrap_dictionaries.specs.declared.errors.Fault.TheVariants.{Replacement, Sign, TooLong}
+use Rattle.textwrap_patterns.specs.Changes.{barred_at, barred_from, text_before, without_changes}
+use Rattle.textwrap_patterns.specs.{Listed.{ExceptionText, PatternText}, Written.{is_digit, levels_written}}
+use Rattle.textwrap_patterns.specs.{Written.{letters_written, pattern_written}, declared.changes.Region.Region}
+use Rattle.textwrap_text.proofs.Common.{Option, None, Some, if◌then◌else◌, nat_lt, and_parts, le-leb, lt-ltb}
+use Rattle.textwrap_text.proofs.Common.{Bool, List, ℕ, [], ap, arith, cases_Bool, drop, false, false≢true, get_or}
+use Rattle.textwrap_text.proofs.Common.{inl, inr, length, refl, suc, true, zero, ◌+◌, ◌-◌, ◌<◌, ◌≤◌, ◌⊎◌, ◌∷◌}
+use Rattle.textwrap_text.proofs.Common.{◌≡◌}
 
 low-digit : (c : ℕ) (levels : List ℕ) (k : ℕ) → is_digit c ≡ true → ((j : ℕ) → get_or levels j 0 < 10)
     → get_or ((c - 0x30) ∷ drop 1 levels) k 0 < 10

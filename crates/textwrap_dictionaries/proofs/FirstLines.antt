@@ -1,35 +1,24 @@
 -- The first line of a list that is wrong.
-use Rattle.std.specs.Prelude.{Option, None, Some, Ok, Err, ◌||◌, if◌then◌else◌, chars, codes, is_some, ◌↔◌}
-use Rattle.std.specs.Option.{option_or}
-use Rattle.std.specs.Str.{trim}
-use Rattle.std.specs.Str.Lines.{lines}
-use Rattle.textwrap_text.proofs.Lists.Parts.{starts_with-rest}
-use Rattle.textwrap_dictionaries.proofs.Common.{Bool, List, ℕ, [], ap, arith, cases_Bool, drop, false, false≢true, filter}
-use Rattle.textwrap_dictionaries.proofs.Common.{inl, inr, length, refl, subst, suc, sym, true, ◌++◌, ◌∙◌, ◌∷◌}
-use Rattle.textwrap_dictionaries.proofs.Common.{◌≡◌, ◌⊎◌, ◌≤◌}
+use Rattle.std.{proofs.Common.chars, specs.Option.option_or, specs.Str.trim}
 use Rattle.textwrap_dictionaries.proofs.FirstWords.{IsRight, IsStep, step-as, words-are}
 use Rattle.textwrap_dictionaries.proofs.FirstWrong.{IsJudged, command-none, judged, of-word, wrong-says}
 use Rattle.textwrap_dictionaries.proofs.Skipped.{comment-skipped, first-step, list-step}
-use Rattle.textwrap_patterns.specs.Charsets.{names_charset, plain_name}
 use Rattle.textwrap_dictionaries.specs.Entries.{Said, NextGroup, Right, Wrong, begins, command_said, whole_said}
-use Rattle.textwrap_dictionaries.specs.Faults.{IsFirstWrong, IsFirstWrongItem, IsOther, IsWrong, IsWrongLine, are_among}
-use Rattle.textwrap_dictionaries.specs.Faults.{begins_word, groups_in, is_of_line, listed_in}
-use Rattle.textwrap_patterns.specs.Listed.{Listed}
-use Rattle.textwrap_dictionaries.specs.Parsing.{Outcome, and_then, ended, end_fault, is_skipped, is_tex, listed_said}
-use Rattle.textwrap_dictionaries.specs.Parsing.{no_patterns, parsed, said_or, text_said, unmarked, with_all, with_lines}
-use Rattle.textwrap_dictionaries.specs.Parsing.{words_between}
-use Rattle.textwrap_dictionaries.specs.declared.entries.Section.{Section}
-use Rattle.textwrap_dictionaries.specs.declared.entries.Section.TheVariants.{Start}
-use Rattle.textwrap_dictionaries.specs.declared.errors.Fault.{Fault}
+use Rattle.textwrap_dictionaries.specs.Faults.{IsFirstWrong, IsFirstWrongItem, IsOther, IsWrong, IsWrongLine}
+use Rattle.textwrap_dictionaries.specs.Faults.{are_among, begins_word, groups_in, is_of_line, listed_in}
+use Rattle.textwrap_dictionaries.specs.Parsing.{Outcome, and_then, ended, end_fault, is_skipped, is_tex}
+use Rattle.textwrap_dictionaries.specs.Parsing.{listed_said, no_patterns, parsed, said_or, text_said, unmarked}
+use Rattle.textwrap_dictionaries.specs.Parsing.{with_all, with_lines, words_between}
+use Rattle.textwrap_dictionaries.specs.declared.entries.Section.{Section, TheVariants.Start}
+use Rattle.textwrap_dictionaries.specs.declared.errors.{Fault.Fault, ParseError.TheVariants.Line}
+use Rattle.textwrap_patterns.specs.{Charsets.names_charset, Charsets.plain_name, Listed.Listed}
+use Rattle.textwrap_text.proofs.Common.{Option, None, Some, Ok, Err, ◌||◌, if◌then◌else◌, codes, is_some, ◌↔◌}
+use Rattle.textwrap_text.proofs.Common.{lines, Bool, List, ℕ, [], ap, arith, cases_Bool, drop, false, false≢true}
+use Rattle.textwrap_text.proofs.Common.{filter, inl, inr, length, refl, subst, suc, sym, true, ◌++◌, ◌∙◌, ◌∷◌}
+use Rattle.textwrap_text.proofs.{Common.◌≡◌, Common.◌⊎◌, Common.◌≤◌, Lists.Parts.starts_with-rest}
 use Rattle.textwrap_dictionaries.specs.declared.errors.Fault.TheVariants as fault
-use Rattle.textwrap_dictionaries.specs.declared.errors.ParseError.TheVariants.{Memory, Line}
 
 -- ---- errors
-
-abbrev pub fault_told : Outcome → Fault
-fault_told (Ok h) = fault.Empty
-fault_told (Err (Memory error)) = fault.Empty
-fault_told (Err (Line n f)) = f
 
 abbrev option_fault : Option Said → Fault
 option_fault (Some (Wrong f)) = f

@@ -1,23 +1,18 @@
 -- The first line of a text of TeX that is wrong.
-use Rattle.std.specs.Prelude.{Option, None, Some, Err, ◌↔◌, if◌then◌else◌}
-use Rattle.std.specs.Str.Lines.{lines}
-use Rattle.textwrap_dictionaries.proofs.Common.{Bool, List, ℕ, [], ap, arith, false, false≢true, inl, inr, map}
-use Rattle.textwrap_dictionaries.proofs.Common.{refl, suc, sym, true, ⊤, ◌∙◌, ◌∷◌, ◌≡◌}
-use Rattle.textwrap_dictionaries.proofs.FirstLines.{line-from, line-to}
-use Rattle.textwrap_dictionaries.proofs.FirstWords.{IsStep, step-as, words-are}
-use Rattle.textwrap_dictionaries.proofs.Skipped.{bare-text, with_bare}
-use Rattle.textwrap_dictionaries.specs.Entries.{item_said}
+use Rattle.textwrap_dictionaries.proofs.{FirstLines.{line-from, line-to}, FirstWords.{IsStep, step-as, words-are}}
+use Rattle.textwrap_dictionaries.{proofs.Skipped.{bare-text, with_bare}, specs.Entries.item_said}
 use Rattle.textwrap_dictionaries.specs.Faults.{IsFirstWrongItem, IsFirstWrongTex, IsWrongTex, is_of_end}
 use Rattle.textwrap_dictionaries.specs.Laws.{AreTex, uncommented}
+use Rattle.textwrap_dictionaries.specs.Parsing.{closed_text, is_group, opened, opened_text, outside_fault, parsed}
+use Rattle.textwrap_dictionaries.specs.Parsing.{tex_after, fault_said as fault_saids, tex_said, text_said}
+use Rattle.textwrap_dictionaries.specs.Parsing.{unmarked, words_between}
+use Rattle.textwrap_dictionaries.specs.declared.entries.Section.{Section, TheVariants.Preamble}
+use Rattle.textwrap_dictionaries.specs.declared.errors.{Fault.Fault, ParseError.TheVariants.Line}
 use Rattle.textwrap_patterns.specs.Listed.{Listed}
-use Rattle.textwrap_dictionaries.specs.Parsing.{closed_text, is_group}
-use Rattle.textwrap_dictionaries.specs.Parsing.{opened, opened_text, outside_fault, parsed, tex_after}
-use Rattle.textwrap_dictionaries.specs.Parsing.{fault_said as fault_saids, tex_said, text_said, unmarked, words_between}
-use Rattle.textwrap_dictionaries.specs.declared.entries.Section.{Section}
-use Rattle.textwrap_dictionaries.specs.declared.entries.Section.TheVariants.{Preamble}
-use Rattle.textwrap_dictionaries.specs.declared.errors.Fault.{Fault}
+use Rattle.textwrap_text.proofs.Common.{Option, None, Some, Err, ◌↔◌, if◌then◌else◌, lines, Bool, List, ℕ, [], ap}
+use Rattle.textwrap_text.proofs.Common.{arith, false, false≢true, inl, inr, map, refl, suc, sym, true, ⊤, ◌∙◌}
+use Rattle.textwrap_text.proofs.Common.{◌∷◌, ◌≡◌}
 use Rattle.textwrap_dictionaries.specs.declared.errors.Fault.TheVariants as fault
-use Rattle.textwrap_dictionaries.specs.declared.errors.ParseError.TheVariants.{Line}
 
 abbrev Anything : Listed → Type 0
 Anything k = ⊤

@@ -1,16 +1,13 @@
 -- Of words one after another the first that is wrong.
-use Rattle.std.specs.Prelude.{Ok, Err}
-use Rattle.textwrap_dictionaries.proofs.Common.{List, ℕ, [], ap, arith, inl, inr, length, map, refl, sym, ⊤, ◌∙◌}
-use Rattle.textwrap_dictionaries.proofs.Common.{◌∷◌, ◌≡◌, ◌⊎◌}
 use Rattle.textwrap_dictionaries.proofs.FirstWrong.{IsJudgedItem, item-judged, item-wrong}
 use Rattle.textwrap_dictionaries.specs.Entries.{Said, NextGroup, Wrong, item_said}
 use Rattle.textwrap_dictionaries.specs.Faults.{IsFirstWrongItem, IsWrongItem}
+use Rattle.textwrap_dictionaries.specs.{Parsing.with_all, declared.entries.Section.Section}
+use Rattle.textwrap_dictionaries.specs.declared.errors.{Fault.Fault, ParseError.TheVariants.Line}
 use Rattle.textwrap_patterns.specs.Listed.{Listed}
-use Rattle.textwrap_dictionaries.specs.Parsing.{with_all}
-use Rattle.textwrap_dictionaries.specs.declared.entries.Section.{Section}
-use Rattle.textwrap_dictionaries.specs.declared.errors.Fault.{Fault}
+use Rattle.textwrap_text.proofs.Common.{Ok, Err, List, ℕ, [], ap, arith, inl, inr, length, map, refl, sym, ⊤}
+use Rattle.textwrap_text.proofs.Common.{◌∙◌, ◌∷◌, ◌≡◌, ◌⊎◌}
 use Rattle.textwrap_dictionaries.specs.declared.errors.Fault.TheVariants as fault
-use Rattle.textwrap_dictionaries.specs.declared.errors.ParseError.TheVariants.{Line}
 
 -- a line is wrong in one way, or it is not and reading goes on with this
 abbrev pub IsStep : (Listed → Type 0) → ℕ → List Said → Listed → (Fault → Type 0) → Type 0

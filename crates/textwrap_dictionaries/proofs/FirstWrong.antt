@@ -1,29 +1,23 @@
 -- What is wrong with a line of a list, and the first line that is wrong.
-use Rattle.std.specs.Prelude.{Option, None, Some, ◌||◌, ◌≢◌, ◌⊎◌, if◌then◌else◌, chars, codes}
-use Rattle.std.specs.Prelude.{is_some, nat_lt}
-use Rattle.std.specs.Prelude.{not}
-use Rattle.std.specs.Str.{trim}
-use Rattle.textwrap_text.proofs.Lists.Parts.{starts_with-rest}
+use Rattle.std.{proofs.Common.chars, specs.Str.trim}
 use Rattle.textwrap_dictionaries.proofs.Gaps.{exception-gap}
-use Rattle.textwrap_dictionaries.proofs.Common.{Bool, List, ℕ, ap, cases_Bool, drop, false, false≢true}
-use Rattle.textwrap_dictionaries.proofs.Common.{inl, inr, length, refl, subst, sym, true, ⊤, ◌++◌, ◌∙◌}
-use Rattle.textwrap_dictionaries.proofs.Common.{◌≡◌}
 use Rattle.textwrap_dictionaries.specs.Entries.{Said, Pattern, Changed, Left, Right, CompoundLeft, CompoundRight}
 use Rattle.textwrap_dictionaries.specs.Entries.{NextGroup, Nothing, Wrong, are_joints, begins, beside_said}
 use Rattle.textwrap_dictionaries.specs.Entries.{command_said, exception_or_fault, exception_said, is_exception}
-use Rattle.textwrap_dictionaries.specs.Entries.{hyphens_past, is_unknown, item_said, letters_between}
-use Rattle.textwrap_patterns.specs.Changes.{number_of, text_before, without_changes}
-use Rattle.textwrap_dictionaries.specs.Entries.{changed_by, changed_said, changes_at, slashed_said, unslashed_said}
-use Rattle.textwrap_dictionaries.specs.Entries.{has_sign, has_slash, number_or_fault, pattern_said, word_said}
+use Rattle.textwrap_dictionaries.specs.Entries.{hyphens_past, is_unknown, item_said, letters_between, changed_by}
+use Rattle.textwrap_dictionaries.specs.Entries.{changed_said, changes_at, slashed_said, unslashed_said, has_sign}
+use Rattle.textwrap_dictionaries.specs.Entries.{has_slash, number_or_fault, pattern_said, word_said}
 use Rattle.textwrap_dictionaries.specs.Faults.{IsClean, IsFirstWrongItem, IsLong, IsOther, IsSlashed, IsWrong}
-use Rattle.textwrap_dictionaries.specs.Faults.{IsWrongItem, IsWrongWord, LacksNumber, begins_word, has_gap, is_silent}
-use Rattle.textwrap_dictionaries.specs.Faults.{listed_in}
-use Rattle.textwrap_patterns.specs.Listed.{PatternText, exception_text}
-use Rattle.textwrap_dictionaries.specs.Parsing.{words_between}
-use Rattle.textwrap_patterns.specs.Written.{letters_written, pattern_written}
-use Rattle.textwrap_patterns.specs.declared.changes.Region.{Region}
-use Rattle.textwrap_dictionaries.specs.declared.entries.Section.{Section}
-use Rattle.textwrap_dictionaries.specs.declared.errors.Fault.{Fault}
+use Rattle.textwrap_dictionaries.specs.Faults.{IsWrongItem, IsWrongWord, LacksNumber, begins_word, has_gap}
+use Rattle.textwrap_dictionaries.specs.{Faults.is_silent, Faults.listed_in, Parsing.words_between}
+use Rattle.textwrap_dictionaries.specs.declared.{entries.Section.Section, errors.Fault.Fault}
+use Rattle.textwrap_patterns.specs.Changes.{number_of, text_before, without_changes}
+use Rattle.textwrap_patterns.specs.{Listed.PatternText, Listed.exception_text, Written.letters_written}
+use Rattle.textwrap_patterns.specs.{Written.pattern_written, declared.changes.Region.Region}
+use Rattle.textwrap_text.proofs.Common.{Option, None, Some, ◌||◌, ◌≢◌, ◌⊎◌, if◌then◌else◌, codes, is_some, nat_lt}
+use Rattle.textwrap_text.proofs.Common.{not, Bool, List, ℕ, ap, cases_Bool, drop, false, false≢true, inl, inr}
+use Rattle.textwrap_text.proofs.Common.{length, refl, subst, sym, true, ⊤, ◌++◌, ◌∙◌, ◌≡◌}
+use Rattle.textwrap_text.proofs.Lists.Parts.{starts_with-rest}
 use Rattle.textwrap_dictionaries.specs.declared.errors.Fault.TheVariants as fault
 
 -- ---- what a line says is wrong where the line is

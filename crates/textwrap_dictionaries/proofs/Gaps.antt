@@ -1,15 +1,12 @@
 -- Hyphens between letters, and parts between hyphens.
-use Rattle.std.specs.Prelude.{nat_lt, not, ◌&&◌}
-use Rattle.std.specs.List.{list_any, onto_first, slice_split}
 use Rattle.std.proofs.lemmas.List.Splits.{length-slice_split, slice_split-cons_no, slice_split-cons_yes}
-use Rattle.textwrap_text.proofs.Common.{le-ltb, lt-ltb, ltb-false}
-use Rattle.textwrap_dictionaries.proofs.Common.{Bool, List, ℕ, [], ap, arith, cases_Bool, drop, false, inl, inr}
-use Rattle.textwrap_dictionaries.proofs.Common.{length, refl, suc, sym, true, ◌+◌, ◌<◌, ◌∙◌, ◌∷◌, ◌≡◌, ◌⊎◌}
 use Rattle.textwrap_dictionaries.proofs.Said.{hyphen-here, letter-here}
 use Rattle.textwrap_dictionaries.specs.Entries.{hyphens_past, is_hyphen_sign, letters_between}
-use Rattle.textwrap_dictionaries.specs.Faults.{has_gap}
-use Rattle.textwrap_dictionaries.specs.Parsing.{is_empty}
+use Rattle.textwrap_dictionaries.specs.{Faults.has_gap, Parsing.is_empty}
 use Rattle.textwrap_patterns.specs.Places.{are_places}
+use Rattle.textwrap_text.proofs.Common.{nat_lt, not, ◌&&◌, list_any, onto_first, slice_split, le-ltb, lt-ltb}
+use Rattle.textwrap_text.proofs.Common.{ltb-false, Bool, List, ℕ, [], ap, arith, cases_Bool, drop, false, inl}
+use Rattle.textwrap_text.proofs.Common.{inr, length, refl, suc, sym, true, ◌+◌, ◌<◌, ◌∙◌, ◌∷◌, ◌≡◌, ◌⊎◌}
 
 and-false : (b : Bool) → (b && false) ≡ false
 and-false false = refl

@@ -1,5 +1,4 @@
 pub mod Changed
-pub mod Common
 pub mod FirstLines
 pub mod FirstTexLines
 pub mod FirstWords

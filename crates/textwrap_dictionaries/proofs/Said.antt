@@ -1,23 +1,18 @@
 -- What stands in a dictionary: starts of lines, exceptions that are written with hyphens, and marks.
-use Rattle.std.specs.Prelude.{Option, None, Some, IfSome, IsSome, ◌↔◌, ◌&&◌, nat_lt}
-use Rattle.std.specs.Prelude.{option_map, if◌then◌else◌, ◌≢◌, Err, IsErrAnd, Ok, Result}
-use Rattle.textwrap_text.proofs.Lists.Parts.{starts_with-false, starts_with-true}
-use Rattle.textwrap_text.proofs.Common.{drop_at, false_from_ne_true, ltb-true, lt-ltb}
-use Rattle.textwrap_words.specs.Cuts.{AreNext}
-use Rattle.textwrap_dictionaries.proofs.Common.{List, ℕ, ◌≡◌, ◌∷◌, [], ◌<◌, drop, length, true}
-use Rattle.textwrap_dictionaries.proofs.Common.{false, refl, arith, Bool, suc}
-use Rattle.textwrap_dictionaries.proofs.Common.{false≢true, ◌++◌}
-use Rattle.textwrap_dictionaries.specs.Entries.{hyphens_past, is_hyphen_sign}
-use Rattle.textwrap_patterns.specs.Places.{are_places}
-use Rattle.textwrap_dictionaries.specs.Entries.{letters_between}
-use Rattle.textwrap_patterns.specs.Listed.{exception_text, exception_view}
-use Rattle.textwrap_patterns.specs.Letters.{folded}
-use Rattle.textwrap_patterns.specs.Listed.{Listed}
+use Rattle.std.proofs.Common.{Option, None, Some, IfSome, IsSome, ◌↔◌, ◌&&◌, nat_lt, option_map}
+use Rattle.std.proofs.Common.{if◌then◌else◌, ◌≢◌, Err, IsErrAnd, Ok, Result, drop_at, ltb-true}
+use Rattle.std.proofs.Common.{lt-ltb, List, ℕ, ◌≡◌, ◌∷◌, [], ◌<◌, drop, length, true, false, refl}
+use Rattle.std.proofs.Common.{arith, Bool, suc, ◌++◌}
+use Rattle.textwrap_dictionaries.specs.Entries.{hyphens_past, is_hyphen_sign, letters_between}
 use Rattle.textwrap_dictionaries.specs.Parsing.{after_mark, and_then, Outcome, Reads}
-use Rattle.textwrap_patterns.specs.Places.{AreInnerPlaces, IsNextPlace}
 use Rattle.textwrap_dictionaries.specs.declared.errors.ParseError.{ParseError}
 use Rattle.textwrap_dictionaries.specs.declared.errors.ParseError.TheVariants.{Line, Memory}
-use Rattle.textwrap_patterns.specs.declared.patterns.Exception.{Exception}
+use Rattle.textwrap_patterns.specs.{Letters.folded, Listed.exception_text, Listed.exception_view}
+use Rattle.textwrap_patterns.specs.{Listed.Listed, Places.are_places, Places.AreInnerPlaces}
+use Rattle.textwrap_patterns.specs.{Places.IsNextPlace, declared.patterns.Exception.Exception}
+use Rattle.textwrap_text.proofs.Common.{false_from_ne_true, false≢true}
+use Rattle.textwrap_text.proofs.Lists.Parts.{starts_with-false, starts_with-true}
+use Rattle.textwrap_words.proofs.Common.{AreNext}
 
 -- the test of places says whether they are inner ones
 pub places-are : (len last : ℕ) (places : List ℕ) → AreNext (IsNextPlace len) places last

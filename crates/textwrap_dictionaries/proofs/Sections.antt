@@ -1,25 +1,20 @@
 -- The parts of a text of TeX, and what is read by them.
-use Rattle.std.specs.Prelude.{Option, None, Some, Ok, Err, ◌↔◌, ◌||◌}
-use Rattle.std.specs.List.{flat_map}
-use Rattle.std.specs.Str.Lines.{lines}
-use Rattle.textwrap_dictionaries.proofs.Common.{All, All-cons, All-head, All-nil, All-tail, Bool, List, ℕ, [], ap, append_assoc}
-use Rattle.textwrap_dictionaries.proofs.Common.{cases_Bool, false, false≢true, inl, inr, length, map, refl, subst, suc, sym, true}
-use Rattle.textwrap_dictionaries.proofs.Common.{◌++◌, ◌∙◌, ◌∷◌, ◌≡◌, ◌⊎◌}
-use Rattle.textwrap_dictionaries.proofs.Said.{then-read}
-use Rattle.textwrap_dictionaries.proofs.Skipped.{all-shifted, bare-text, then-same, with_bare}
-use Rattle.textwrap_dictionaries.specs.Entries.{Said}
-use Rattle.textwrap_dictionaries.specs.Laws.{AreTex, uncommented, without_line}
-use Rattle.textwrap_patterns.specs.Listed.{Listed}
-use Rattle.textwrap_dictionaries.specs.Parsing.{Outcome, after_mark, and_then, closed, closed_text, count_fault, end_fault, ended}
-use Rattle.textwrap_dictionaries.specs.Parsing.{exceptions_mark, fault_said, is_closed, is_group, no_patterns, outside_fault}
-use Rattle.textwrap_dictionaries.specs.Parsing.{parsed, patterns_mark, tex_after, tex_said, text_said, unmarked, with_all, with_said}
-use Rattle.textwrap_dictionaries.specs.Sections.{Part, Outside, Group, IsClosedBehind, IsOpened, IsTexPart, IsReadFrom}
-use Rattle.textwrap_dictionaries.specs.Sections.{has_group, lines_of, part_said, section_in}
-use Rattle.textwrap_dictionaries.specs.declared.entries.Section.{Section}
-use Rattle.textwrap_dictionaries.specs.declared.entries.Section.TheVariants.{Preamble}
+use Rattle.textwrap_dictionaries.proofs.{Said.then-read, Skipped.{all-shifted, bare-text, then-same, with_bare}}
+use Rattle.textwrap_dictionaries.specs.{Entries.Said, Laws.{AreTex, uncommented, without_line}}
+use Rattle.textwrap_dictionaries.specs.Parsing.{Outcome, after_mark, and_then, closed, closed_text, count_fault}
+use Rattle.textwrap_dictionaries.specs.Parsing.{end_fault, ended, exceptions_mark, fault_said, is_closed}
+use Rattle.textwrap_dictionaries.specs.Parsing.{is_group, no_patterns, outside_fault, parsed, patterns_mark}
+use Rattle.textwrap_dictionaries.specs.Parsing.{tex_after, tex_said, text_said, unmarked, with_all, with_said}
+use Rattle.textwrap_dictionaries.specs.Sections.{Part, Outside, Group, IsClosedBehind, IsOpened, IsTexPart}
+use Rattle.textwrap_dictionaries.specs.Sections.{IsReadFrom, has_group, lines_of, part_said, section_in}
+use Rattle.textwrap_dictionaries.specs.declared.entries.Section.{Section, TheVariants.Preamble}
 use Rattle.textwrap_dictionaries.specs.declared.entries.Section.TheVariants.{Patterns, Exceptions, Behind}
-use Rattle.textwrap_dictionaries.specs.declared.errors.Fault.{Fault}
-use Rattle.textwrap_dictionaries.specs.declared.errors.ParseError.TheVariants.{Memory, Line}
+use Rattle.textwrap_dictionaries.specs.declared.errors.{Fault.Fault, ParseError.TheVariants.{Memory, Line}}
+use Rattle.textwrap_patterns.specs.Listed.{Listed}
+use Rattle.textwrap_text.proofs.Common.{Option, None, Some, Ok, Err, ◌↔◌, ◌||◌, flat_map, lines, All, All-cons}
+use Rattle.textwrap_text.proofs.Common.{All-head, All-nil, All-tail, Bool, List, ℕ, [], ap, append_assoc}
+use Rattle.textwrap_text.proofs.Common.{cases_Bool, false, false≢true, inl, inr, length, map, refl, subst, suc}
+use Rattle.textwrap_text.proofs.Common.{sym, true, ◌++◌, ◌∙◌, ◌∷◌, ◌≡◌, ◌⊎◌}
 
 -- ---- what lines say, without their numbers
 

@@ -1,23 +1,20 @@
 -- Lines that say nothing.
-use Rattle.std.specs.Prelude.{Option, None, Some, Ok, Err, ◌==◌, ◌&&◌, ◌||◌, if◌then◌else◌, is_some, not}
 use Rattle.std.specs.Str.{trim}
-use Rattle.std.specs.Str.Lines.{lines}
-use Rattle.textwrap_dictionaries.proofs.Common.{All, All-head, All-tail, Bool, List, ℕ, [], ap, arith, false}
-use Rattle.textwrap_dictionaries.proofs.Common.{length, map, nat_tests, refl, suc, sym, true, false≢true}
-use Rattle.textwrap_dictionaries.proofs.Common.{◌++◌, ◌∙◌, ◌∷◌, ◌≡◌}
-use Rattle.textwrap_dictionaries.specs.Entries.{Said}
-use Rattle.textwrap_dictionaries.specs.Entries.{NextGroup, Wrong, is_list}
-use Rattle.textwrap_dictionaries.specs.Faults.{are_among, is_comment, is_silent, listed_in, marks_exceptions}
-use Rattle.textwrap_dictionaries.specs.Laws.{AreListed, AreTex, uncommented, without_line}
-use Rattle.textwrap_patterns.specs.Listed.{Listed}
-use Rattle.textwrap_dictionaries.specs.Parsing.{Outcome, after_mark, and_then, begins_exceptions, ends_exceptions, comment_in, exceptions_mark, end_fault, ended}
-use Rattle.textwrap_dictionaries.specs.Parsing.{is_minima, is_skipped, is_tex, line_said, listed_said}
-use Rattle.textwrap_dictionaries.specs.Parsing.{names_minima, opened, patterns_mark, parsed, section_after}
-use Rattle.textwrap_dictionaries.specs.Parsing.{tex_after, tex_said, unmarked, with_all, with_lines, no_patterns}
-use Rattle.textwrap_dictionaries.specs.declared.entries.Section.{Section}
+use Rattle.textwrap_dictionaries.specs.{Entries.{Said, NextGroup, Wrong, is_list}, Faults.{are_among, is_comment}}
+use Rattle.textwrap_dictionaries.specs.{Faults.{is_silent, listed_in, marks_exceptions}, Laws.{AreListed, AreTex}}
+use Rattle.textwrap_dictionaries.specs.{Laws.{uncommented, without_line}, Parsing.{Outcome, after_mark}}
+use Rattle.textwrap_dictionaries.specs.Parsing.{and_then, begins_exceptions, ends_exceptions, comment_in}
+use Rattle.textwrap_dictionaries.specs.Parsing.{exceptions_mark, end_fault, ended, is_minima, is_skipped, is_tex}
+use Rattle.textwrap_dictionaries.specs.Parsing.{line_said, listed_said, names_minima, opened, patterns_mark}
+use Rattle.textwrap_dictionaries.specs.Parsing.{parsed, section_after, tex_after, tex_said, unmarked, with_all}
+use Rattle.textwrap_dictionaries.specs.{Parsing.{with_lines, no_patterns}, declared.entries.Section.Section}
 use Rattle.textwrap_dictionaries.specs.declared.entries.Section.TheVariants.{Start, Listing, Words, Preamble}
-use Rattle.textwrap_dictionaries.specs.declared.entries.Section.TheVariants.{Minima}
-use Rattle.textwrap_dictionaries.specs.declared.errors.Fault.{Fault}
+use Rattle.textwrap_dictionaries.specs.declared.{entries.Section.TheVariants.Minima, errors.Fault.Fault}
+use Rattle.textwrap_patterns.specs.Listed.{Listed}
+use Rattle.textwrap_text.proofs.Common.{Option, None, Some, Ok, Err, ◌==◌, ◌&&◌, ◌||◌, if◌then◌else◌, is_some}
+use Rattle.textwrap_text.proofs.Common.{not, lines, All, All-head, All-tail, Bool, List, ℕ, [], ap, arith, false}
+use Rattle.textwrap_text.proofs.Common.{length, map, nat_tests, refl, suc, sym, true, false≢true, ◌++◌, ◌∙◌, ◌∷◌}
+use Rattle.textwrap_text.proofs.Common.{◌≡◌}
 
 -- ---- the numbers of lines
 

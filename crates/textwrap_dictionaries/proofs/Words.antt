@@ -1,25 +1,19 @@
 -- Words of dictionaries that are written, as they are read.
-use Rattle.std.specs.Prelude.{◌==◌, ◌&&◌, ◌||◌, not, nat_lt}
 use Rattle.std.proofs.lemmas.List.Folds.{list_any_none}
-use Rattle.textwrap_text.proofs.Common.{All-weaker, and_parts, eqb-false, eqb-true, le-ltb, ltb-true, scalar}
-use Rattle.textwrap_words.specs.Cuts.{AreNext}
-use Rattle.textwrap_patterns.proofs.Ascii.{each-of}
-use Rattle.textwrap_dictionaries.proofs.Common.{All, All-cons, All-head, All-nil, All-tail, Bool, List, [], ap, arith}
-use Rattle.textwrap_dictionaries.proofs.Common.{cases_Bool, false, false≢true, inl, inr, length, refl}
-use Rattle.textwrap_dictionaries.proofs.Common.{suc, sym, true, ⊤, ℕ, ◌+◌, ◌<◌, ◌∙◌, ◌∷◌, ◌≡◌, ◌≤◌}
 use Rattle.textwrap_dictionaries.proofs.Said.{hyphen-here, letter-here, places-are}
-use Rattle.textwrap_patterns.proofs.WrittenPatterns.{letters-digit, letters-letter}
 use Rattle.textwrap_dictionaries.specs.Dictionaries.{IsException, IsPattern, hyphened, is_bare, is_plain}
-use Rattle.textwrap_dictionaries.specs.Dictionaries.{pattern_line}
-use Rattle.textwrap_dictionaries.specs.Entries.{Pattern, Exception}
+use Rattle.textwrap_dictionaries.specs.{Dictionaries.pattern_line, Entries.Pattern, Entries.Exception}
 use Rattle.textwrap_dictionaries.specs.Entries.{has_digit, has_hyphen, has_sign, has_slash, hyphens_past}
-use Rattle.textwrap_dictionaries.specs.Entries.{is_exception, is_hyphen_sign, is_sign, letters_between}
-use Rattle.textwrap_dictionaries.specs.Entries.{word_said}
-use Rattle.textwrap_patterns.specs.Letters.{folded}
-use Rattle.textwrap_patterns.specs.Listed.{ExceptionText, PatternText}
-use Rattle.textwrap_patterns.specs.Places.{IsNextPlace}
-use Rattle.textwrap_patterns.specs.Written.{is_digit, letters_written, levels_written}
+use Rattle.textwrap_dictionaries.specs.Entries.{is_exception, is_hyphen_sign, is_sign, letters_between, word_said}
 use Rattle.textwrap_dictionaries.specs.declared.entries.Section.{Section, TheVariants.Listing}
+use Rattle.textwrap_patterns.proofs.{Ascii.each-of, WrittenPatterns.letters-digit, WrittenPatterns.letters-letter}
+use Rattle.textwrap_patterns.specs.{Letters.folded, Listed.ExceptionText, Listed.PatternText, Places.IsNextPlace}
+use Rattle.textwrap_patterns.specs.Written.{is_digit, letters_written, levels_written}
+use Rattle.textwrap_text.proofs.Common.{◌==◌, ◌&&◌, ◌||◌, not, nat_lt, All-weaker, and_parts, eqb-false, eqb-true}
+use Rattle.textwrap_text.proofs.Common.{le-ltb, ltb-true, scalar, All, All-cons, All-head, All-nil, All-tail}
+use Rattle.textwrap_text.proofs.Common.{Bool, List, [], ap, arith, cases_Bool, false, false≢true, inl, inr}
+use Rattle.textwrap_text.proofs.Common.{length, refl, suc, sym, true, ⊤, ℕ, ◌+◌, ◌<◌, ◌∙◌, ◌∷◌, ◌≡◌, ◌≤◌}
+use Rattle.textwrap_words.proofs.Common.{AreNext}
 
 -- ---- characters
 

@@ -1,38 +1,26 @@
 -- Texts that are written from patterns and exceptions, as they are read.
-use Rattle.std.specs.Prelude.{None, ◌==◌, ◌&&◌, ◌||◌, not, nat_le, nat_lt, chars}
-use Rattle.std.specs.Char.{is_ascii_uppercase, is_whitespace}
-use Rattle.std.specs.List.{prefix_len, slice_split}
-use Rattle.std.specs.Str.{NonePass, drop_trailing_whitespace, encode_utf8_all, skip_leading_whitespace, trim}
-use Rattle.std.specs.Str.{trim_end, trim_start}
-use Rattle.std.specs.Str.Lines.{lines, strip_carriage_return}
-use Rattle.std.proofs.lemmas.List.Splits.{slice_split_none}
-use Rattle.std.proofs.lemmas.List.{take_all}
+use Rattle.std.proofs.{Common.{nat_le, chars, leb-true}, lemmas.List.Splits.slice_split_none}
 use Rattle.std.proofs.lemmas.Str.{NoCharPasses-byte, char_from_byte, chars-encodes, length-le-encodes}
-use Rattle.textwrap_text.proofs.Common.{All-from_get_or, All-weaker, and_parts}
-use Rattle.textwrap_text.proofs.Common.{cases_lt, eqb-false, eqb-true, le-ltb, ltb-true, ne_eqb, nat_tests, not-true, scalar}
-use Rattle.textwrap_text.proofs.TextLines.{lines-front}
-use Rattle.textwrap_dictionaries.proofs.Common.{All, All-head, All-tail, Bool, List}
-use Rattle.textwrap_dictionaries.proofs.Common.{[], ap, arith, cases_Bool, false}
-use Rattle.textwrap_dictionaries.proofs.Common.{false≢true, get_or, inl, inr, length, map, refl, subst, sym, take}
-use Rattle.textwrap_dictionaries.proofs.Common.{◌-◌, ◌⊎◌}
-use Rattle.textwrap_patterns.proofs.Ascii.{each-of}
-use Rattle.std.proofs.lemmas.Bool.{leb-true}
+use Rattle.std.specs.Char.{is_ascii_uppercase, is_whitespace, Unicode.Rows.{by_runs, by_strings}}
 use Rattle.std.specs.Char.Unicode.ToLowercase.{lowercase_runs, lowercase_strings, to_lowercase}
-use Rattle.std.specs.Char.Unicode.Rows.{by_runs, by_strings}
-use Rattle.textwrap_patterns.specs.Letters.{folded}
-use Rattle.textwrap_patterns.specs.Places.{AreInnerPlaces}
-use Rattle.textwrap_dictionaries.proofs.Common.{true, ℕ, ◌+◌, ◌<◌, ◌∙◌, ◌∷◌, ◌≡◌, ◌≢◌, ◌≤◌}
+use Rattle.std.specs.Str.{NonePass, drop_trailing_whitespace, skip_leading_whitespace, trim, trim_end, trim_start}
+use Rattle.textwrap_dictionaries.proofs.Skipped.{comment-skipped}
 use Rattle.textwrap_dictionaries.proofs.Words.{AreShown, Bare, bare, is_shown, shown-parts}
 use Rattle.textwrap_dictionaries.specs.Dictionaries.{hyphened, is_bare, pattern_line, text_of_lines}
-use Rattle.textwrap_dictionaries.specs.Entries.{Said, command_said, is_command, is_list, is_sign, is_unknown, word_said}
-use Rattle.textwrap_patterns.specs.Changes.{before}
-use Rattle.textwrap_dictionaries.proofs.Skipped.{comment-skipped}
-use Rattle.textwrap_dictionaries.specs.Parsing.{before_comment, is_closed, is_group}
-use Rattle.textwrap_dictionaries.specs.Parsing.{line_said, list_after, listed_said, section_after, tex_after, tex_said}
-use Rattle.textwrap_dictionaries.specs.Parsing.{text_said}
-use Rattle.textwrap_dictionaries.specs.declared.entries.Section.{Section}
-use Rattle.textwrap_dictionaries.specs.declared.entries.Section.TheVariants.{Listing}
-use Rattle.textwrap_dictionaries.specs.declared.entries.Section.TheVariants.{Patterns, Exceptions}
+use Rattle.textwrap_dictionaries.specs.Entries.{Said, command_said, is_command, is_list, is_sign, is_unknown}
+use Rattle.textwrap_dictionaries.specs.{Entries.word_said, Parsing.{before_comment, is_closed, is_group}}
+use Rattle.textwrap_dictionaries.specs.Parsing.{line_said, list_after, listed_said, section_after, tex_after}
+use Rattle.textwrap_dictionaries.specs.{Parsing.{tex_said, text_said}, declared.entries.Section.Section}
+use Rattle.textwrap_dictionaries.specs.declared.entries.Section.TheVariants.{Listing, Patterns, Exceptions}
+use Rattle.textwrap_patterns.proofs.Ascii.{each-of}
+use Rattle.textwrap_patterns.specs.{Changes.before, Letters.folded, Places.AreInnerPlaces}
+use Rattle.textwrap_text.proofs.Common.{None, ◌==◌, ◌&&◌, ◌||◌, not, nat_lt, prefix_len, slice_split}
+use Rattle.textwrap_text.proofs.Common.{encode_utf8_all, lines, strip_carriage_return, take_all, All-from_get_or}
+use Rattle.textwrap_text.proofs.Common.{All-weaker, and_parts, cases_lt, eqb-false, eqb-true, le-ltb, ltb-true}
+use Rattle.textwrap_text.proofs.Common.{ne_eqb, nat_tests, not-true, scalar, All, All-head, All-tail, Bool, List}
+use Rattle.textwrap_text.proofs.Common.{[], ap, arith, cases_Bool, false, false≢true, get_or, inl, inr, length}
+use Rattle.textwrap_text.proofs.Common.{map, refl, subst, sym, take, ◌-◌, ◌⊎◌, true, ℕ, ◌+◌, ◌<◌, ◌∙◌, ◌∷◌, ◌≡◌}
+use Rattle.textwrap_text.proofs.{Common.{◌≢◌, ◌≤◌}, TextLines.lines-front}
 
 -- ---- texts of characters that are no blanks
 

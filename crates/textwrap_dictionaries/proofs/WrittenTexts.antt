@@ -1,28 +1,23 @@
 -- Texts that are written from patterns and exceptions, as they are read.
-use Rattle.std.specs.Prelude.{None, Ok, ◌==◌, ◌&&◌, codes}
-use Rattle.std.specs.List.{list_all}
-use Rattle.std.specs.Str.{chars, encode_utf8_all, trim_end, trim_start}
-use Rattle.std.specs.Str.Lines.{lines}
-use Rattle.textwrap_text.proofs.Common.{All-map, All-weaker, and_parts, eqb-true, le-ltb, map-append}
-use Rattle.textwrap_dictionaries.proofs.Common.{All, All-append, All-cons, All-head, All-nil, All-tail, List}
-use Rattle.textwrap_dictionaries.proofs.Common.{[], ap, append-nil, append_assoc, arith, cases_Bool, false, inl, inr}
-use Rattle.textwrap_dictionaries.proofs.Common.{length, map, refl, subst, suc, sym, true, ℕ, ◌+◌, ◌++◌, ◌<◌, ◌∙◌, ◌∷◌}
-use Rattle.textwrap_dictionaries.proofs.Common.{◌≡◌, ◌≤◌, ◌⊎◌}
-use Rattle.std.specs.Prelude.{◌^◌}
+use Rattle.std.specs.Str.{chars, trim_end, trim_start}
 use Rattle.textwrap_dictionaries.proofs.Words.{exception-hyphened, exception-is-said, exception-shown}
-use Rattle.textwrap_dictionaries.proofs.Words.{exception-undigited, hyphened-some, pattern-is-said, pattern-is-shown, pattern-listed, pattern-some}
+use Rattle.textwrap_dictionaries.proofs.Words.{exception-undigited, hyphened-some, pattern-is-said}
+use Rattle.textwrap_dictionaries.proofs.Words.{pattern-is-shown, pattern-listed, pattern-some}
 use Rattle.textwrap_dictionaries.proofs.WrittenLines.{AreInk, IsRead, exceptions-word, hyphened-begun, is_ink}
 use Rattle.textwrap_dictionaries.proofs.WrittenLines.{level-begun, list-word, patterns-word, text-lines, word-ink}
-use Rattle.textwrap_dictionaries.specs.Dictionaries.{IsException, IsPattern, exception_lines, group_lines, hyphened}
-use Rattle.textwrap_dictionaries.specs.Dictionaries.{list_lines, pattern_line, pattern_lines, tex_lines, text_of_lines}
-use Rattle.textwrap_dictionaries.specs.Entries.{Said, Pattern, Exception, NextGroup}
-use Rattle.textwrap_dictionaries.specs.Laws.{AreWritable}
-use Rattle.textwrap_patterns.specs.Listed.{ExceptionText, Listed, PatternText, listed}
-use Rattle.textwrap_dictionaries.specs.Parsing.{and_then, count_fault, line_said, no_patterns, parsed, section_after}
-use Rattle.textwrap_dictionaries.specs.Parsing.{unmarked, with_all, with_lines, with_said}
-use Rattle.textwrap_dictionaries.specs.declared.entries.Section.{Section}
-use Rattle.textwrap_dictionaries.specs.declared.entries.Section.TheVariants.{Start, Listing}
+use Rattle.textwrap_dictionaries.specs.Dictionaries.{IsException, IsPattern, exception_lines, group_lines}
+use Rattle.textwrap_dictionaries.specs.Dictionaries.{hyphened, list_lines, pattern_line, pattern_lines, tex_lines}
+use Rattle.textwrap_dictionaries.specs.{Dictionaries.text_of_lines, Entries.{Said, Pattern, Exception, NextGroup}}
+use Rattle.textwrap_dictionaries.specs.{Laws.AreWritable, Parsing.{and_then, count_fault, line_said, no_patterns}}
+use Rattle.textwrap_dictionaries.specs.Parsing.{parsed, section_after, unmarked, with_all, with_lines, with_said}
+use Rattle.textwrap_dictionaries.specs.declared.entries.Section.{Section, TheVariants.{Start, Listing}}
 use Rattle.textwrap_dictionaries.specs.declared.entries.Section.TheVariants.{Patterns, Exceptions, Behind}
+use Rattle.textwrap_patterns.specs.Listed.{ExceptionText, Listed, PatternText, listed}
+use Rattle.textwrap_text.proofs.Common.{None, Ok, ◌==◌, ◌&&◌, codes, list_all, encode_utf8_all, lines, All-map}
+use Rattle.textwrap_text.proofs.Common.{All-weaker, and_parts, eqb-true, le-ltb, map-append, All, All-append}
+use Rattle.textwrap_text.proofs.Common.{All-cons, All-head, All-nil, All-tail, List, [], ap, append-nil}
+use Rattle.textwrap_text.proofs.Common.{append_assoc, arith, cases_Bool, false, inl, inr, length, map, refl}
+use Rattle.textwrap_text.proofs.Common.{subst, suc, sym, true, ℕ, ◌+◌, ◌++◌, ◌<◌, ◌∙◌, ◌∷◌, ◌≡◌, ◌≤◌, ◌⊎◌, ◌^◌}
 
 -- ---- one line after another
 

@@ -3,10 +3,8 @@ use Rattle.std.specs.Prelude.{◌≡◌, ℕ, suc, ◌+◌, ◌<◌, ◌≤◌, 
 use Rattle.std.specs.Prelude.{◌++◌, All, codes, if◌then◌else◌, length, map, nat_lt}
 use Rattle.std.specs.Str.{all_scalars, encode_utf8_all}
 use Rattle.textwrap_dictionaries.specs.Entries.{is_hyphen_sign, is_sign}
-use Rattle.textwrap_patterns.specs.Letters.{folded}
-use Rattle.textwrap_patterns.specs.Listed.{ExceptionText, PatternText}
-use Rattle.textwrap_patterns.specs.Places.{AreInnerPlaces}
-use Rattle.textwrap_patterns.specs.Written.{is_digit}
+use Rattle.textwrap_patterns.specs.{Letters.folded, Listed.ExceptionText, Listed.PatternText}
+use Rattle.textwrap_patterns.specs.{Places.AreInnerPlaces, Written.is_digit}
 
 -- ---- what can be written
 

@@ -1,31 +1,26 @@
 -- What the words and the lines of a dictionary say: a pattern, an exception, how many letters stay
 -- before or behind a hyphen, or what is wrong.
-use Rattle.std.specs.Prelude.{ℕ, suc, Bool, true, false, ◌==◌, ◌&&◌, ◌||◌, not}
-use Rattle.std.specs.Prelude.{List, [], ◌∷◌, Option, None, Some, chars, codes, drop, filter, length}
-use Rattle.std.specs.Prelude.{if◌then◌else◌, map, nat_eq, nat_lt}
-use Rattle.std.specs.Char.{is_whitespace}
-use Rattle.std.specs.Char.{is_ascii_uppercase}
-use Rattle.std.specs.List.{list_all, list_any, starts_with}
-use Rattle.std.specs.Option.{option_or}
+use Rattle.std.specs.Char.{is_whitespace, is_ascii_uppercase}
+use Rattle.std.specs.{List.list_all, List.list_any, List.starts_with, Option.option_or}
+use Rattle.std.specs.Prelude.{ℕ, suc, Bool, true, false, ◌==◌, ◌&&◌, ◌||◌, not, List, [], ◌∷◌, Option}
+use Rattle.std.specs.Prelude.{None, Some, chars, codes, drop, filter, length, if◌then◌else◌, map}
+use Rattle.std.specs.Prelude.{nat_eq, nat_lt}
 use Rattle.std.specs.Str.{trim}
-use Rattle.textwrap_patterns.specs.Listed.{ExceptionText, exception_text, exception_view}
-use Rattle.textwrap_patterns.specs.Places.{are_places}
-use Rattle.textwrap_patterns.specs.Changes.{number_of, region_said, text_before, text_behind}
-use Rattle.textwrap_patterns.specs.Changes.{without_changes}
-use Rattle.textwrap_patterns.specs.Charsets.{names_charset, plain_name}
-use Rattle.textwrap_patterns.specs.Letters.{apostrophe, curly_apostrophe, folded, is_hyphen_character}
-use Rattle.textwrap_patterns.specs.Listed.{PatternText, pattern_view}
-use Rattle.textwrap_patterns.specs.Written.{is_digit, letters_written, pattern_written}
-use Rattle.textwrap_patterns.specs.declared.changes.Region.{Region}
-use Rattle.textwrap_dictionaries.specs.declared.entries.Entry as program
-use Rattle.textwrap_dictionaries.specs.declared.entries.Entry.TheVariants as entry
 use Rattle.textwrap_dictionaries.specs.declared.entries.Section.{Section}
 use Rattle.textwrap_dictionaries.specs.declared.entries.Section.TheVariants.{Start, Listing, Words}
-use Rattle.textwrap_dictionaries.specs.declared.entries.Section.TheVariants.{Patterns}
-use Rattle.textwrap_dictionaries.specs.declared.entries.Section.TheVariants.{Exceptions}
+use Rattle.textwrap_dictionaries.specs.declared.entries.Section.TheVariants.{Patterns, Exceptions}
 use Rattle.textwrap_dictionaries.specs.declared.errors.Fault.{Fault}
 use Rattle.textwrap_dictionaries.specs.declared.errors.Fault.TheVariants.{NoHyphen, Number, Replacement}
 use Rattle.textwrap_dictionaries.specs.declared.errors.Fault.TheVariants.{Sign, TooLong, Hyphens, Word}
+use Rattle.textwrap_patterns.specs.Changes.{number_of, region_said, text_before, text_behind}
+use Rattle.textwrap_patterns.specs.{Changes.without_changes, Charsets.names_charset}
+use Rattle.textwrap_patterns.specs.{Charsets.plain_name, Letters.apostrophe, Letters.curly_apostrophe}
+use Rattle.textwrap_patterns.specs.{Letters.folded, Letters.is_hyphen_character, Listed.ExceptionText}
+use Rattle.textwrap_patterns.specs.Listed.{exception_text, exception_view, PatternText, pattern_view}
+use Rattle.textwrap_patterns.specs.{Places.are_places, Written.is_digit, Written.letters_written}
+use Rattle.textwrap_patterns.specs.{Written.pattern_written, declared.changes.Region.Region}
+use Rattle.textwrap_dictionaries.specs.declared.entries.Entry as program
+use Rattle.textwrap_dictionaries.specs.declared.entries.Entry.TheVariants as entry
 
 pub data Said : Type 0 where
   Pattern : PatternText → Said

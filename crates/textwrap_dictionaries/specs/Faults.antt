@@ -1,18 +1,16 @@
 -- What is wrong with a line, said of this line alone, and in a text of TeX of where it stands.
-use Rattle.std.specs.Prelude.{◌≡◌, ◌≢◌, ℕ, zero, suc, ◌==◌, ◌&&◌, ◌||◌, not, Bool, true, false, List, [], ◌∷◌, ◌++◌, ◌⊎◌, None, Some}
-use Rattle.std.specs.Prelude.{chars, codes, filter, length, nat_lt}
 use Rattle.std.specs.List.{list_any, slice_split}
+use Rattle.std.specs.Prelude.{◌≡◌, ◌≢◌, ℕ, zero, suc, ◌==◌, ◌&&◌, ◌||◌, not, Bool, true, false, List, [], ◌∷◌}
+use Rattle.std.specs.Prelude.{◌++◌, ◌⊎◌, None, Some, chars, codes, filter, length, nat_lt}
 use Rattle.std.specs.Str.{trim}
-use Rattle.textwrap_patterns.specs.Changes.{number_of, text_before}
-use Rattle.textwrap_patterns.specs.Charsets.{names_charset, plain_name}
-use Rattle.textwrap_dictionaries.specs.Entries.{are_joints, begins, changes_at, has_sign, has_slash}
-use Rattle.textwrap_dictionaries.specs.Entries.{is_exception, is_hyphen_sign, is_unknown}
-use Rattle.textwrap_dictionaries.specs.Parsing.{begins_exceptions, closed_text, ends_exceptions, is_empty, is_group}
-use Rattle.textwrap_dictionaries.specs.Parsing.{opened, opened_text, outside_fault, tex_after, words_between}
-use Rattle.textwrap_patterns.specs.Written.{letters_written}
-use Rattle.textwrap_dictionaries.specs.declared.entries.Section.{Section}
-use Rattle.textwrap_dictionaries.specs.declared.entries.Section.TheVariants.{Listing, Words}
+use Rattle.textwrap_dictionaries.specs.Entries.{are_joints, begins, changes_at, has_sign, has_slash, is_exception}
+use Rattle.textwrap_dictionaries.specs.{Entries.is_hyphen_sign, Entries.is_unknown, Parsing.begins_exceptions}
+use Rattle.textwrap_dictionaries.specs.Parsing.{closed_text, ends_exceptions, is_empty, is_group, opened}
+use Rattle.textwrap_dictionaries.specs.Parsing.{opened_text, outside_fault, tex_after, words_between}
+use Rattle.textwrap_dictionaries.specs.declared.entries.Section.{Section, TheVariants.Listing, TheVariants.Words}
 use Rattle.textwrap_dictionaries.specs.declared.errors.Fault.{Fault}
+use Rattle.textwrap_patterns.specs.Changes.{number_of, text_before}
+use Rattle.textwrap_patterns.specs.{Charsets.names_charset, Charsets.plain_name, Written.letters_written}
 use Rattle.textwrap_dictionaries.specs.declared.errors.Fault.TheVariants as fault
 
 -- an empty line and a comment

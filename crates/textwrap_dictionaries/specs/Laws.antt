@@ -1,25 +1,19 @@
 -- Laws of reading: what the definition of `parsed` has to give, said without it.
-use Rattle.std.specs.Prelude.{◌≡◌, ℕ, true, false, List, [], ◌∷◌, ◌++◌, All}
-use Rattle.std.specs.Prelude.{◌+◌, ◌%◌, ◌<◌, ◌≤◌, ◌^◌, ◌↔◌, ◌⊎◌, codes, length, slice_index}
-use Rattle.std.specs.Prelude.{Option, None, Some, Result, Ok, Err, ⊤, chars, map}
-use Rattle.std.specs.Str.{trim}
-use Rattle.std.specs.Str.Lines.{lines}
-use Rattle.textwrap_patterns.specs.Changes.{text_before}
-use Rattle.textwrap_dictionaries.specs.Entries.{Changed, changes_at, word_said}
+use Rattle.std.specs.Prelude.{◌≡◌, ℕ, true, false, List, [], ◌∷◌, ◌++◌, All, ◌+◌, ◌%◌, ◌<◌, ◌≤◌, ◌^◌, ◌↔◌, ◌⊎◌}
+use Rattle.std.specs.Prelude.{codes, length, slice_index, Option, None, Some, Result, Ok, Err, ⊤, chars, map}
+use Rattle.std.specs.Str.{trim, Lines.lines}
 use Rattle.textwrap_dictionaries.specs.Dictionaries.{IsException, IsPattern, list_lines, tex_lines}
 use Rattle.textwrap_dictionaries.specs.Dictionaries.{text_of_lines}
+use Rattle.textwrap_dictionaries.specs.Entries.{Changed, changes_at, word_said}
 use Rattle.textwrap_dictionaries.specs.Faults.{IsFirstWrong, IsFirstWrongTex, groups_in, is_comment, is_of_end}
-use Rattle.textwrap_dictionaries.specs.Faults.{is_of_line}
-use Rattle.textwrap_patterns.specs.Listed.{ExceptionText, Listed, PatternText, listed}
-use Rattle.textwrap_dictionaries.specs.Parsing.{Outcome, before_comment, comment_in, is_tex, names_minima}
-use Rattle.textwrap_dictionaries.specs.Parsing.{parsed, unmarked}
-use Rattle.textwrap_dictionaries.specs.Sections.{IsReadFrom}
-use Rattle.textwrap_patterns.specs.Written.{letters_written, levels_written}
-use Rattle.textwrap_patterns.specs.declared.changes.Region.{Region}
-use Rattle.textwrap_dictionaries.specs.declared.entries.Section.{Section}
-use Rattle.textwrap_dictionaries.specs.declared.entries.Section.TheVariants.{Preamble}
-use Rattle.textwrap_dictionaries.specs.declared.errors.Fault.{Fault}
+use Rattle.textwrap_dictionaries.specs.{Faults.is_of_line, Parsing.Outcome, Parsing.before_comment}
+use Rattle.textwrap_dictionaries.specs.Parsing.{comment_in, is_tex, names_minima, parsed, unmarked}
+use Rattle.textwrap_dictionaries.specs.{Sections.IsReadFrom, declared.entries.Section.Section}
+use Rattle.textwrap_dictionaries.specs.declared.{entries.Section.TheVariants.Preamble, errors.Fault.Fault}
 use Rattle.textwrap_dictionaries.specs.declared.errors.ParseError.TheVariants.{Memory, Line}
+use Rattle.textwrap_patterns.specs.{Changes.text_before, Listed.ExceptionText, Listed.Listed}
+use Rattle.textwrap_patterns.specs.{Listed.PatternText, Listed.listed, Written.letters_written}
+use Rattle.textwrap_patterns.specs.{Written.levels_written, declared.changes.Region.Region}
 
 -- ---- comments
 

@@ -1,32 +1,25 @@
 -- A dictionary that is read from a text: line by line, up to the first that is wrong.
-use Rattle.std.specs.Prelude.{◌≡◌, ℕ, suc, Bool, true, false, ◌==◌, ◌&&◌, ◌||◌, not, List, [], ◌∷◌}
-use Rattle.std.specs.Prelude.{◌++◌, ⊤, Option, None, Some, Result, Ok, Err, chars, codes, drop, filter}
-use Rattle.std.specs.Prelude.{if◌then◌else◌, length, map, max, nat_eq, nat_lt, slice_index, take}
-use Rattle.std.specs.Prelude.{bytes_eq, min, unwrap_or, ◌+◌, ◌-◌, ◌^◌}
-use Rattle.std.specs.Char.{is_whitespace}
-use Rattle.std.specs.List.{list_any, prefix_len, slice_split, starts_with}
+use Rattle.std.specs.{Char.is_whitespace, List.list_any, List.prefix_len, List.slice_split, List.starts_with}
 use Rattle.std.specs.Option.{is_some}
-use Rattle.std.specs.Str.{trim}
-use Rattle.std.specs.Str.Lines.{lines}
-use Rattle.textwrap_patterns.specs.Changes.{before, number_of, text_before}
-use Rattle.textwrap_patterns.specs.Charsets.{decoded}
+use Rattle.std.specs.Prelude.{◌≡◌, ℕ, suc, Bool, true, false, ◌==◌, ◌&&◌, ◌||◌, not, List, [], ◌∷◌, ◌++◌, ⊤}
+use Rattle.std.specs.Prelude.{Option, None, Some, Result, Ok, Err, chars, codes, drop, filter, if◌then◌else◌}
+use Rattle.std.specs.Prelude.{length, map, max, nat_eq, nat_lt, slice_index, take, bytes_eq, min, unwrap_or}
+use Rattle.std.specs.Prelude.{◌+◌, ◌-◌, ◌^◌}
+use Rattle.std.specs.Str.{trim, Lines.lines}
 use Rattle.textwrap_dictionaries.specs.Entries.{Said, Pattern, Changed, Exception, Left, Right, CompoundLeft}
-use Rattle.textwrap_dictionaries.specs.Entries.{CompoundRight, NextGroup, Nothing}
-use Rattle.textwrap_dictionaries.specs.Entries.{Wrong, begins, is_list, is_start, item_said}
-use Rattle.textwrap_dictionaries.specs.Entries.{number_or_fault, whole_said}
-use Rattle.textwrap_patterns.specs.Listed.{Listed, exception_view, listed}
-use Rattle.textwrap_patterns.specs.Listed.{pattern_view}
-use Rattle.textwrap_patterns.specs.Written.{is_digit}
-use Rattle.textwrap_dictionaries.specs.declared.entries.Section.{Section}
-use Rattle.textwrap_dictionaries.specs.declared.entries.Section.TheVariants.{Start, Listing, Words, Preamble}
-use Rattle.textwrap_dictionaries.specs.declared.entries.Section.TheVariants.{Patterns, Exceptions}
-use Rattle.textwrap_dictionaries.specs.declared.entries.Section.TheVariants.{Behind, Minima}
+use Rattle.textwrap_dictionaries.specs.Entries.{CompoundRight, NextGroup, Nothing, Wrong, begins, is_list}
+use Rattle.textwrap_dictionaries.specs.Entries.{is_start, item_said, number_or_fault, whole_said}
+use Rattle.textwrap_dictionaries.specs.declared.entries.Section.{Section, TheVariants.Start}
+use Rattle.textwrap_dictionaries.specs.declared.entries.Section.TheVariants.{Listing, Words, Preamble, Patterns}
+use Rattle.textwrap_dictionaries.specs.declared.entries.Section.TheVariants.{Exceptions, Behind, Minima}
 use Rattle.textwrap_dictionaries.specs.declared.errors.Fault.{Fault}
 use Rattle.textwrap_dictionaries.specs.declared.errors.Fault.TheVariants.{Brace, Charset, Empty, Input}
 use Rattle.textwrap_dictionaries.specs.declared.errors.Fault.TheVariants.{NextLevel, NoGroup, TooMany, Unclosed}
-use Rattle.textwrap_dictionaries.specs.declared.errors.ParseError.{ParseError}
-use Rattle.textwrap_dictionaries.specs.declared.errors.ParseError.TheVariants.{Memory, Line}
-use Rattle.textwrap_dictionaries.specs.declared.parsing.Reading.{Reading}
+use Rattle.textwrap_dictionaries.specs.declared.errors.ParseError.{ParseError, TheVariants.Memory}
+use Rattle.textwrap_dictionaries.specs.declared.{errors.ParseError.TheVariants.Line, parsing.Reading.Reading}
+use Rattle.textwrap_patterns.specs.{Changes.before, Changes.number_of, Changes.text_before, Charsets.decoded}
+use Rattle.textwrap_patterns.specs.Listed.{Listed, exception_view, listed, pattern_view}
+use Rattle.textwrap_patterns.specs.Written.{is_digit}
 
 -- what a text says, or its first line that is wrong
 abbrev pub Outcome : Type 0

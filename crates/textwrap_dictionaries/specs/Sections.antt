@@ -1,14 +1,12 @@
 -- The sections of a text of TeX: lines outside of groups, and groups of patterns or exceptions.
-use Rattle.std.specs.Prelude.{◌≡◌, Bool, true, false, List, [], ◌∷◌, All, ℕ, None, Ok, Some}
-use Rattle.std.specs.Prelude.{length}
 use Rattle.std.specs.List.{flat_map}
-use Rattle.textwrap_dictionaries.specs.Entries.{Said}
-use Rattle.textwrap_patterns.specs.Listed.{Listed}
-use Rattle.textwrap_dictionaries.specs.Parsing.{after_mark, closed_text, count_fault, exceptions_mark, fault_said}
-use Rattle.textwrap_dictionaries.specs.Parsing.{is_closed, no_patterns, outside_fault, patterns_mark, text_said}
-use Rattle.textwrap_dictionaries.specs.Parsing.{with_all}
+use Rattle.std.specs.Prelude.{◌≡◌, Bool, true, false, List, [], ◌∷◌, All, ℕ, None, Ok, Some, length}
+use Rattle.textwrap_dictionaries.specs.{Entries.Said, Parsing.after_mark}
+use Rattle.textwrap_dictionaries.specs.Parsing.{closed_text, count_fault, exceptions_mark, fault_said, is_closed}
+use Rattle.textwrap_dictionaries.specs.Parsing.{no_patterns, outside_fault, patterns_mark, text_said, with_all}
 use Rattle.textwrap_dictionaries.specs.declared.entries.Section.{Section}
 use Rattle.textwrap_dictionaries.specs.declared.entries.Section.TheVariants.{Patterns, Exceptions}
+use Rattle.textwrap_patterns.specs.Listed.{Listed}
 
 -- a line outside of groups; or a group, of exceptions or not: its first line, the text of that line in the
 -- group, and the lines behind

@@ -1,17 +1,14 @@
 //! What the words and the lines of a dictionary say.
-ghost use Rattle.std.specs.Prelude.{◌≡◌, false, true, option_map};
-ghost use Rattle.std.specs.Prelude.{IfOk};
+ghost use Rattle.std.specs.Prelude.{◌≡◌, false, true, option_map, IfOk};
 ghost use Rattle.std.specs.Str.{trim};
-ghost use Rattle.textwrap_dictionaries.specs.Entries.{CompoundLeft, CompoundRight, Left, Right};
-ghost use Rattle.textwrap_dictionaries.specs.Entries.{are_joints, beside_said};
-ghost use Rattle.textwrap_dictionaries.specs.Entries.{command_said, number_or_fault};
-ghost use Rattle.textwrap_dictionaries.specs.Entries.{entry_view, exception_said, exception_written};
-ghost use Rattle.textwrap_dictionaries.specs.Entries.{charset_said, has_hyphen, has_digit, has_sign, has_slash};
-ghost use Rattle.textwrap_dictionaries.specs.Entries.{is_command, is_exception, is_joint, is_list, is_sign, is_start};
-ghost use Rattle.textwrap_dictionaries.specs.Entries.{is_unknown, item_said};
-ghost use Rattle.textwrap_patterns.specs.Changes.{number_of};
-ghost use Rattle.textwrap_dictionaries.specs.Entries.{changed_by, pattern_said};
+ghost use Rattle.textwrap_dictionaries.specs.Entries.{CompoundLeft, CompoundRight, Left, Right, are_joints};
+ghost use Rattle.textwrap_dictionaries.specs.Entries.{beside_said, command_said, number_or_fault, entry_view};
+ghost use Rattle.textwrap_dictionaries.specs.Entries.{exception_said, exception_written, charset_said};
+ghost use Rattle.textwrap_dictionaries.specs.Entries.{has_hyphen, has_digit, has_sign, has_slash, is_command};
+ghost use Rattle.textwrap_dictionaries.specs.Entries.{is_exception, is_joint, is_list, is_sign, is_start};
+ghost use Rattle.textwrap_dictionaries.specs.Entries.{is_unknown, item_said, changed_by, pattern_said};
 ghost use Rattle.textwrap_dictionaries.specs.Entries.{says_levels, slashed_said, whole_said, word_said};
+ghost use Rattle.textwrap_patterns.specs.Changes.{number_of};
 ghost use Rattle.textwrap_patterns.specs.Listed.{exception_view, pattern_view};
 
 use crate::errors::Fault;

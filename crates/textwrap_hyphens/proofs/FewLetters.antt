@@ -1,14 +1,11 @@
 -- A word of few letters has no place with enough of them on both sides.
-use Rattle.textwrap_hyphens.proofs.Common.{Bool, List, ap, arith, false, filter, length, length-append, length-drop, refl, true}
-use Rattle.textwrap_hyphens.proofs.Common.{ℕ, ◌+◌, ◌∙◌, ◌∷◌, ◌≡◌, []}
-use Rattle.textwrap_hyphens.specs.Hyphenation.{Hyphenation, is_allowed, is_place, part_places}
-use Rattle.textwrap_hyphens.specs.Hyphenation.{places_from}
-use Rattle.std.specs.Prelude.{not}
-use Rattle.std.proofs.lemmas.List.Elements.{filter-append}
 use Rattle.std.proofs.lemmas.List.Sums.{count_by-le-length, length-filter}
+use Rattle.textwrap_hyphens.specs.Hyphenation.{Hyphenation, is_allowed, is_place, part_places, places_from}
 use Rattle.textwrap_patterns.specs.Letters.{apostrophe, counts, has_letters}
-use Rattle.textwrap_text.proofs.Common.{cases_Bool, drop, inl, inr, sym, take}
-use Rattle.textwrap_text.proofs.Common.{nat_tests, take-append-drop, slice_index, ◌-◌, ◌==◌, ◌&&◌, ◌++◌, ◌<◌}
+use Rattle.textwrap_text.proofs.Common.{Bool, List, ap, arith, false, filter, length, length-append, length-drop}
+use Rattle.textwrap_text.proofs.Common.{refl, true, ℕ, ◌+◌, ◌∙◌, ◌∷◌, ◌≡◌, [], not, filter-append, cases_Bool}
+use Rattle.textwrap_text.proofs.Common.{drop, inl, inr, sym, take, nat_tests, take-append-drop, slice_index, ◌-◌}
+use Rattle.textwrap_text.proofs.Common.{◌==◌, ◌&&◌, ◌++◌, ◌<◌}
 
 pub filter-none : {X : Type 0} (test : X → Bool) → ((x : X) → test x ≡ false) → (xs : List X)
     → filter test xs ≡ []

@@ -1,17 +1,12 @@
 -- What the numbers of a dictionary say.
-use Rattle.std.specs.Prelude.{IfSome, None, Option, Some}
-use Rattle.textwrap_patterns.specs.Trie.{numbers_for}
-use Rattle.std.specs.Prelude.{◌↔◌}
-use Rattle.textwrap_text.proofs.Common.{false_from_ne_true}
-use Rattle.textwrap_hyphens.proofs.Common.{Bool, List, cond, false, false≢true, length, refl, sym}
-use Rattle.textwrap_hyphens.proofs.Common.{true, ℕ, ◌≡◌}
-use Rattle.textwrap_hyphens.proofs.InnerPoints.{AreInner}
+use Rattle.std.proofs.Common.{IfSome}
 use Rattle.textwrap_dictionaries.proofs.Said.{are-places, places-are}
-use Rattle.textwrap_patterns.specs.Places.{AreInnerPlaces, are_places}
-use Rattle.textwrap_hyphens.specs.InnerPlaces.{inner_places}
-use Rattle.textwrap_hyphens.specs.Seal.{from_end}
-use Rattle.textwrap_hyphens.specs.Table.{held}
+use Rattle.textwrap_hyphens.proofs.InnerPoints.{AreInner}
+use Rattle.textwrap_hyphens.specs.{InnerPlaces.inner_places, Seal.from_end, Table.held}
 use Rattle.textwrap_hyphens.specs.declared.table.PatternTable.{PatternTable}
+use Rattle.textwrap_patterns.specs.{Places.AreInnerPlaces, Places.are_places, Trie.numbers_for}
+use Rattle.textwrap_text.proofs.Common.{None, Option, Some, ◌↔◌, false_from_ne_true, Bool, List}
+use Rattle.textwrap_text.proofs.Common.{cond, false, false≢true, length, refl, sym, true, ℕ, ◌≡◌}
 
 inner-if : (len : ℕ) (places : List ℕ) (b : Bool) → are_places len 0 places ≡ b
     → IfSome (cond b (Some places) None) (AreInnerPlaces len)

@@ -1,31 +1,23 @@
 -- The points of a word are inside it, at the beginnings of characters, and increase.
-use Rattle.textwrap_hyphens.proofs.Common.{List, ℕ, ◌≡◌, ◌+◌, ◌-◌, ◌≤◌, ◌<◌, ◌++◌, ◌∷◌, [], ◌∙◌}
-use Rattle.textwrap_hyphens.proofs.Common.{arith, drop, length, take, zero, suc, true, false, refl}
-use Rattle.textwrap_hyphens.proofs.Common.{append-nil, get_or, Bool}
-use Rattle.textwrap_hyphens.proofs.Common.{All, All-cons, All-head, All-nil, All-tail, cond, filter}
-use Rattle.textwrap_hyphens.proofs.Common.{length-map, map, range_with_len, subst, sym, ⊤}
-use Rattle.std.specs.Prelude.{IfSome, IsCharBoundary, None, Option, Some, chars, encode_utf8, unwrap_or}
-use Rattle.std.proofs.lemmas.List.{drop-map}
-use Rattle.textwrap_text.proofs.Common.{All-map, All-weaker, IsUtf8, length-drop, length-take}
-use Rattle.textwrap_text.proofs.Common.{take-map}
-use Rattle.textwrap_text.specs.declared.escapes.State.{State}
-use Rattle.textwrap_text.specs.declared.escapes.State.TheVariants.{Text}
-use Rattle.textwrap_text.proofs.Texts.{some-bytes}
-use Rattle.textwrap_text.proofs.Units.Characters.{AreAhead, ahead-next, ahead-start}
-use Rattle.textwrap_text.specs.Characters.{characters_from, characters_of}
-use Rattle.textwrap_text.specs.Escapes.{next_of, shows}
-use Rattle.textwrap_text.specs.declared.characters.Character.{Character}
-use Rattle.textwrap_words.specs.Cuts.{AreInnerCuts, AreNext, IsNextCut}
+use Rattle.std.specs.Prelude.{IfSome, None, Option, Some, chars, encode_utf8}
 use Rattle.textwrap_hyphens.proofs.Runs.{past-letter, past-other}
-use Rattle.textwrap_hyphens.specs.Hyphenation.{Hyphenation}
-use Rattle.textwrap_hyphens.specs.Hyphenation.{joints_of, places_from, places_of}
-use Rattle.textwrap_patterns.specs.Letters.{is_kept, is_letter_or_mark}
-use Rattle.textwrap_patterns.specs.Letters.{letter_at, letters_among}
-use Rattle.textwrap_patterns.specs.Letters.{letters_of, run_len}
-use Rattle.textwrap_patterns.specs.Places.{AreInnerPlaces, IsNextPlace}
+use Rattle.textwrap_hyphens.specs.Hyphenation.{Hyphenation, joints_of, places_from, places_of}
 use Rattle.textwrap_hyphens.specs.Points.{hyphenation_points, is_behind_soft, pattern_points, points_at}
 use Rattle.textwrap_hyphens.specs.Points.{points_in, points_past, soft_places, soft_points}
+use Rattle.textwrap_patterns.specs.Letters.{is_kept, is_letter_or_mark, letter_at, letters_among}
+use Rattle.textwrap_patterns.specs.{Letters.{letters_of, run_len}, Places.{AreInnerPlaces, IsNextPlace}}
 use Rattle.textwrap_patterns.specs.declared.letters.Letter.{Letter}
+use Rattle.textwrap_text.proofs.Common.{List, ℕ, ◌≡◌, ◌+◌, ◌-◌, ◌≤◌, ◌<◌, ◌++◌, ◌∷◌, [], ◌∙◌, arith}
+use Rattle.textwrap_text.proofs.Common.{drop, length, take, zero, suc, true, false, refl, append-nil}
+use Rattle.textwrap_text.proofs.Common.{get_or, Bool, All, All-cons, All-head, All-nil, All-tail, cond}
+use Rattle.textwrap_text.proofs.Common.{filter, length-map, map, range_with_len, subst, sym, ⊤}
+use Rattle.textwrap_text.proofs.Common.{IsCharBoundary, unwrap_or, All-map, All-weaker, IsUtf8}
+use Rattle.textwrap_text.proofs.Common.{length-drop, length-take, take-map, next_of, shows}
+use Rattle.textwrap_text.proofs.Units.Characters.{AreAhead, ahead-next, ahead-start}
+use Rattle.textwrap_text.specs.Characters.{characters_from, characters_of}
+use Rattle.textwrap_text.specs.declared.{characters.Character.Character, escapes.State.State}
+use Rattle.textwrap_text.specs.declared.escapes.State.TheVariants.{Text}
+use Rattle.textwrap_words.proofs.Common.{drop-map, some-bytes, AreInnerCuts, AreNext, IsNextCut}
 
 -- ---- places
 
@@ -200,7 +192,6 @@ run-points h text low last mid run inner le some stand below =
     (places-inner h cs inner) in
     let first = stand-at text low ats 0 stand (omega (
       arith,
-      some,
       length-map run (λ
           (c : Letter). c.at),
     )) in (

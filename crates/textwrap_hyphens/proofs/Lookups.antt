@@ -1,7 +1,5 @@
 -- How often letters are looked up.
-use Rattle.textwrap_hyphens.proofs.Common.{arith, min, ℕ, ◌+◌, ◌-◌}
-use Rattle.textwrap_hyphens.proofs.Common.{◌≤◌}
-use Rattle.textwrap_text.proofs.Common.{◌*◌}
+use Rattle.std.proofs.Common.{arith, min, ℕ, ◌+◌, ◌-◌, ◌≤◌, ◌*◌}
 
 -- fewer times the same is no more
 pub fewer-times : (few many each : ℕ) → few ≤ many → few * each ≤ many * each

@@ -1,20 +1,15 @@
 -- Numbers of a dictionary in which the minima become others.
-use Rattle.std.proofs.lemmas.Bool.{eqb-true, leb-true}
-use Rattle.std.proofs.lemmas.List.{get_or_append_left, set-append_right, take-append-drop}
-use Rattle.std.proofs.Common.{slice_set}
-use Rattle.textwrap_text.proofs.Common.{and_parts}
-use Rattle.std.proofs.Math.Seq.{take-append_seam}
-use Rattle.textwrap_hyphens.proofs.SealLemmas.{is-sealed}
-use Rattle.textwrap_hyphens.proofs.TableOf.{from_end-tail, same-said}
+use Rattle.std.proofs.Common.{eqb-true, leb-true, take-append-drop, slice_set, get_or-take, Bool, List, []}
+use Rattle.std.proofs.Common.{append_assoc, ap, arith, false, length, drop, length-append, length-drop}
+use Rattle.std.proofs.Common.{length-take, refl, slice_index, subst, sym, take, true, ℕ, ◌++◌, ◌+◌, ◌-◌}
+use Rattle.std.proofs.Common.{◌∙◌, ◌∷◌, ◌≡◌, ◌≤◌}
+use Rattle.std.proofs.{Math.Seq.take-append_seam, lemmas.List.set-append_right}
+use Rattle.textwrap_hyphens.proofs.{SealLemmas.is-sealed, TableOf.from_end-tail, TableOf.same-said}
 use Rattle.textwrap_hyphens.specs.Hyphenation.{Hyphenation, hyphenation_by}
 use Rattle.textwrap_hyphens.specs.Numbers.{KeepsLists, ListTheSame, held_in}
-use Rattle.textwrap_patterns.specs.Listed.{Listed}
-use Rattle.textwrap_hyphens.proofs.Common.{get_or-take}
-use Rattle.textwrap_hyphens.proofs.Common.{Bool, List, [], append_assoc, ap, arith, false, length}
-use Rattle.textwrap_hyphens.proofs.Common.{drop, length-append, length-drop, length-take, refl, slice_index}
-use Rattle.textwrap_hyphens.proofs.Common.{subst, sym, take, true, ℕ}
-use Rattle.textwrap_hyphens.proofs.Common.{◌++◌, ◌+◌, ◌-◌, ◌∙◌, ◌∷◌, ◌≡◌, ◌≤◌}
 use Rattle.textwrap_hyphens.specs.Seal.{is_sealed, sum_of, version, with_minima}
+use Rattle.textwrap_patterns.specs.Listed.{Listed}
+use Rattle.textwrap_text.proofs.Common.{get_or_append_left, and_parts}
 
 -- sealed numbers are at least thirteen
 pub sealed-long : (words : List ℕ) → is_sealed words ≡ true → 13 ≤ length words

@@ -1,22 +1,15 @@
 -- The parts of a compound, one after another.
-use Rattle.std.specs.Prelude.{None, unwrap_or}
-use Rattle.textwrap_hyphens.proofs.Common.{cases_Bool, map-append}
-use Rattle.textwrap_hyphens.specs.Points.{points_at, points_in}
-use Rattle.textwrap_patterns.specs.declared.letters.Letter.{Letter}
-use Rattle.textwrap_text.proofs.Lists.Elements.{points-more}
-use Rattle.textwrap_hyphens.specs.Hyphenation.{places_from, places_of}
-use Rattle.std.specs.Prelude.{◌%◌, ◌&&◌, ◌==◌}
-use Rattle.std.proofs.lemmas.List.Elements.{filter-append}
-use Rattle.std.proofs.lemmas.List.FromFn.{get_or-map-range_with_len, length-map-range_with_len}
-use Rattle.textwrap_text.proofs.Lists.Elements.{range-split}
-use Rattle.textwrap_hyphens.proofs.Common.{Bool, List, [], ap, append-nil, append_assoc, arith, cond, dotted, false}
-use Rattle.textwrap_hyphens.proofs.Common.{filter, greatest, length, level, levels_of, map}
-use Rattle.textwrap_hyphens.proofs.Common.{range_with_len}
-use Rattle.textwrap_hyphens.proofs.Common.{refl, slice_index, sym, true, ℕ, ◌+◌, ◌++◌, ◌-◌, ◌∙◌, ◌∷◌}
-use Rattle.textwrap_hyphens.proofs.Common.{get_or-take, length-take, nat_tests, ◌<◌, ◌≡◌, ◌≤◌}
-use Rattle.textwrap_text.proofs.Common.{take_all}
+use Rattle.std.proofs.{Common.◌%◌, lemmas.List.FromFn.{get_or-map-range_with_len, length-map-range_with_len}}
+use Rattle.textwrap_hyphens.proofs.Common.{dotted, greatest, level, levels_of}
 use Rattle.textwrap_hyphens.proofs.FewLetters.{filter-none, never-behind}
-use Rattle.textwrap_hyphens.specs.Hyphenation.{Hyphenation, first_levels, is_allowed, is_odd, is_place, joints_of}
+use Rattle.textwrap_hyphens.specs.Hyphenation.{places_from, places_of, Hyphenation, first_levels, is_allowed}
+use Rattle.textwrap_hyphens.specs.{Hyphenation.{is_odd, is_place, joints_of}, Points.{points_at, points_in}}
+use Rattle.textwrap_patterns.specs.declared.letters.Letter.{Letter}
+use Rattle.textwrap_text.proofs.Common.{None, unwrap_or, cases_Bool, map-append, ◌&&◌, ◌==◌, filter-append, Bool}
+use Rattle.textwrap_text.proofs.Common.{List, [], ap, append-nil, append_assoc, arith, cond, false, filter}
+use Rattle.textwrap_text.proofs.Common.{length, map, range_with_len, refl, slice_index, sym, true, ℕ, ◌+◌, ◌++◌}
+use Rattle.textwrap_text.proofs.Common.{◌-◌, ◌∙◌, ◌∷◌, get_or-take, length-take, nat_tests, ◌<◌, ◌≡◌, ◌≤◌}
+use Rattle.textwrap_text.proofs.{Common.take_all, Lists.Elements.{points-more, range-split}}
 
 -- the level that is read is that of the place
 pub odd-is : (from : List ℕ → ℕ → ℕ) (letters levels : List ℕ) (place : ℕ)

@@ -1,11 +1,10 @@
 -- The levels of a dotted word, once the patterns that stand at its first places are known.
-use Rattle.textwrap_hyphens.proofs.Common.{List, ℕ, ◌≡◌, ◌+◌, ◌-◌, ◌≤◌, ◌<◌, ◌∷◌, [], ◌∙◌, ap}
-use Rattle.textwrap_hyphens.proofs.Common.{arith, drop, length, map, max, min, take}
-use Rattle.textwrap_hyphens.proofs.Common.{dotted, get_or, get_or-take, greatest, length-append, length-take}
-use Rattle.textwrap_hyphens.proofs.Common.{level, levels_of, range_with_len, suc}
-use Rattle.std.proofs.lemmas.Grind.{same_number_lists}
-use Rattle.std.proofs.lemmas.List.FromFn.{get_or-map-range_with_len, length-map-range_with_len}
-use Rattle.std.proofs.lemmas.List.FromFn.{map-range_with_len_more}
+use Rattle.std.proofs.lemmas.{Grind.same_number_lists, List.FromFn.get_or-map-range_with_len}
+use Rattle.std.proofs.lemmas.List.FromFn.{length-map-range_with_len, map-range_with_len_more}
+use Rattle.textwrap_hyphens.proofs.Common.{List, ℕ, ◌≡◌, ◌+◌, ◌-◌, ◌≤◌, ◌<◌, ◌∷◌, [], ◌∙◌, ap, arith, drop}
+use Rattle.textwrap_hyphens.proofs.Common.{length, map, max, min, take, dotted, get_or, get_or-take}
+use Rattle.textwrap_hyphens.proofs.Common.{greatest, length-append, length-take, level, levels_of}
+use Rattle.textwrap_hyphens.proofs.Common.{range_with_len, suc}
 use Rattle.textwrap_patterns.proofs.GreatestNumbers.{greatest-append}
 
 -- the levels of what stands at the beginning of a text, by place

@@ -1,11 +1,9 @@
 -- The runs of letters, one after another.
-use Rattle.textwrap_hyphens.proofs.Common.{List, ℕ, ◌≡◌, ◌≤◌, ◌<◌, ◌++◌, ◌∷◌, []}
-use Rattle.textwrap_hyphens.proofs.Common.{arith, drop, length, take, zero, suc, true, false, refl}
-use Rattle.textwrap_hyphens.proofs.Common.{get_or}
+use Rattle.textwrap_hyphens.proofs.Common.{List, ℕ, ◌≡◌, ◌≤◌, ◌<◌, ◌++◌, ◌∷◌, [], arith, drop}
+use Rattle.textwrap_hyphens.proofs.Common.{length, take, zero, suc, true, false, refl, get_or}
 use Rattle.textwrap_hyphens.proofs.Common.{cases_Bool}
-use Rattle.textwrap_hyphens.specs.Hyphenation.{Hyphenation}
+use Rattle.textwrap_hyphens.specs.{Hyphenation.Hyphenation, Points.points_in, Points.points_past}
 use Rattle.textwrap_patterns.specs.Letters.{is_letter_or_mark, run_len}
-use Rattle.textwrap_hyphens.specs.Points.{points_in, points_past}
 use Rattle.textwrap_patterns.specs.declared.letters.Letter.{Letter}
 
 pub past-drop : (h : Hyphenation) (n : ℕ) (cs : List Letter)

@@ -1,11 +1,7 @@
 -- Numbers that begin with the version and end in the sum of those before it are sealed.
-use Rattle.std.proofs.Math.Seq.{take-append_seam}
-use Rattle.textwrap_text.proofs.Common.{eq-eqb}
-use Rattle.textwrap_hyphens.proofs.Common.{List, [], arith, length, length-append}
-use Rattle.textwrap_hyphens.proofs.Common.{slice_index, true, ℕ, ◌++◌, ◌∷◌}
-use Rattle.textwrap_hyphens.proofs.Common.{◌≡◌, ◌≤◌}
-use Rattle.textwrap_hyphens.proofs.TableOf.{from_end-tail}
-use Rattle.textwrap_hyphens.specs.Seal.{is_sealed, sum_of, version}
+use Rattle.std.proofs.Common.{eq-eqb, List, [], arith, length, length-append, slice_index, true, ℕ}
+use Rattle.std.proofs.{Common.{◌++◌, ◌∷◌, ◌≡◌, ◌≤◌}, Math.Seq.take-append_seam}
+use Rattle.textwrap_hyphens.{proofs.TableOf.from_end-tail, specs.Seal.{is_sealed, sum_of, version}}
 
 pub is-sealed : (first : List ℕ) (sum : ℕ) → 12 ≤ length first → slice_index first 0 ≡ version
     → sum ≡ sum_of first → is_sealed (first ++ sum ∷ []) ≡ true

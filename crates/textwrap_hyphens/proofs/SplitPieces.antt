@@ -1,22 +1,15 @@
 -- The points of a word are cuts inside it, and no piece between them is empty.
-use Rattle.textwrap_text.proofs.Common.{All, All-append, All-cons, All-head, All-nil}
-use Rattle.textwrap_text.proofs.Common.{All-tail, IsUtf8, List, [], ap, arith, drop, length}
-use Rattle.textwrap_text.proofs.Common.{slice_range, subst, sym, ℕ}
-use Rattle.textwrap_text.proofs.Common.{◌∷◌, ◌≤◌}
-use Rattle.textwrap_text.proofs.Lists.Parts.{length-slice}
-use Rattle.textwrap_words.specs.Cuts.{AreCuts, AreInnerCuts, AreNext, IsNextCut}
-use Rattle.textwrap_words.proofs.Common.{AreSplit, WordText, cut_penalty, piece, split_from}
-use Rattle.textwrap_words.proofs.Common.{ends_in_hyphen, split_pieces}
-use Rattle.textwrap_words.specs.WordSplitters.{hyphen}
-use Rattle.textwrap_text.proofs.Common.{inl, ◌<◌, ◌≡◌, ◌⊎◌}
-use Rattle.textwrap_words.proofs.Word.{Cuts.inner-cuts}
-use Rattle.textwrap_words.proofs.Word.Words.{HasNoPenalty, IsMeasured}
-use Rattle.textwrap_hyphens.proofs.InnerPoints.{points-cuts}
-use Rattle.textwrap_hyphens.proofs.Held as table
-use Rattle.textwrap_hyphens.specs.Table.{held}
+use Rattle.textwrap_hyphens.proofs.{InnerPoints.points-cuts, SplitPoints.split-inner}
+use Rattle.textwrap_hyphens.specs.{Splitting.ArePointsBy, Table.held}
 use Rattle.textwrap_hyphens.specs.declared.table.PatternTable.{PatternTable}
-use Rattle.textwrap_hyphens.proofs.SplitPoints.{split-inner}
-use Rattle.textwrap_hyphens.specs.Splitting.{ArePointsBy}
+use Rattle.textwrap_text.proofs.Common.{All, All-append, All-cons, All-head, All-nil, All-tail}
+use Rattle.textwrap_text.proofs.Common.{IsUtf8, List, [], ap, arith, drop, length, slice_range}
+use Rattle.textwrap_text.proofs.Common.{subst, sym, ℕ, ◌∷◌, ◌≤◌, inl, ◌<◌, ◌≡◌, ◌⊎◌}
+use Rattle.textwrap_words.proofs.Common.{length-slice, AreCuts, AreInnerCuts, AreNext, IsNextCut}
+use Rattle.textwrap_words.proofs.Common.{AreSplit, WordText, cut_penalty, piece, split_from}
+use Rattle.textwrap_words.proofs.Common.{ends_in_hyphen, split_pieces, hyphen}
+use Rattle.textwrap_words.proofs.Word.{Cuts.inner-cuts, Words.HasNoPenalty, Words.IsMeasured}
+use Rattle.textwrap_hyphens.proofs.Held as table
 
 -- ---- the points of a word by a dictionary
 

@@ -1,23 +1,19 @@
 -- Where a word may be split: at the points of a dictionary and behind hyphens of its own.
+use Rattle.std.proofs.{Math.Bool.and-true, Math.Bool.or-false, lemmas.List.Folds.list_any_at}
+use Rattle.std.proofs.lemmas.List.FromFn.{get_or-range_with_len, length-range_with_len}
+use Rattle.std.proofs.lemmas.Map.Views.{any-filter_same}
+use Rattle.textwrap_hyphens.specs.{Hyphenation.Hyphenation, Points.hyphenation_points}
+use Rattle.textwrap_hyphens.specs.Splitting.{is_split_point, split_points}
 use Rattle.textwrap_text.proofs.Common.{Bool, IsStrictlyIncreasing, IsUtf8, List, [], ap, ap₂, arith}
 use Rattle.textwrap_text.proofs.Common.{cases_Bool, cases_eq, cond, eq-eqb, eqb-true, false}
 use Rattle.textwrap_text.proofs.Common.{false≢true, filter, get_or, inl, inr, length, list_any}
 use Rattle.textwrap_text.proofs.Common.{ne_eqb, or_cases, range_with_len, refl, suc, sym, true, zero}
-use Rattle.textwrap_text.proofs.Common.{ℕ, ◌+◌, ◌++◌, ◌-◌, ◌&&◌, ◌<◌, ◌==◌, ◌||◌, ◌∙◌, ◌∷◌, ◌≡◌}
-use Rattle.textwrap_text.proofs.Common.{◌≤◌}
-use Rattle.std.proofs.Math.Bool.{and-true, or-false}
-use Rattle.std.proofs.lemmas.List.FromFn.{get_or-range_with_len, length-range_with_len}
-use Rattle.std.proofs.lemmas.List.Folds.{list_any_at}
-use Rattle.std.proofs.lemmas.Map.Views.{any-filter_same}
+use Rattle.textwrap_text.proofs.Common.{ℕ, ◌+◌, ◌++◌, ◌-◌, ◌&&◌, ◌<◌, ◌==◌, ◌||◌, ◌∙◌, ◌∷◌, ◌≡◌, ◌≤◌}
 use Rattle.textwrap_text.proofs.Lists.Elements.{points-more}
-use Rattle.textwrap_words.proofs.Common.{AreNext, hyphen_points, is_hyphen_point}
-use Rattle.textwrap_words.proofs.Word.Cuts.{next-increasing}
+use Rattle.textwrap_words.proofs.Common.{AreNext, hyphen_points, is_hyphen_point, AreInnerCuts}
+use Rattle.textwrap_words.proofs.{Common.IsNextCut, Word.Cuts.next-increasing}
 use Rattle.textwrap_words.proofs.Word.Splitting.{HoldsBetween, after-hyphen}
-use Rattle.textwrap_words.specs.Cuts.{AreInnerCuts, AreLaterCuts, IsNextCut}
-use Rattle.textwrap_words.specs.WordSplitters.{inner_offsets}
-use Rattle.textwrap_hyphens.specs.Hyphenation.{Hyphenation}
-use Rattle.textwrap_hyphens.specs.Points.{hyphenation_points}
-use Rattle.textwrap_hyphens.specs.Splitting.{is_split_point, split_points}
+use Rattle.textwrap_words.specs.{Cuts.AreLaterCuts, WordSplitters.inner_offsets}
 
 -- ---- cuts
 

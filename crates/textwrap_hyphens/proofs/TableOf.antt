@@ -1,27 +1,19 @@
 -- The numbers of a dictionary say what is listed in it.
-use Rattle.std.specs.Prelude.{Option, Some, bytes_eq}
-use Rattle.std.proofs.lemmas.List.{get_or-append_right}
-use Rattle.std.proofs.lemmas.Slice.Eq.{bytes_eq-Decides}
-use Rattle.textwrap_patterns.specs.Entries.{entry_for}
-use Rattle.textwrap_patterns.specs.Merging.{greatest_number}
-use Rattle.textwrap_patterns.specs.Trie as trie
-use Rattle.textwrap_patterns.specs.declared.entries.TrieEntry.{TrieEntry}
-use Rattle.textwrap_hyphens.proofs.Common.{All, All-head, All-tail, Bool, List, [], arith, cond}
-use Rattle.textwrap_hyphens.proofs.Common.{false, get_or, length, length-append, pattern_level_from, map}
-use Rattle.textwrap_hyphens.proofs.Common.{length-map, level_in, nat_eq, refl, rules, starts_with, suc, take}
-use Rattle.textwrap_hyphens.proofs.Common.{true, zero, ℕ, ◌++◌, ◌-◌, ◌∷◌, ◌≡◌, ◌≤◌}
+use Rattle.std.proofs.Common.{Option, Some, bytes_eq}
+use Rattle.std.proofs.lemmas.{List.get_or-append_right, Slice.Eq.bytes_eq-Decides}
 use Rattle.textwrap_dictionaries.proofs.Said.{places-are}
+use Rattle.textwrap_hyphens.proofs.Common.{All, All-head, All-tail, Bool, List, [], arith, cond, false}
+use Rattle.textwrap_hyphens.proofs.Common.{get_or, length, length-append, pattern_level_from, map}
+use Rattle.textwrap_hyphens.proofs.Common.{length-map, level_in, nat_eq, refl, rules, starts_with, suc, take}
+use Rattle.textwrap_hyphens.proofs.Common.{true, zero, ℕ, ◌++◌, ◌-◌, ◌∷◌, ◌≡◌, ◌≤◌, PatternText}
 use Rattle.textwrap_hyphens.specs.Building.{entries_view, exception_of, pattern_of}
 use Rattle.textwrap_hyphens.specs.Hyphenation.{Hyphenation, exception_for, hyphenation_by}
-use Rattle.textwrap_patterns.specs.Listed.{PatternText}
-use Rattle.textwrap_hyphens.specs.declared.building.Entries.{Entries}
-use Rattle.textwrap_hyphens.specs.declared.building.Minima.{Minima}
-use Rattle.textwrap_hyphens.specs.Numbers.{levels_at, levels_if}
-use Rattle.textwrap_hyphens.specs.Levels.{longest}
-use Rattle.textwrap_patterns.specs.Places.{AreInnerPlaces}
-use Rattle.textwrap_hyphens.specs.InnerPlaces.{inner_places}
-use Rattle.textwrap_hyphens.specs.Seal.{from_end}
-use Rattle.textwrap_hyphens.specs.Table.{held_in}
+use Rattle.textwrap_hyphens.specs.{InnerPlaces.inner_places, Levels.longest, Numbers.levels_if}
+use Rattle.textwrap_hyphens.specs.{Seal.from_end, Table.levels_at, Table.held_in}
+use Rattle.textwrap_hyphens.specs.declared.building.{Entries.Entries, Minima.Minima}
+use Rattle.textwrap_patterns.specs.{Entries.entry_for, Merging.greatest_number, Places.AreInnerPlaces}
+use Rattle.textwrap_patterns.specs.declared.entries.TrieEntry.{TrieEntry}
+use Rattle.textwrap_patterns.specs.Trie as trie
 
 -- ---- patterns
 

@@ -1,12 +1,9 @@
 -- Of sealed numbers, one of which becomes another, the sum is wrong.
-use Rattle.std.specs.Prelude.{◌%◌, ◌*◌, ◌^◌}
-use Rattle.std.proofs.lemmas.List.{get_or-append_right}
-use Rattle.std.proofs.lemmas.Bool.{eqb-true}
-use Rattle.textwrap_text.proofs.Common.{and_parts, false_from_ne_true}
-use Rattle.textwrap_hyphens.proofs.Common.{List, [], ap, arith, get_or, length}
-use Rattle.textwrap_hyphens.proofs.Common.{length-append, rules, suc, take, true, ℕ, false}
-use Rattle.textwrap_hyphens.proofs.Common.{◌+◌, ◌++◌, ◌-◌, ◌<◌, ◌∙◌, ◌∷◌, ◌≡◌, ◌≢◌}
+use Rattle.std.proofs.{Common.◌%◌, lemmas.List.get_or-append_right}
 use Rattle.textwrap_hyphens.specs.Seal.{from_end, is_sealed, sum_of, summed}
+use Rattle.textwrap_text.proofs.Common.{◌*◌, ◌^◌, eqb-true, and_parts, false_from_ne_true, List, []}
+use Rattle.textwrap_text.proofs.Common.{ap, arith, get_or, length, length-append, rules, suc, take}
+use Rattle.textwrap_text.proofs.Common.{true, ℕ, false, ◌+◌, ◌++◌, ◌-◌, ◌<◌, ◌∙◌, ◌∷◌, ◌≡◌, ◌≢◌}
 
 -- ---- sums
 

@@ -1,10 +1,8 @@
 -- Entries of a trie, as what they are made of.
-use Rattle.textwrap_patterns.specs.declared.entries.TrieEntry.{TrieEntry}
-use Rattle.textwrap_patterns.specs.Listed.{ExceptionText, exception_text}
-use Rattle.textwrap_patterns.specs.Listed.{Listed, PatternText}
-use Rattle.textwrap_hyphens.specs.declared.building.Entries.{Entries}
-use Rattle.textwrap_hyphens.specs.declared.building.Minima.{Minima}
 use Rattle.std.specs.Prelude.{map}
+use Rattle.textwrap_hyphens.specs.declared.building.{Entries.Entries, Minima.Minima}
+use Rattle.textwrap_patterns.specs.Listed.{ExceptionText, exception_text, Listed, PatternText}
+use Rattle.textwrap_patterns.specs.declared.entries.TrieEntry.{TrieEntry}
 
 abbrev pub pattern_of : {A : Type 0} → TrieEntry A → PatternText
 pattern_of entry = record { letters = entry.key.items; levels = entry.numbers.items }

@@ -1,7 +1,6 @@
 -- Laws of the definitions on hyphenation.
 use Rattle.std.specs.Prelude.{◌≡◌, ◌≢◌, ℕ, ◌<◌, ◌≤◌, ◌^◌, List, ◌∷◌, ◌++◌, All, Contains, false, true}
-use Rattle.textwrap_hyphens.specs.Levels.{level, pattern_level_from}
-use Rattle.textwrap_hyphens.specs.Seal.{is_sealed}
+use Rattle.textwrap_hyphens.specs.{Levels.level, Levels.pattern_level_from, Seal.is_sealed}
 use Rattle.textwrap_patterns.specs.Listed.{PatternText}
 
 -- patterns that are all among others give no place a higher level: so neither their order nor one

@@ -1,9 +1,8 @@
 -- Hyphenation by patterns (Liang 1983): the levels that patterns give to the places of a word.
-use Rattle.std.specs.Prelude.{ℕ, suc, ◌+◌, ◌-◌, List, [], ◌∷◌, ◌++◌}
-use Rattle.std.specs.Prelude.{drop, if◌then◌else◌, length, map, nat_eq, slice_index}
 use Rattle.std.specs.List.{range_with_len, starts_with}
-use Rattle.textwrap_patterns.specs.Listed.{PatternText}
-use Rattle.textwrap_patterns.specs.Merging.{greatest}
+use Rattle.std.specs.Prelude.{ℕ, suc, ◌+◌, ◌-◌, List, [], ◌∷◌, ◌++◌, drop, if◌then◌else◌, length}
+use Rattle.std.specs.Prelude.{map, nat_eq, slice_index}
+use Rattle.textwrap_patterns.specs.{Listed.PatternText, Merging.greatest}
 
 -- how many letters the longest pattern has
 abbrev pub longest : List PatternText → ℕ

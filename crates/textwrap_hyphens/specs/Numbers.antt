@@ -4,10 +4,9 @@
 -- its two sides, the places of the roots of exceptions and of patterns, the letters of the longest
 -- pattern, the letters before and behind a hyphen, and a sum of all before it.
 use Rattle.std.specs.Prelude.{◌≡◌, ℕ, zero, suc, Bool, List, false, length, take}
-use Rattle.textwrap_patterns.specs.Trie.{level_from, numbers_for}
-use Rattle.textwrap_hyphens.specs.Hyphenation.{Hyphenation}
-use Rattle.textwrap_hyphens.specs.InnerPlaces.{inner_places}
+use Rattle.textwrap_hyphens.specs.{Hyphenation.Hyphenation, InnerPlaces.inner_places}
 use Rattle.textwrap_hyphens.specs.Seal.{from_end, with_minima}
+use Rattle.textwrap_patterns.specs.Trie.{level_from, numbers_for}
 
 -- the levels by the trie at a root, where the longest key has so many letters
 abbrev pub levels_at : List ℕ → ℕ → ℕ → List ℕ → ℕ → ℕ

@@ -1,11 +1,9 @@
 -- A dictionary that was read from a text.
 use Rattle.std.specs.Prelude.{◌≡◌, ⊤, Result, Ok, Err}
-use Rattle.textwrap_dictionaries.specs.Parsing.{Outcome}
-use Rattle.textwrap_dictionaries.specs.declared.errors.ParseError.{ParseError}
+use Rattle.textwrap_dictionaries.specs.{Parsing.Outcome, declared.errors.ParseError.ParseError}
 use Rattle.textwrap_dictionaries.specs.declared.errors.ParseError.TheVariants.{Line, Memory}
 use Rattle.textwrap_hyphens.specs.Hyphenation.{Hyphenation, hyphenation_by}
-use Rattle.textwrap_hyphens.specs.Table.{patterns_view}
-use Rattle.textwrap_hyphens.specs.declared.dictionary.Patterns.{Patterns}
+use Rattle.textwrap_hyphens.specs.{Table.patterns_view, declared.dictionary.Patterns.Patterns}
 
 -- a dictionary says what is listed
 abbrev pub Holds : Outcome → Hyphenation → Type 0

@@ -1,10 +1,8 @@
 -- The points at which a dictionary, or a hyphen of its own, splits a word.
-use Rattle.std.specs.Prelude.{◌≡◌, ℕ, ◌==◌, ◌||◌, Bool, List}
-use Rattle.std.specs.Prelude.{filter}
 use Rattle.std.specs.List.{list_any}
+use Rattle.std.specs.Prelude.{◌≡◌, ℕ, ◌==◌, ◌||◌, Bool, List, filter}
+use Rattle.textwrap_hyphens.specs.{Hyphenation.Hyphenation, Points.hyphenation_points}
 use Rattle.textwrap_words.specs.WordSplitters.{inner_offsets, is_hyphen_point}
-use Rattle.textwrap_hyphens.specs.Hyphenation.{Hyphenation}
-use Rattle.textwrap_hyphens.specs.Points.{hyphenation_points}
 
 -- the dictionary has a hyphen at the offset, or a hyphen between alphanumeric characters ends there
 abbrev pub is_split_point : Hyphenation → List ℕ → ℕ → Bool

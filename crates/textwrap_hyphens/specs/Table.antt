@@ -1,12 +1,10 @@
 -- A dictionary, and what stands in it, as what its numbers say.
-use Rattle.std.specs.Prelude.{ℕ, List, take}
-use Rattle.textwrap_hyphens.specs.Hyphenation.{Hyphenation}
-use Rattle.textwrap_patterns.specs.Trie.{trie_level}
-use Rattle.textwrap_patterns.specs.Tries.{trie_view}
 pub use Rattle.textwrap_hyphens.specs.Numbers.{held_in, levels_at}
-use Rattle.textwrap_hyphens.specs.declared.dictionary.Patterns.{Patterns}
+use Rattle.std.specs.Prelude.{ℕ, List, take}
+use Rattle.textwrap_hyphens.specs.{Hyphenation.Hyphenation, declared.dictionary.Patterns.Patterns}
 use Rattle.textwrap_hyphens.specs.declared.table.PatternTable.{PatternTable}
 use Rattle.textwrap_hyphens.specs.declared.table.PatternTrie.{PatternTrie}
+use Rattle.textwrap_patterns.specs.{Trie.trie_level, Tries.trie_view}
 
 -- what some patterns say of the levels of a text
 abbrev pub levels_by : PatternTrie → List ℕ → ℕ → ℕ

@@ -1,13 +1,12 @@
 //! A dictionary, written as one list of numbers.
 ghost use Rattle.std.specs.Prelude.{◌≡◌, All, false, length, map, true, IfOk};
-ghost use Rattle.textwrap_hyphens.specs.Hyphenation.{hyphenation_by};
-ghost use Rattle.textwrap_patterns.specs.Listed.{exception_view};
-ghost use Rattle.textwrap_hyphens.specs.Levels.{longest};
-ghost use Rattle.textwrap_patterns.specs.Listed.{pattern_view};
-ghost use Rattle.textwrap_patterns.specs.Places.{AreInnerPlaces};
-ghost use Rattle.textwrap_hyphens.specs.Seal.{is_sealed, with_minima};
-ghost use Rattle.textwrap_hyphens.specs.Numbers.{KeepsLists, held_in};
 ghost use Rattle.textwrap_hyphens.specs.Building.{entries_view, exception_of, pattern_of};
+ghost use Rattle.textwrap_hyphens.specs.Hyphenation.{hyphenation_by};
+ghost use Rattle.textwrap_hyphens.specs.Levels.{longest};
+ghost use Rattle.textwrap_hyphens.specs.Numbers.{KeepsLists, held_in};
+ghost use Rattle.textwrap_hyphens.specs.Seal.{is_sealed, with_minima};
+ghost use Rattle.textwrap_patterns.specs.Listed.{exception_view, pattern_view};
+ghost use Rattle.textwrap_patterns.specs.Places.{AreInnerPlaces};
 
 use crate::table::{VERSION, sum_of};
 use std::alloc::{AllocError, Allocator};

@@ -1,17 +1,16 @@
 //! The points at which a dictionary has a hyphen.
+ghost use Rattle.std.specs.List.{list_any};
 ghost use Rattle.std.specs.Prelude.{◌≡◌, ℕ, ◌++◌, ◌+◌, ◌<◌, ◌≤◌, ◌&&◌, All, List, length, map, not, take};
 ghost use Rattle.std.specs.Prelude.{slice_index, IfOk, OnOk};
-ghost use Rattle.std.specs.List.{list_any};
-ghost use Rattle.textwrap_words.specs.Cuts.{AreInnerCuts};
+ghost use Rattle.textwrap_hyphens.specs.Hyphenation.{is_allowed, is_far, is_place, joints_of, part};
+ghost use Rattle.textwrap_hyphens.specs.Hyphenation.{part_places, places_from, places_of, first_levels};
+ghost use Rattle.textwrap_hyphens.specs.Levels.{dot, dotted, levels_of};
+ghost use Rattle.textwrap_hyphens.specs.Points.{hyphenation_points, is_behind_soft, pattern_points};
+ghost use Rattle.textwrap_hyphens.specs.Points.{points_at, points_in, points_past, soft_places, soft_points};
+ghost use Rattle.textwrap_hyphens.specs.Table.{held};
 ghost use Rattle.textwrap_patterns.specs.Letters.{is_hyphen_character, letters_of};
 ghost use Rattle.textwrap_patterns.specs.Places.{AreInnerPlaces};
-ghost use Rattle.textwrap_hyphens.specs.Hyphenation.{is_allowed, is_far, is_place, joints_of, part};
-ghost use Rattle.textwrap_hyphens.specs.Hyphenation.{part_places, places_from, places_of};
-ghost use Rattle.textwrap_hyphens.specs.Levels.{dot, dotted, levels_of};
-ghost use Rattle.textwrap_hyphens.specs.Hyphenation.{first_levels};
-ghost use Rattle.textwrap_hyphens.specs.Points.{hyphenation_points, is_behind_soft, pattern_points, points_at};
-ghost use Rattle.textwrap_hyphens.specs.Points.{points_in, points_past, soft_places, soft_points};
-ghost use Rattle.textwrap_hyphens.specs.Table.{held};
+ghost use Rattle.textwrap_words.specs.Cuts.{AreInnerCuts};
 
 use crate::levels::{is_odd, joints, levels, raise_all};
 use crate::table::PatternTable;

@@ -1,6 +1,5 @@
 -- Lines that stay, with the ending that is asked for.
 use Rattle.std.proofs.lemmas.List.Sums.{suffix_len-take_no, prefix_len_stops}
-use Rattle.std.proofs.lemmas.List.{get_or-reverse, length-reverse}
 use Rattle.textwrap_marked_laws.proofs.Common.{ReflowOptions, append_assoc, ending_bytes, line_as_read, All-cons}
 use Rattle.textwrap_marked_laws.proofs.Common.{ending_if, ends_with, is_return, kept_line, new_fence, LineText}
 use Rattle.textwrap_marked_laws.proofs.Common.{flat_map, All-nil, reverse, Option, get_or, length, nat_eq, arith}
@@ -8,12 +7,11 @@ use Rattle.textwrap_marked_laws.proofs.Common.{passed, codes, false, CRLF, List,
 use Rattle.textwrap_marked_laws.proofs.Common.{spaced_words, All-append, LineEnding, suffix_len, StateText, Bool}
 use Rattle.textwrap_marked_laws.proofs.Common.{suffix_len-le-length, line_from_words, without_returns, FenceText}
 use Rattle.textwrap_marked_laws.proofs.Common.{zero, ◌&&◌, ◌++◌, ap₂, map, suc, sym, ◌-◌, ◌∙◌, ◌∷◌, ◌≡◌, LF, []}
-use Rattle.textwrap_marked_laws.proofs.ReturnsOff.{return-ends, returns-off, return_if}
-use Rattle.textwrap_marked_laws.proofs.TextBlocks.{AreOneBlock, last_line}
-use Rattle.textwrap_marked_laws.proofs.Common.{ap, ⊤}
-use Rattle.textwrap_marked_laws.proofs.{Feedless.IsFeedless, Feedless.NoFeed}
+use Rattle.textwrap_marked_laws.proofs.{Common.{ap, ⊤}, Feedless.{IsFeedless, NoFeed}, ReturnsOff.return-ends}
+use Rattle.textwrap_marked_laws.proofs.{ReturnsOff.{returns-off, return_if}, TextBlocks.{AreOneBlock, last_line}}
 use Rattle.textwrap_marked_lines.specs.Prefixes.{prefix_ends}
 use Rattle.textwrap_text.proofs.Common.{All-take}
+use Rattle.textwrap_words.proofs.Common.{get_or-reverse, length-reverse}
 
 abbrev pub returns_by : LineEnding → Bool
 returns_by LF = false

@@ -1,6 +1,6 @@
 -- Blocks in the place of others that begin alike.
-use Rattle.textwrap_marked_laws.proofs.Common.{IsSameBy, LineText, goes_on, Option, subst, Bool, List, not}
-use Rattle.textwrap_marked_laws.proofs.Common.{Part, flat, refl, ◌||◌, sym, ◌∙◌, ◌∷◌, ◌≡◌, [], ap}
+use Rattle.textwrap_marked_laws.proofs.Common.{IsSameBy, LineText, goes_on, Option, Bool, List, not}
+use Rattle.textwrap_marked_laws.proofs.Common.{Part, flat, refl, ◌||◌, ◌∙◌, ◌∷◌, ◌≡◌, [], ap}
 use Rattle.textwrap_marked_laws.proofs.Common.{parts_of_blocks, AreSameParts, LineEnding, is_beside, stays}
 use Rattle.textwrap_marked_laws.proofs.TextParts.{AreBlocks, StopsAt}
 use Rattle.textwrap_marked_laws.proofs.{KeptLines.AreHeads, ParagraphLines.IsHeadAlike}
@@ -52,8 +52,6 @@ part-cons e beside first other lines others bs cs same are be heads later here =
     ap (λ n. other.apart || not other.chosen || (beside || n)) next
     ∙ ap (λ a. a || not other.chosen || (beside || is_beside first bs)) same.apart
     ∙ ap (λ c. first.apart || not c || (beside || is_beside first bs)) same.chosen in (
-      subst (λ k. IsSameBy e (stays (beside || is_beside first bs) first)
-          (part_of (stays (beside || is_beside first bs) first) first lines) (part_of k other others))
-          (sym kept) here,
-      subst (λ n. AreSameParts e (parts_of_blocks (is_beside first bs) bs) (parts_of_blocks n cs)) (sym next) later,
+      rw kept here,
+      rw next later,
     )

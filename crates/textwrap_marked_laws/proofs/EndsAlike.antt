@@ -1,4 +1,6 @@
 -- How filled lines of a new text end.
+use Rattle.textwrap_marked.{proofs.PrintedLines.texts_more, specs.Reflow.{ending_of_line, first_ending}}
+use Rattle.textwrap_marked_laws.proofs.{AnewLines.returns_by, BegunAlike.AreBegun}
 use Rattle.textwrap_marked_laws.proofs.Common.{ReflowOptions, filled_ending, append_assoc, AreOfBlocks, Option}
 use Rattle.textwrap_marked_laws.proofs.Common.{all-left, flat_map, printed, length, nat_eq, nat_lt, codes, All}
 use Rattle.textwrap_marked_laws.proofs.Common.{all-right, ending_if, ends_with, line_text, All-head, LineText}
@@ -6,11 +8,8 @@ use Rattle.textwrap_marked_laws.proofs.Common.{break_white, shown_lines, slice_s
 use Rattle.textwrap_marked_laws.proofs.Common.{false, stays, subst, CRLF, List, None, Some, cond, refl, true}
 use Rattle.textwrap_marked_laws.proofs.Common.{first_room, later_room, line_texts, true≢false, IsOfBlock, Bool}
 use Rattle.textwrap_marked_laws.proofs.Common.{◌&&◌, ◌++◌, ◌==◌, inl, inr, sym, ◌∙◌, ◌∷◌, ◌≡◌, LF, [], ap, ℕ}
-use Rattle.textwrap_marked.proofs.PrintedLines.{texts_more}
-use Rattle.textwrap_marked_laws.proofs.AnewLines.{returns_by}
-use Rattle.textwrap_marked_laws.proofs.{BegunAlike.AreBegun, TextBack.IsTextBack}
-use Rattle.textwrap_marked_laws.proofs.{Feedless.split-some, Feedless.NoFeed, PrintedText.filled-last}
-use Rattle.textwrap_marked.specs.Reflow.{ending_of_line, first_ending}
+use Rattle.textwrap_marked_laws.proofs.Feedless.{split-some, NoFeed}
+use Rattle.textwrap_marked_laws.proofs.{PrintedText.filled-last, TextBack.IsTextBack}
 
 -- ---- the first line says it, if lines follow
 

@@ -9,16 +9,14 @@ use Rattle.textwrap_marked_laws.proofs.Common.{first_word, map-append, suffix_le
 use Rattle.textwrap_marked_laws.proofs.Common.{starts_with-rest, take-append-drop, without_returns, append_assoc}
 use Rattle.textwrap_marked_laws.proofs.Common.{suffix_len-le-length, words_between_white, false_from_ne_true, []}
 use Rattle.textwrap_marked_laws.proofs.Common.{true, zero, ◌++◌, ◌||◌, inl, inr, map, not, suc, sym, ◌-◌, ◌<◌}
-use Rattle.textwrap_marked_laws.proofs.Common.{◌∙◌, ◌∷◌, ◌≡◌, ◌⊎◌}
-use Rattle.textwrap_marked_laws.proofs.FenceMarks.{AreMarkWords, AreSafeMarks, behind-words, IsSafeFence, IsSafe}
-use Rattle.textwrap_marked_laws.proofs.FenceMarks.{behind-lead, IsMarkWord}
+use Rattle.textwrap_marked_laws.proofs.{Common.{◌∙◌, ◌∷◌, ◌≡◌, ◌⊎◌}, FenceMarks.{AreMarkWords, AreSafeMarks}}
+use Rattle.textwrap_marked_laws.proofs.FenceMarks.{behind-words, IsSafeFence, IsSafe, behind-lead, IsMarkWord}
 use Rattle.textwrap_marked_laws.proofs.HangingKinds.{before-full, full-before, IsFull}
 use Rattle.textwrap_marked_laws.proofs.LaterLines.{read-spaced, read-split, text-parts, IsRead}
-use Rattle.textwrap_marked_laws.proofs.SpacedBack.{spaced-first, words-white, AreSpaced, spaced-in, IsPlain}
-use Rattle.textwrap_marked_laws.proofs.{LineKinds.one_if, SpacedBack.IsWhite}
+use Rattle.textwrap_marked_laws.proofs.{LineKinds.one_if, SpacedBack.spaced-first}
+use Rattle.textwrap_marked_laws.proofs.SpacedBack.{words-white, AreSpaced, spaced-in, IsPlain, IsWhite}
 use Rattle.textwrap_marked_lines.proofs.FirstWords.{comment_is}
-use Rattle.textwrap_marked_lines.specs.Columns.{behind_white}
-use Rattle.textwrap_marked_lines.specs.Fences.{is_left_by}
+use Rattle.textwrap_marked_lines.specs.{Columns.behind_white, Fences.is_left_by}
 use Rattle.textwrap_text.proofs.{Common.not-true, Lists.Parts.starts_with-true}
 
 -- nothing, or white first

@@ -8,17 +8,15 @@ use Rattle.textwrap_marked_laws.proofs.Common.{prefix_len, suffix_len, true≢fa
 use Rattle.textwrap_marked_laws.proofs.Common.{take-append-drop, without_returns, ReflowOptions, is_comment_at}
 use Rattle.textwrap_marked_laws.proofs.Common.{words_between_white, false_from_ne_true, bytes_eq-Decides, Bool}
 use Rattle.textwrap_marked_laws.proofs.Common.{◌&&◌, ◌++◌, ◌||◌, not, suc, sym, ◌+◌, ◌-◌, ◌<◌, ◌∙◌, ◌∷◌, ◌≡◌}
-use Rattle.textwrap_marked_laws.proofs.HangingForms.{hanging-is, IsHanging}
+use Rattle.textwrap_marked_laws.proofs.{Common.{ap, ℕ, ⊤}, HangingForms.{hanging-is, IsHanging}}
 use Rattle.textwrap_marked_laws.proofs.HangingKinds.{before-full, AreMarks}
 use Rattle.textwrap_marked_laws.proofs.LaterLines.{read-spaced, read_kinds, read_marks, line-read, read-line}
+use Rattle.textwrap_marked_laws.proofs.LineKinds.{has_opening_in, line_by}
+use Rattle.textwrap_marked_laws.proofs.{OpenBehind.text-letter, ParagraphLines.all-spaced}
 use Rattle.textwrap_marked_laws.proofs.SpacedBack.{spaced-first, AreSpaced, spaced-in, IsPlain, IsWhite, IsInk}
-use Rattle.textwrap_marked_laws.proofs.Common.{ap, ℕ, ⊤}
-use Rattle.textwrap_marked_laws.proofs.OpenBehind.{text-letter}
-use Rattle.textwrap_marked_laws.proofs.{LineKinds.has_opening_in, LineKinds.line_by, ParagraphLines.all-spaced}
-use Rattle.textwrap_marked_lines.specs.Lines.{is_in_block}
+use Rattle.textwrap_marked_lines.specs.{Columns.behind_white, Fences.{is_closed_by, is_left_by, opened}}
+use Rattle.textwrap_marked_lines.specs.{Lines.is_in_block, declared.fences.FenceKind.FenceKind}
 use Rattle.textwrap_marks.proofs.Letterless.{quote-plain, star-plain}
-use Rattle.textwrap_marked_lines.specs.Fences.{is_closed_by, is_left_by, opened}
-use Rattle.textwrap_marked_lines.specs.{Columns.behind_white, declared.fences.FenceKind.FenceKind}
 
 -- a word that no text begins with
 abbrev pub IsMarkWord : List ℕ → Type 0
@@ -130,9 +128,7 @@ behind-words (k ∷ ks) more are some = first k.word refl (spaced-first k ks are
         ≡ ((k.word ++ k.white) ++ spaced_text ks) ++ more
     first [] same is = absurd (omega (arith, is.some, ap length same))
     first (c ∷ cs) same is =
-        subst (λ w. behind_white (((w ++ k.white) ++ spaced_text ks) ++ more)
-        ≡ ((w ++ k.white) ++ spaced_text ks) ++ more) (sym same)
-        (behind-ink c (((cs ++ k.white) ++ spaced_text ks) ++ more)
+        rw same (behind-ink c (((cs ++ k.white) ++ spaced_text ks) ++ more)
         (All-head IsInk c cs (subst (All IsInk) same is.ink)))
 
 hanging-safe : (options : ReflowOptions) (in_block : Bool) (text : List ℕ)

@@ -1,6 +1,7 @@
 -- What is printed of a paragraph before other blocks, read again.
 use Rattle.std.proofs.Math.Bool.{and-true}
-use Rattle.textwrap_marked_laws.proofs.BegunAlike.{IsInPlace, ends-word, AreBegun}
+use Rattle.textwrap_marked.specs.Reflow.{IsFilled}
+use Rattle.textwrap_marked_laws.proofs.{AnewLines.IsTold, BegunAlike.{IsInPlace, ends-word, AreBegun}}
 use Rattle.textwrap_marked_laws.proofs.BlocksAlike.{stops-same, part-cons, part_of}
 use Rattle.textwrap_marked_laws.proofs.Common.{All-head, All-tail, AreShown, IsSameBy, LineText, as_title, false}
 use Rattle.textwrap_marked_laws.proofs.Common.{All-weaker, SpacedText, append-nil, filled_end, first_word, arith}
@@ -11,27 +12,23 @@ use Rattle.textwrap_marked_laws.proofs.Common.{passed, stays, subst, List, None,
 use Rattle.textwrap_marked_laws.proofs.Common.{without_returns, words_of_lines, ReflowOptions, append_assoc, All}
 use Rattle.textwrap_marked_laws.proofs.Common.{◌||◌, inr, map, sym, ◌∙◌, ◌∷◌, ◌≡◌, ◌≢◌, [], ap}
 use Rattle.textwrap_marked_laws.proofs.Feedless.{IsFeedlessLine, IsFeedless}
-use Rattle.textwrap_marked_laws.proofs.FenceLeft.{still-left, text-tail, EndsText}
-use Rattle.textwrap_marked_laws.proofs.LaterLines.{read-split, read_marks, IsOfText}
-use Rattle.textwrap_marked_laws.proofs.LineWords.{AreCutInto, all_shown, spread, gap}
-use Rattle.textwrap_marked_laws.proofs.LinesAlone.{first-not-alone, AreTextLines, alike-append, alone-skip}
+use Rattle.textwrap_marked_laws.proofs.{FenceLeft.{still-left, text-tail, EndsText}, FenceMarks.safe-none}
+use Rattle.textwrap_marked_laws.proofs.{FenceMarks.IsSafe, JustifiedTexts.lines-shown, KeptLines.title-heads}
+use Rattle.textwrap_marked_laws.proofs.{LaterLines.{read-split, read_marks, IsOfText}, LineWords.AreCutInto}
+use Rattle.textwrap_marked_laws.proofs.{LineWords.{all_shown, spread, gap}, LinesAlone.first-not-alone}
+use Rattle.textwrap_marked_laws.proofs.LinesAlone.{AreTextLines, alike-append, alone-skip, AreAlike}
 use Rattle.textwrap_marked_laws.proofs.NewBlock.{first-of-words, IsParagraph, block_of, first_of, renew}
 use Rattle.textwrap_marked_laws.proofs.NewLines.{here-words, later_raws, returns_at, end-white, text-ends}
-use Rattle.textwrap_marked_laws.proofs.NewLines.{line_raw, raw-text, text_end}
-use Rattle.textwrap_marked_laws.proofs.ParagraphLines.{first-unfenced, first-parts, first-text}
-use Rattle.textwrap_marked_laws.proofs.PrintedText.{raws-feedless, break-spaced, break-again, filled-last}
-use Rattle.textwrap_marked_laws.proofs.PrintedText.{text-joined, break-same, ends_as}
+use Rattle.textwrap_marked_laws.proofs.{NewLines.{line_raw, raw-text, text_end}, NewParts.divided-is}
+use Rattle.textwrap_marked_laws.proofs.{OpenBehind.behind_text, ParagraphLines.{first-unfenced, first-parts}}
+use Rattle.textwrap_marked_laws.proofs.{ParagraphLines.first-text, PrintedText.{raws-feedless, break-spaced}}
+use Rattle.textwrap_marked_laws.proofs.PrintedText.{break-again, filled-last, text-joined, break-same, ends_as}
 use Rattle.textwrap_marked_laws.proofs.ReadBack.{AreOfBlocksAny, IsReadBack, ending, Walks}
 use Rattle.textwrap_marked_laws.proofs.ReturnsOff.{returns-none, return-ends, return_if}
-use Rattle.textwrap_marked_laws.proofs.ShownLines.{shows-first, line-split}
+use Rattle.textwrap_marked_laws.proofs.{ShownLines.{shows-first, line-split}, SpacedBack.IsWhite}
 use Rattle.textwrap_marked_laws.proofs.TextBlocks.{as-title-none, AreTextWords, last_line, read-more, title_of}
-use Rattle.textwrap_marked_laws.proofs.{AnewLines.IsTold, TextBlocks.read}
-use Rattle.textwrap_marked_laws.proofs.{FenceMarks.safe-none, FenceMarks.IsSafe, JustifiedTexts.lines-shown}
-use Rattle.textwrap_marked_laws.proofs.{KeptLines.title-heads, OpenBehind.behind_text}
-use Rattle.textwrap_marked_laws.proofs.{LinesAlone.AreAlike, SpacedBack.IsWhite}
-use Rattle.textwrap_marked_laws.proofs.{NewParts.divided-is, TextParts.AreBlocks}
-use Rattle.textwrap_marked.specs.Reflow.{IsFilled}
-use Rattle.textwrap_marked_laws.specs.{Laws.IsSameParagraph, Laws.HasNoBarMark}
+use Rattle.textwrap_marked_laws.proofs.{TextBlocks.read, TextParts.AreBlocks}
+use Rattle.textwrap_marked_laws.specs.Laws.{IsSameParagraph, HasNoBarMark}
 
 module _ (justify : Bool) (gaps : ℕ → ℕ) where
   -- what follows the first word of a line's text
@@ -266,9 +263,7 @@ module _ (options : ReflowOptions) (returns : Bool) (told : IsTold options.endin
             (record {
               shown = marks_shown ++ words_of_lines (here ∷ lines);
               these = old_lines.0;
-              those = subst (λ ws. AreShown options
-                  (new_raw ∷ later_raws options.justify wide returns more end here.hanging ls) (marks_shown ++ ws))
-                  (n.spells ∙ sym parts) new_lines.0;
+              those = rw (n.spells ∙ sym parts) at new_lines.0;
               alone = λ plain. new_lines.1 plain ∙ sym (old_lines.1 plain);
             }) later.alike);
       }

@@ -1,8 +1,8 @@
 -- The printed lines of a division are lines of the paragraph's words, with blanks between them.
-use Rattle.std.specs.Prelude.{◌%◌}
+use Rattle.textwrap_display.proofs.Common.{◌%◌, widened_words, indent_len, justified, gaps, line_bytes, Slice}
+use Rattle.textwrap_display.proofs.Common.{chunks, chunks-from, words_of, tiled}
 use Rattle.textwrap_display.proofs.WidenedWords.{widened_chunks, widened-text}
-use Rattle.textwrap_display.specs.Justifying.{widened_words, indent_len, justified, gaps}
-use Rattle.textwrap_layout.specs.Paragraph.{line_bytes, Slice}
+use Rattle.textwrap_marked.proofs.PrintedLines.{texts_more}
 use Rattle.textwrap_marked_laws.proofs.Common.{ReflowOptions, append_assoc, shown_lines, IsDivision, all-right}
 use Rattle.textwrap_marked_laws.proofs.Common.{all-left, is_blank, covered, word_of, blanks, get_or, length, ℕ}
 use Rattle.textwrap_marked_laws.proofs.Common.{append-nil, first_room, later_room, line_texts, onto_first, All}
@@ -11,12 +11,8 @@ use Rattle.textwrap_marked_laws.proofs.Common.{nat_lt, ne_eqb, pieces, arith, bl
 use Rattle.textwrap_marked_laws.proofs.Common.{not, sym, ◌+◌, ◌-◌, ◌<◌, ◌∙◌, ◌∷◌, ◌≡◌, ◌≢◌, ◌≤◌, [], ap}
 use Rattle.textwrap_marked_laws.proofs.Common.{text_width, line_text, All-head, All-tail, LineText, WordText}
 use Rattle.textwrap_marked_laws.proofs.LineWords.{division-words, AreCutInto, all_shown, ink-blank, joined}
-use Rattle.textwrap_marked_laws.proofs.SpacedBack.{IsPlain, IsInk}
-use Rattle.textwrap_marked.proofs.PrintedLines.{texts_more}
-use Rattle.textwrap_marked_laws.proofs.LineWords.{shown}
-use Rattle.textwrap_text.proofs.Common.{cond_both, chunks, eq-eqb, min, ◌/◌}
-use Rattle.textwrap_text.proofs.Units.Chunks.{chunks-from}
-use Rattle.textwrap_words.proofs.Common.{words_of, tiled}
+use Rattle.textwrap_marked_laws.proofs.{LineWords.shown, SpacedBack.IsPlain, SpacedBack.IsInk}
+use Rattle.textwrap_text.proofs.Common.{cond_both, eq-eqb, min, ◌/◌}
 
 -- ---- the chunks of a line
 

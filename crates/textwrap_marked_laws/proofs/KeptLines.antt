@@ -1,7 +1,7 @@
 -- Lines that stay, read again before others that begin alike.
 use Rattle.std.proofs.Math.Bool.{and-true}
-use Rattle.textwrap_marked_laws.proofs.AnewLines.{anew-line, anew-text, anew_raw, IsTold, anew}
-use Rattle.textwrap_marked_laws.proofs.AnewLines.{content-return, anew-feedless, anew-content, passed-anew}
+use Rattle.textwrap_marked_laws.proofs.AnewLines.{anew-line, anew-text, anew_raw, IsTold, anew, content-return}
+use Rattle.textwrap_marked_laws.proofs.AnewLines.{anew-feedless, anew-content, passed-anew}
 use Rattle.textwrap_marked_laws.proofs.BegunAlike.{ends-word, AreBegun}
 use Rattle.textwrap_marked_laws.proofs.Common.{All-tail, LineText, as_title, bytes_eq, flat_map, entered, Bool}
 use Rattle.textwrap_marked_laws.proofs.Common.{None, Some, drop, refl, ◌&&◌, ◌++◌, inl, inr, map, suc, sym, []}
@@ -10,11 +10,10 @@ use Rattle.textwrap_marked_laws.proofs.Common.{ReflowOptions, line_as_read, Line
 use Rattle.textwrap_marked_laws.proofs.Common.{StateText, ending_if, is_return, kept_line, All-cons, All-head}
 use Rattle.textwrap_marked_laws.proofs.Common.{take-append-drop, without_returns, join_with_byte, append_assoc}
 use Rattle.textwrap_marked_laws.proofs.Common.{◌-◌, ◌<◌, ◌∙◌, ◌∷◌, ◌≡◌, ap, ℕ, ⊤}
-use Rattle.textwrap_marked_laws.proofs.FenceMarks.{safe-passed, IsSafe}
-use Rattle.textwrap_marked_laws.proofs.LinesAlone.{more-alike, none-alike, AreAlike}
+use Rattle.textwrap_marked_laws.proofs.{Feedless.IsFeedless, FenceLeft.returned, FenceMarks.safe-passed}
+use Rattle.textwrap_marked_laws.proofs.{FenceMarks.IsSafe, LinesAlone.more-alike, LinesAlone.none-alike}
+use Rattle.textwrap_marked_laws.proofs.{LinesAlone.AreAlike, ParagraphLines.IsHeadAlike, ReturnsOff.return_if}
 use Rattle.textwrap_marked_laws.proofs.TextBlocks.{read-more, title_of, line_at, peel, read}
-use Rattle.textwrap_marked_laws.proofs.{Feedless.IsFeedless, FenceLeft.returned}
-use Rattle.textwrap_marked_laws.proofs.{ParagraphLines.IsHeadAlike, ReturnsOff.return_if}
 use Rattle.textwrap_marks.specs.Signs.{is_rule}
 
 -- all that the lines before it ask of a line is the same, whatever its bytes are

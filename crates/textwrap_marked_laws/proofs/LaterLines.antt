@@ -6,11 +6,10 @@ use Rattle.textwrap_marked_laws.proofs.Common.{is_comment_at, length-append, app
 use Rattle.textwrap_marked_laws.proofs.Common.{is_quote, length, passed, arith, codes, false, subst, List, cond}
 use Rattle.textwrap_marked_laws.proofs.Common.{refl, true, ◌&&◌, ◌++◌, suc, sym, ◌+◌, ◌<◌, ◌∙◌, ◌∷◌, ◌≡◌, ap, ℕ}
 use Rattle.textwrap_marked_laws.proofs.Common.{spaced_text, SpacedText, first_word, quotes_len, true≢false, Bool}
-use Rattle.textwrap_marked_laws.proofs.HangingKinds.{quotes-all, quotes-are}
-use Rattle.textwrap_marked_laws.proofs.LineKinds.{hanging_of, HaveKinds, kinds-cut, line-is, line_by, none-if}
+use Rattle.textwrap_marked_laws.proofs.{HangingKinds.{quotes-all, quotes-are}, LineKinds.{hanging_of, HaveKinds}}
+use Rattle.textwrap_marked_laws.proofs.LineKinds.{kinds-cut, line-is, line_by, none-if, one_if, Kinds, kinds}
 use Rattle.textwrap_marked_laws.proofs.OpenBehind.{behind-free, behind_text, apart-free, starred_at, block_at}
-use Rattle.textwrap_marked_laws.proofs.SpacedBack.{IsLineText, AreSpaced, line-text}
-use Rattle.textwrap_marked_laws.proofs.{LineKinds.one_if, LineKinds.Kinds, LineKinds.kinds, OpenBehind.begun}
+use Rattle.textwrap_marked_laws.proofs.{OpenBehind.begun, SpacedBack.{IsLineText, AreSpaced, line-text}}
 use Rattle.textwrap_marked_lines.proofs.FirstWords.{comment_is}
 
 -- ---- what is read of a line

@@ -1,4 +1,5 @@
 -- What is read of a line, from its words by kind: a comment mark, quote marks, bullets and text.
+use Rattle.std.proofs.Common.{length-take-le, drop_at, eq-eqb}
 use Rattle.textwrap_marked_laws.proofs.Common.{append-nil, cases_Bool, first_word, quotes_len, LineText, is_deep}
 use Rattle.textwrap_marked_laws.proofs.Common.{bullets_len, comment_len, slice_range, spaced_text, SpacedText, ℕ}
 use Rattle.textwrap_marked_laws.proofs.Common.{closes_block, line_as_read, spaced_words, stands_apart, is_bullet}
@@ -8,13 +9,10 @@ use Rattle.textwrap_marked_laws.proofs.Common.{is_comment_opening, hanging_comme
 use Rattle.textwrap_marked_laws.proofs.Common.{length, lt-ltb, ne_eqb, arith, false, List, cond, drop, refl, not}
 use Rattle.textwrap_marked_laws.proofs.Common.{take, true, ◌&&◌, ◌++◌, ◌==◌, ◌||◌, suc, sym, ◌+◌, ◌-◌, ◌∙◌, ◌∷◌}
 use Rattle.textwrap_marked_laws.proofs.Common.{without_returns, is_comment_at, length-append, append_assoc, Bool}
-use Rattle.textwrap_marked_laws.proofs.SpacedBack.{begins-plain, BeginsPlain, IsLineText, lead_words, line-back}
-use Rattle.textwrap_marked_laws.proofs.Common.{◌≡◌, ◌≤◌, [], ap}
-use Rattle.textwrap_marked_laws.proofs.SpacedBack.{with_lead}
-use Rattle.textwrap_marked_lines.specs.Lines.{is_chosen}
-use Rattle.textwrap_marked_lines.specs.Prefixes.{prefix_ends, lead_len}
+use Rattle.textwrap_marked_laws.proofs.{Common.◌≡◌, Common.◌≤◌, Common.[], Common.ap, SpacedBack.begins-plain}
+use Rattle.textwrap_marked_laws.proofs.SpacedBack.{BeginsPlain, IsLineText, lead_words, line-back, with_lead}
+use Rattle.textwrap_marked_lines.specs.{Lines.is_chosen, Prefixes.prefix_ends, Prefixes.lead_len}
 use Rattle.textwrap_marked_lines.specs.declared.prefixes.PrefixEnds.{PrefixEnds}
-use Rattle.textwrap_text.proofs.Common.{length-take-le, drop_at, eq-eqb}
 
 -- ---- what is read of words by kind
 
@@ -72,11 +70,6 @@ cut_kinds all ends = record {
   prefix = spaced_text (take ends.text all);
   bare = ends.margin == ends.text;
 }
-
-line-cut : (options : ReflowOptions) (state : StateText) (raw : List ℕ) (fed : Bool)
-    (all : List SpacedText) (ends : PrefixEnds)
-    → line_from_words options state raw fed all ends ≡ line_by options state raw fed (cut_kinds all ends)
-line-cut options state raw fed all ends = refl
 
 abbrev pub kinds : List ℕ → List SpacedText → List SpacedText → List SpacedText → List SpacedText
     → Kinds

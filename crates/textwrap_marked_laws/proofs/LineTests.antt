@@ -1,5 +1,5 @@
 -- What the lines of a paragraph are not: rules, or deeper than those before them.
-use Rattle.std.specs.{Prelude.nat_le, Str.chars}
+use Rattle.std.{proofs.Common.nat_le, specs.Str.chars}
 use Rattle.textwrap_marked_laws.proofs.Common.{LineText, bytes_eq, eqb-true, list_any, marks_of, goes_on, length}
 use Rattle.textwrap_marked_laws.proofs.Common.{SpacedText, cases_Bool, first_word, has_letter, true≢false, arith}
 use Rattle.textwrap_marked_laws.proofs.Common.{and-false, deeper_by, ends_with, has_bytes, last_word, nat_tests}
@@ -7,10 +7,8 @@ use Rattle.textwrap_marked_laws.proofs.Common.{bytes_eq-Decides, opens_paragraph
 use Rattle.textwrap_marked_laws.proofs.Common.{nat_eq, nat_lt, codes, false, Bool, List, None, Some, cond, refl}
 use Rattle.textwrap_marked_laws.proofs.Common.{true, ◌&&◌, ◌==◌, ◌||◌, not, sym, ◌-◌, ◌<◌, ◌∙◌, ◌∷◌, ◌≡◌, [], ap}
 use Rattle.textwrap_marked_laws.proofs.OpenBehind.{behind_text, IsOpen}
-use Rattle.textwrap_marked_lines.specs.Lines.{begins_code}
-use Rattle.textwrap_marked_lines.specs.Columns.{DepthText, is_deeper, depth_of}
-use Rattle.textwrap_marks.specs.Signs.{is_rule_characters, is_example_key, is_rule}
-use Rattle.textwrap_marks.specs.Words.{is_letter_or_digit}
+use Rattle.textwrap_marked_lines.specs.{Columns.{DepthText, is_deeper, depth_of}, Lines.begins_code}
+use Rattle.textwrap_marks.specs.{Signs.{is_rule_characters, is_example_key, is_rule}, Words.is_letter_or_digit}
 use Rattle.textwrap_text.proofs.Common.{and_right, list_all}
 
 -- ---- no rule begins with a letter

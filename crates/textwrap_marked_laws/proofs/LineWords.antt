@@ -6,12 +6,11 @@ use Rattle.textwrap_marked_laws.proofs.Common.{ReflowOptions, length-append, app
 use Rattle.textwrap_marked_laws.proofs.Common.{WordText, is_blank, take_all, All-nil, covered, or-left, blanks}
 use Rattle.textwrap_marked_laws.proofs.Common.{onto_front, with_blank, all-right, All-cons, All-head, All-tail}
 use Rattle.textwrap_marked_laws.proofs.Common.{spaced_text, trimmed_len, IsDivision, SpacedText, append-nil, ℕ}
-use Rattle.textwrap_marked_laws.proofs.Common.{sym, ◌+◌, ◌-◌, ◌<◌, ◌∙◌, ◌∷◌, ◌≡◌, ◌≢◌, [], ap}
-use Rattle.textwrap_marked_laws.proofs.Common.{word_of, get_or, is_cut, length, pieces, blank, false, subst, ⊤}
+use Rattle.textwrap_marked_laws.proofs.Common.{sym, ◌+◌, ◌-◌, ◌<◌, ◌∙◌, ◌∷◌, ◌≡◌, ◌≢◌, [], ap, word_of, get_or}
+use Rattle.textwrap_marked_laws.proofs.Common.{is_cut, length, pieces, blank, false, subst, ⊤}
 use Rattle.textwrap_marked_laws.proofs.SpacedBack.{IsPlain, IsInk}
 use Rattle.textwrap_text.proofs.Common.{without_final_blanks, take-append-add, length-take, take_more}
-use Rattle.textwrap_text.proofs.Lists.Parts.{some_from_nonempty}
-use Rattle.textwrap_words.proofs.Common.{piece}
+use Rattle.textwrap_words.proofs.Common.{some_from_nonempty, piece}
 use Rattle.textwrap_words.proofs.Word.Texts.{trimmed-front, word_of-seam, AreBlanks}
 
 -- the gap before a word with so many others behind it: a blank, and more where lines are justified
@@ -74,7 +73,6 @@ word-spaced word is =
 word-begins : (word : List ℕ) → IsPlain word → 0 < trimmed_len (with_blank word)
 word-begins word is = omega (
   arith,
-  is.some,
   ap (λ w. length w.word) (word-spaced word is),
   length-take (trimmed_len (with_blank word)) (with_blank word),
 )

@@ -1,6 +1,5 @@
 -- Lines that stand for themselves: no line of a paragraph does.
-use Rattle.std.proofs.lemmas.{Bool.or_right, Bool.or_left, List.Elements.filter-append}
-use Rattle.std.specs.List.{filter}
+use Rattle.std.{proofs.lemmas.Bool.{or_right, or_left}, specs.List.filter}
 use Rattle.textwrap_marked_laws.proofs.Common.{All-map, All-nil, or-left, is_box, length, false, subst, Bool, ap}
 use Rattle.textwrap_marked_laws.proofs.Common.{AreShown, LineText, bytes_eq, is_quote, list_any, none-any, codes}
 use Rattle.textwrap_marked_laws.proofs.Common.{List, cond, refl, true, ◌&&◌, ◌++◌, ◌||◌, All, ap₂, map, not, suc}
@@ -8,17 +7,15 @@ use Rattle.textwrap_marked_laws.proofs.Common.{SpacedText, first_word, has_lette
 use Rattle.textwrap_marked_laws.proofs.Common.{StateText, and-false, is_bullet, All-cons, All-head, All-tail, []}
 use Rattle.textwrap_marked_laws.proofs.Common.{comment_len, has_columns, lines_alone, spaced_text, All-weaker}
 use Rattle.textwrap_marked_laws.proofs.Common.{is_comment_at, line_as_read, begins_text, bullets_len, All-append}
-use Rattle.textwrap_marked_laws.proofs.Common.{sym, ◌<◌, ◌∙◌, ◌∷◌, ◌≡◌}
-use Rattle.textwrap_marked_laws.proofs.Common.{without_returns, is_column_word, words_of_lines, ReflowOptions, ℕ}
-use Rattle.textwrap_marked_laws.proofs.HangingKinds.{quotes-are, IsFull}
-use Rattle.textwrap_marked_laws.proofs.LaterLines.{one-bullet, IsOfText}
+use Rattle.textwrap_marked_laws.proofs.Common.{sym, ◌<◌, ◌∙◌, ◌∷◌, ◌≡◌, without_returns, is_column_word}
+use Rattle.textwrap_marked_laws.proofs.{Common.{words_of_lines, ReflowOptions, ℕ}, HangingForms.IsHanging}
+use Rattle.textwrap_marked_laws.proofs.{HangingKinds.{quotes-are, IsFull}, LaterLines.{one-bullet, IsOfText}}
+use Rattle.textwrap_marked_laws.proofs.{LineKinds.{HaveKinds, some-if}, OpenBehind.no-columns}
 use Rattle.textwrap_marked_laws.proofs.ShownLines.{shown-append, shows-later, line-split, line-words, own_shown}
-use Rattle.textwrap_marked_laws.proofs.SpacedBack.{AreSpaced, IsWhite}
-use Rattle.textwrap_marked_laws.proofs.{HangingForms.IsHanging, LineKinds.HaveKinds, LineKinds.some-if}
-use Rattle.textwrap_marked_laws.proofs.{OpenBehind.no-columns, ShownLines.shows-own}
+use Rattle.textwrap_marked_laws.proofs.{ShownLines.shows-own, SpacedBack.{AreSpaced, IsWhite}}
 use Rattle.textwrap_marked_laws.specs.Laws.{begins_no_text, HasNoBarMark, is_line_mark, stands_alone, LineShows}
 use Rattle.textwrap_marks.specs.Signs.{is_sign}
-use Rattle.textwrap_text.proofs.Common.{and_parts}
+use Rattle.textwrap_text.proofs.Common.{filter-append, and_parts}
 
 -- a word that is no bar
 abbrev pub NoBar : List ℕ → Type 0

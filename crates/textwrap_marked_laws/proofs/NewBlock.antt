@@ -4,18 +4,17 @@ use Rattle.textwrap_marked_laws.proofs.Common.{ends_with, LineText, has_byte, en
 use Rattle.textwrap_marked_laws.proofs.Common.{nat_lt, passed, arith, codes, false, subst, Bool, List, refl}
 use Rattle.textwrap_marked_laws.proofs.Common.{true, ◌&&◌, ◌++◌, map, sym, ◌<◌, ◌∙◌, ◌∷◌, ◌≡◌, [], ap}
 use Rattle.textwrap_marked_laws.proofs.Common.{without_returns, words_of_lines, ReflowOptions, line_as_read, ℕ}
-use Rattle.textwrap_marked_laws.proofs.LaterLines.{read_kinds, line-read, read-line, IsRead}
-use Rattle.textwrap_marked_laws.proofs.LineWords.{AreCutInto, MayPart, spread}
-use Rattle.textwrap_marked_laws.proofs.NewLines.{AreNewBehind, here-words, later_raws, new-behind, returns_at}
-use Rattle.textwrap_marked_laws.proofs.NewLines.{end-white, line_raw, raw-text, text_end}
-use Rattle.textwrap_marked_laws.proofs.OpenBehind.{behind_text, block_at, AreFree}
+use Rattle.textwrap_marked_laws.proofs.{HangingForms.IsHanging, LaterLines.{read_kinds, line-read, read-line}}
+use Rattle.textwrap_marked_laws.proofs.{LaterLines.IsRead, LineKinds.line_by, LineWords.{AreCutInto, MayPart}}
+use Rattle.textwrap_marked_laws.proofs.{LineWords.spread, NewLines.{AreNewBehind, here-words, later_raws}}
+use Rattle.textwrap_marked_laws.proofs.NewLines.{new-behind, returns_at, end-white, line_raw, raw-text}
+use Rattle.textwrap_marked_laws.proofs.{NewLines.text_end, OpenBehind.{behind_text, block_at, AreFree}}
 use Rattle.textwrap_marked_laws.proofs.ParagraphLines.{first-keyed, first-text, first-new, IsNew}
 use Rattle.textwrap_marked_laws.proofs.ParagraphLines.{first-starred, IsFirstAlike, first-begins, first-hangs}
-use Rattle.textwrap_marked_laws.proofs.SpreadWords.{spread-columns, spread-spaced, spread-first, spread-len}
+use Rattle.textwrap_marked_laws.proofs.{SpacedBack.IsWhite, SpreadWords.spread-columns}
+use Rattle.textwrap_marked_laws.proofs.SpreadWords.{spread-spaced, spread-first, spread-len, last_text}
 use Rattle.textwrap_marked_laws.proofs.TextBlocks.{AreTextWords, AreOneBlock, last_line, IsWalked, title_of}
-use Rattle.textwrap_marked_laws.proofs.TextBlocks.{untitled, line_at, peel, read, walk}
-use Rattle.textwrap_marked_laws.proofs.{HangingForms.IsHanging, LineKinds.line_by, SpacedBack.IsWhite}
-use Rattle.textwrap_marked_laws.proofs.{SpreadWords.last_text, WordEnds.spread-free}
+use Rattle.textwrap_marked_laws.proofs.{TextBlocks.{untitled, line_at, peel, read, walk}, WordEnds.spread-free}
 
 module _ (options : ReflowOptions) where
   -- a paragraph's first line as it is read, and the walk over the others

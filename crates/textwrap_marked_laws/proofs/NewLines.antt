@@ -6,22 +6,21 @@ use Rattle.textwrap_marked_laws.proofs.Common.{first_word, has_letter, last_whit
 use Rattle.textwrap_marked_laws.proofs.Common.{nat_lt, passed, arith, codes, false, subst, Bool, List, refl, map}
 use Rattle.textwrap_marked_laws.proofs.Common.{opens_paragraph, without_returns, words_of_lines, ReflowOptions}
 use Rattle.textwrap_marked_laws.proofs.Common.{true, ◌&&◌, ◌++◌, ◌||◌, not, sym, ◌<◌, ◌∙◌, ◌∷◌, ◌≡◌, ap}
+use Rattle.textwrap_marked_laws.proofs.HangingForms.{IsHanging}
 use Rattle.textwrap_marked_laws.proofs.LineTests.{letter-no-rule, behind-same, open-behind, goes-true}
 use Rattle.textwrap_marked_laws.proofs.LineWords.{AreCutInto, MayPart, spread, shown}
-use Rattle.textwrap_marked_laws.proofs.LinesAlone.{AreTextLines, more-lines, no-lines}
-use Rattle.textwrap_marked_laws.proofs.OpenBehind.{behind_text, text-letter, AreFree}
-use Rattle.textwrap_marked_laws.proofs.ParagraphLines.{later-new, IsNew}
+use Rattle.textwrap_marked_laws.proofs.{LinesAlone.{AreTextLines, more-lines, no-lines}, OpenBehind.behind_text}
+use Rattle.textwrap_marked_laws.proofs.{OpenBehind.{text-letter, AreFree}, ParagraphLines.{later-new, IsNew}}
 use Rattle.textwrap_marked_laws.proofs.ReturnsOff.{returns-none, ends-behind, returns-off, return_if, shown-end}
-use Rattle.textwrap_marked_laws.proofs.ReturnsOff.{white-end, EndsWell}
-use Rattle.textwrap_marked_laws.proofs.SpreadWords.{last_text, MayGoOn, goes-on, no-mark}
-use Rattle.textwrap_marked_laws.proofs.SpreadWords.{spread-columns, spread-spaced, spread-first, spread-white}
-use Rattle.textwrap_marked_laws.proofs.SpreadWords.{spread-words, spread-last, spread-end, spread-len, last-word}
+use Rattle.textwrap_marked_laws.proofs.{ReturnsOff.{white-end, EndsWell}, SpacedBack.{IsPlain, IsWhite}}
+use Rattle.textwrap_marked_laws.proofs.SpreadWords.{last_text, MayGoOn, goes-on, no-mark, spread-columns}
+use Rattle.textwrap_marked_laws.proofs.SpreadWords.{spread-spaced, spread-first, spread-white, spread-words}
+use Rattle.textwrap_marked_laws.proofs.SpreadWords.{spread-last, spread-end, spread-len, last-word}
 use Rattle.textwrap_marked_laws.proofs.TextBlocks.{AreClosing, open_still, last_line, read-more, NoColumn}
 use Rattle.textwrap_marked_laws.proofs.TextBlocks.{as-title-none, AreTextWords, AreOneBlock, last-behind, read}
 use Rattle.textwrap_marked_laws.proofs.TextBlocks.{title_of, NoClose, line_at}
 use Rattle.textwrap_marked_laws.proofs.WordEnds.{closing-after, closing-alone, closes-last, deeper-same}
 use Rattle.textwrap_marked_laws.proofs.WordEnds.{spread-free, spread-none, cut-facts, part-cut}
-use Rattle.textwrap_marked_laws.proofs.{HangingForms.IsHanging, SpacedBack.IsPlain, SpacedBack.IsWhite}
 use Rattle.textwrap_marks.proofs.Letterless.{no-comment}
 
 -- ---- the text of a printed line

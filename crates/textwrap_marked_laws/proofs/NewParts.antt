@@ -1,6 +1,7 @@
 -- What becomes of the parts of a text, if it is known of each, and what the laws say of one.
-use Rattle.textwrap_marks.specs.declared.options.Algorithm.TheVariants as by
 use Rattle.textwrap_base.specs.declared.penalties.Penalties.{Penalties}
+use Rattle.textwrap_lines.proofs.Common.{ByFirstFit}
+use Rattle.textwrap_marked.{proofs.PrintedLines.texts_more, specs.Reflow.IsReflowed}
 use Rattle.textwrap_marked_laws.proofs.Common.{ByOptimalFit, ending_bytes, IsDividedBy, piece_words, Algorithm}
 use Rattle.textwrap_marked_laws.proofs.Common.{IsReflowedFrom, ReflowOptions, filled_ending, lines_of_text, []}
 use Rattle.textwrap_marked_laws.proofs.Common.{List, None, Part, drop, refl, true, ◌&&◌, ◌++◌, All, sym, ◌∙◌}
@@ -10,15 +11,12 @@ use Rattle.textwrap_marked_laws.proofs.Common.{sizes_of, printed, length, nat_eq
 use Rattle.textwrap_marked_laws.proofs.Common.{starts_with, IsDivision, filled_end, first_room, later_room, ap}
 use Rattle.textwrap_marked_laws.proofs.Common.{starts_with-rest, byte_order_mark, parts_of_blocks, AreOfBlocks}
 use Rattle.textwrap_marked_laws.proofs.Common.{words_between_white, dividing_algorithm, IsReflowedBehind, Bool}
-use Rattle.textwrap_marked_laws.proofs.KeptWords.{printed-words, IsPlainBlock, text-plain}
+use Rattle.textwrap_marked_laws.proofs.{Common.{◌∷◌, ◌≡◌}, KeptWords.{printed-words, IsPlainBlock, text-plain}}
 use Rattle.textwrap_marked_laws.proofs.PrintedWidths.{printed-within, lines-as-wide, two-widths}
-use Rattle.textwrap_marked_laws.proofs.Common.{◌∷◌, ◌≡◌}
-use Rattle.textwrap_marked.proofs.PrintedLines.{texts_more}
 use Rattle.textwrap_marked_laws.proofs.TextParts.{text-parts}
 use Rattle.textwrap_marked_laws.specs.Laws.{PartKeepsToWidth, IsKeptOrBehind, PartKeepsWords, AreNewParts}
 use Rattle.textwrap_marked_laws.specs.Laws.{widths_left, AreOfParts, CostsLeast, FillsWidth, AreAsWide}
-use Rattle.textwrap_marked.specs.Reflow.{IsReflowed}
-use Rattle.textwrap_words.proofs.Common.{ByFirstFit}
+use Rattle.textwrap_marks.specs.declared.options.Algorithm.TheVariants as by
 
 abbrev part_of : Bool → LineText → List LineText → Part
 part_of is_kept first lines = record { stays = is_kept; first = first; lines = lines }

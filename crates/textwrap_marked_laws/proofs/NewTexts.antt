@@ -1,6 +1,8 @@
 -- Texts that were reflowed, reflowed again.
-use Rattle.std.proofs.lemmas.List.Splits.{join_with_byte-slice_split}
-use Rattle.textwrap_marked_laws.proofs.BegunAlike.{marks-same, AreBegun}
+use Rattle.std.proofs.{Common.⊎_elim, lemmas.List.Splits.join_with_byte-slice_split}
+use Rattle.textwrap_marked.specs.Reflow.{IsReflowed}
+use Rattle.textwrap_marked.specs.Within.{IsReflowedWithinBehind, IsReflowedWithinFrom, IsReflowedWithin}
+use Rattle.textwrap_marked_laws.proofs.{AnewLines.IsTold, BegunAlike.{marks-same, AreBegun}}
 use Rattle.textwrap_marked_laws.proofs.Common.{IsReflowedBehind, starts_with-rest, byte_order_mark, AreSameParts}
 use Rattle.textwrap_marked_laws.proofs.Common.{IsReflowedFrom, join_with_byte, ReflowOptions, filled_ending, inl}
 use Rattle.textwrap_marked_laws.proofs.Common.{Some, cond, drop, refl, true, ◌++◌, ◌==◌, inr, sym, ◌∙◌, ◌∷◌, ◌≡◌}
@@ -8,17 +10,12 @@ use Rattle.textwrap_marked_laws.proofs.Common.{lines_alone, slice_split, starts_
 use Rattle.textwrap_marked_laws.proofs.Common.{lines_of_text, ending_bytes, AreOfBlocks, first_state, LineEnding}
 use Rattle.textwrap_marked_laws.proofs.Common.{lt-ltb, nat_eq, nat_lt, arith, false, subst, Bool, CRLF, List, LF}
 use Rattle.textwrap_marked_laws.proofs.Common.{text_parts, LineRange, All-head, AreShown, Option, blocks, length}
+use Rattle.textwrap_marked_laws.proofs.{Common.{◌⊎◌, [], ap}, EarlierEndings.same-renewed}
+use Rattle.textwrap_marked_laws.proofs.{EndsAlike.{ends-alike, one-line}, Feedless.{IsFeedless, split-some}}
 use Rattle.textwrap_marked_laws.proofs.SameParts.{from-other, laid-other, width-same}
 use Rattle.textwrap_marked_laws.proofs.TextBack.{AreReadBack, within-back, IsTextBack, text-back}
-use Rattle.textwrap_marked_laws.proofs.Common.{◌⊎◌, [], ap}
-use Rattle.textwrap_marked_laws.proofs.AnewLines.{IsTold}
-use Rattle.textwrap_marked_laws.proofs.{EarlierEndings.same-renewed, EndsAlike.ends-alike, EndsAlike.one-line}
 use Rattle.textwrap_marked_laws.specs.Laws.{HaveTheSameAlone, KeepsEnding, ShowTheSame, behind_mark}
-use Rattle.textwrap_marked.specs.Within.{IsReflowedWithinBehind, IsReflowedWithinFrom, IsReflowedWithin}
-use Rattle.textwrap_marked_laws.proofs.Feedless.{IsFeedless, split-some}
-use Rattle.textwrap_marked.specs.Reflow.{IsReflowed}
 use Rattle.textwrap_marks.specs.declared.options.Algorithm.{Algorithm}
-use Rattle.textwrap_text.proofs.Common.{⊎_elim}
 
 -- ---- without a byte order mark
 
@@ -226,8 +223,8 @@ module _ (options : ReflowOptions) (width : ℕ) (algorithm : Algorithm) (before
       → IsReflowedFrom options between reflowed → IsReflowedFrom options text reflowed
   endings-from text between reflowed laid second =
       from-other options text between
-      (subst (λ x. AreSameParts x (text_parts options text) (text_parts options between)) (sym asked)
-      (same-renewed options e before text between (width-same options width algorithm before text between laid)))
+      (rw asked (same-renewed options e before text between
+      (width-same options width algorithm before text between laid)))
       (ap (λ x. filled_ending x between) asked ∙ sym (ap (λ x. filled_ending x text) asked)) reflowed second
 
   pub endings-same : (text between reflowed : List ℕ) → IsReflowed before_options text between

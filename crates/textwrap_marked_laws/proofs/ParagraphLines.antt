@@ -3,21 +3,20 @@ use Rattle.std.proofs.lemmas.List.Folds.{list_any-append}
 use Rattle.textwrap_marked_laws.proofs.Common.{None, refl, true, ◌&&◌, ◌++◌, ◌==◌, ◌||◌, All, not, sym, ◌<◌, ℕ}
 use Rattle.textwrap_marked_laws.proofs.Common.{ReflowOptions, line_as_read, spaced_words, begins_text, is_key}
 use Rattle.textwrap_marked_laws.proofs.Common.{hanging_bullets, opens_paragraph, without_returns, append_assoc}
-use Rattle.textwrap_marked_laws.proofs.Common.{has_letter, StateText, all-right, LineText, has_byte, list_any}
-use Rattle.textwrap_marked_laws.proofs.Common.{none-any, or-false, length, codes, false, subst, Bool, List, ap}
+use Rattle.textwrap_marked_laws.proofs.Common.{has_letter, StateText, all-right, LineText, has_byte, none-any}
+use Rattle.textwrap_marked_laws.proofs.Common.{or-false, length, codes, false, subst, Bool, List, ap}
 use Rattle.textwrap_marked_laws.proofs.Common.{spaced_text, All-weaker, SpacedText, append-nil, first_word, []}
-use Rattle.textwrap_marked_laws.proofs.HangingForms.{bullets-white, hanging-is, IsHanging}
+use Rattle.textwrap_marked_laws.proofs.{Common.{◌∙◌, ◌≡◌}, HangingForms.{bullets-white, hanging-is, IsHanging}}
 use Rattle.textwrap_marked_laws.proofs.HangingKinds.{before-full, full-before, marks-kinds, hangs-same, IsFull}
 use Rattle.textwrap_marked_laws.proofs.HangingKinds.{kinds-same, opens-none, HasNoMark}
 use Rattle.textwrap_marked_laws.proofs.LaterLines.{kinds-first, read-spaced, read_kinds, read_marks, line-read}
 use Rattle.textwrap_marked_laws.proofs.LaterLines.{text-parts, words-some, read-line, text-line, IsOfText}
+use Rattle.textwrap_marked_laws.proofs.LaterLines.{regroup, IsRead}
 use Rattle.textwrap_marked_laws.proofs.LineKinds.{has_opening_in, hanging_of, HaveKinds, line_by, Kinds, kinds}
-use Rattle.textwrap_marked_laws.proofs.OpenBehind.{some-none, block_at, field_of, AreFree, IsOpen, begun}
-use Rattle.textwrap_marked_laws.proofs.OpenBehind.{text-letter, apart-free, free-apart, starred_at, text-other}
-use Rattle.textwrap_marked_laws.proofs.SpacedBack.{white-other, AreSpaced, line-back, with_lead, lead-one}
-use Rattle.textwrap_marked_laws.proofs.Common.{◌∙◌, ◌∷◌, ◌≡◌}
-use Rattle.textwrap_marked_laws.proofs.SpacedBack.{IsWhite}
-use Rattle.textwrap_marked_laws.proofs.{LaterLines.regroup, LaterLines.IsRead, LineTests.letter-no-rule}
+use Rattle.textwrap_marked_laws.proofs.{LineTests.letter-no-rule, OpenBehind.{some-none, block_at, field_of}}
+use Rattle.textwrap_marked_laws.proofs.OpenBehind.{AreFree, IsOpen, begun, text-letter, apart-free, free-apart}
+use Rattle.textwrap_marked_laws.proofs.{OpenBehind.{starred_at, text-other}, SpacedBack.white-other}
+use Rattle.textwrap_marked_laws.proofs.SpacedBack.{AreSpaced, line-back, with_lead, lead-one, IsWhite}
 use Rattle.textwrap_marks.{proofs.Letterless.box-plain, specs.Signs.is_rule}
 
 pub all-spaced : (ks : List SpacedText) → All IsFull ks → AreSpaced ks
@@ -125,11 +124,6 @@ module _ (options : ReflowOptions) (in_block : Bool) (hanging : List ℕ)
       })
 
 -- ---- the first line
-
-any-behind : (test : ℕ → Bool) (front rest : List ℕ) → list_any test rest ≡ false
-    → list_any test (front ++ rest) ≡ list_any test front
-any-behind test [] rest none = none
-any-behind test (c ∷ front) rest none = ap (λ b. test c || b) (any-behind test front rest none)
 
 -- all that the lines before it ask of a line, and of the first of a block
 pub record IsHeadAlike (line other : LineText) : Type 0 where

@@ -6,12 +6,11 @@ use Rattle.textwrap_marked_laws.proofs.Common.{join_with_byte, ReflowOptions, ap
 use Rattle.textwrap_marked_laws.proofs.Common.{nat_lt, arith, codes, false, subst, List, cond, drop, refl, true}
 use Rattle.textwrap_marked_laws.proofs.Common.{spaced_text, All-append, All-weaker, SpacedText, append-nil, Bool}
 use Rattle.textwrap_marked_laws.proofs.Common.{◌&&◌, ◌++◌, All, suc, sym, ◌-◌, ◌∙◌, ◌∷◌, ◌≡◌, ◌≢◌, [], ap, ℕ}
+use Rattle.textwrap_marked_laws.proofs.{Feedless.{IsFeedless, NoFeed}, KeptLines.join-more}
 use Rattle.textwrap_marked_laws.proofs.LineWords.{AreCutInto, all_shown, spread, shown, gap}
 use Rattle.textwrap_marked_laws.proofs.NewLines.{later_raws, returns_at, line_raw, text_end}
-use Rattle.textwrap_marked_laws.proofs.SpacedBack.{white-other, AreSpaced, IsWhite}
-use Rattle.textwrap_marked_laws.proofs.SpreadWords.{spread-end, gap-white, last-more}
-use Rattle.textwrap_marked_laws.proofs.{Feedless.IsFeedless, Feedless.NoFeed, TextBlocks.last_line}
-use Rattle.textwrap_marked_laws.proofs.{KeptLines.join-more, ReturnsOff.return_if}
+use Rattle.textwrap_marked_laws.proofs.{ReturnsOff.return_if, SpacedBack.{white-other, AreSpaced, IsWhite}}
+use Rattle.textwrap_marked_laws.proofs.{SpreadWords.{spread-end, gap-white, last-more}, TextBlocks.last_line}
 use Rattle.textwrap_marks.specs.Signs.{first_white}
 
 -- ---- what stands behind the last line

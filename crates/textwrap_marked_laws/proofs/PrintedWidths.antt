@@ -116,7 +116,6 @@ line-as-wide : (width : ℕ) (prefix : List ℕ) (line : List WordText)
 line-as-wide width prefix line utf8 whole some fits =
     omega (
       arith,
-      fits,
       justified-width (covered line) utf8 whole some (width - text_columns prefix) (omega (arith, fits)),
     )
 

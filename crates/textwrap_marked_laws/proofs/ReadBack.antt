@@ -1,20 +1,17 @@
 -- What is printed of the blocks of a text, read again.
+use Rattle.textwrap_marked.specs.Reflow.{kept_text}
 use Rattle.textwrap_marked_laws.proofs.AnewLines.{kept-anew, last-anew, anew_raw, one-anew, IsTold, anew}
-use Rattle.textwrap_marked_laws.proofs.BlocksAlike.{stops-same, part-cons, part_of}
+use Rattle.textwrap_marked_laws.proofs.{BegunAlike.AreBegun, BlocksAlike.{stops-same, part-cons, part_of}}
 use Rattle.textwrap_marked_laws.proofs.Common.{AreOfBlocksWithin, parts_of_blocks, join_with_byte, ReflowOptions}
 use Rattle.textwrap_marked_laws.proofs.Common.{IsOfBlock, LineRange, StateText, all-right, is_beside, kept_line}
 use Rattle.textwrap_marked_laws.proofs.Common.{IsSameBy, LineText, all-left, flat_map, touches, length, nat_lt}
 use Rattle.textwrap_marked_laws.proofs.Common.{arith, false, stays, subst, Bool, List, flat, refl, true, ◌++◌, ℕ}
 use Rattle.textwrap_marked_laws.proofs.Common.{words_of_lines, AreSameParts, AreOfBlocks, All-append, cases_Bool}
 use Rattle.textwrap_marked_laws.proofs.Common.{◌||◌, All, map, not, sym, ◌+◌, ◌∙◌, ◌∷◌, ◌≡◌, [], ap}
+use Rattle.textwrap_marked_laws.proofs.{Feedless.IsFeedless, FenceMarks.IsSafe}
 use Rattle.textwrap_marked_laws.proofs.KeptLines.{head-same, AreHeads, keep}
-use Rattle.textwrap_marked_laws.proofs.LinesAlone.{alike-append, AreAlike}
-use Rattle.textwrap_marked_laws.proofs.PrintedText.{filled-last, ends_as}
-use Rattle.textwrap_marked_laws.proofs.{Feedless.IsFeedless, TextParts.AreBlocks}
-use Rattle.textwrap_marked_laws.proofs.{ReturnsOff.return_if, TextBlocks.last_line, TextBlocks.read}
-use Rattle.textwrap_marked_laws.proofs.BegunAlike.{AreBegun}
-use Rattle.textwrap_marked_laws.proofs.FenceMarks.{IsSafe}
-use Rattle.textwrap_marked.specs.Reflow.{kept_text}
+use Rattle.textwrap_marked_laws.proofs.{LinesAlone.{alike-append, AreAlike}, PrintedText.{filled-last, ends_as}}
+use Rattle.textwrap_marked_laws.proofs.{ReturnsOff.return_if, TextBlocks.{last_line, read}, TextParts.AreBlocks}
 
 module _ (options : ReflowOptions) (returns : Bool) (told : IsTold options.ending returns) where
   abbrev pub ending : List ℕ

@@ -5,9 +5,8 @@ use Rattle.textwrap_marked_laws.proofs.Common.{is_return, All-head, All-tail, an
 use Rattle.textwrap_marked_laws.proofs.Common.{length-append, append-nil, prefix_len, suffix_len, ends_with, All}
 use Rattle.textwrap_marked_laws.proofs.Common.{refl, take, true, ◌++◌, sym, ◌+◌, ◌-◌, ◌<◌, ◌∙◌, ◌∷◌, ◌≡◌, [], ap}
 use Rattle.textwrap_marked_laws.proofs.Common.{take_at, get_or, length, nat_eq, codes, false, Bool, List, cond}
+use Rattle.textwrap_marked_laws.proofs.{Common.ℕ, LineWords.shown, LineWords.gap, OpenBehind.no-return}
 use Rattle.textwrap_marked_laws.proofs.SpacedBack.{white-other, IsPlain, IsWhite}
-use Rattle.textwrap_marked_laws.proofs.Common.{ℕ}
-use Rattle.textwrap_marked_laws.proofs.{LineWords.shown, LineWords.gap, OpenBehind.no-return}
 use Rattle.textwrap_text.proofs.Common.{reverse-append, take_more}
 use Rattle.textwrap_text.proofs.Lists.Parts.{ends_with-front, ends_with-true}
 
@@ -84,7 +83,6 @@ return-ends text false none =
     ap (λ t. ends_with nat_eq t (codes "\r")) (append-nil text)
     ∙ false_from_ne_true (ends_with nat_eq text (codes "\r")) (λ ends. omega (
       arith,
-      none,
       ap (suffix_len is_return) (ends_with-front (codes "\r") text ends),
       returns-more (take (length text - 1) text),
     ))

@@ -9,13 +9,11 @@ use Rattle.textwrap_marked_laws.proofs.Common.{is_beside, LineText, WordText, si
 use Rattle.textwrap_marked_laws.proofs.Common.{parts_of_blocks, without_returns, IsReflowedFrom, ReflowOptions}
 use Rattle.textwrap_marked_laws.proofs.Common.{read_lines, text_parts, IsOfBlock, StateText, IsSameBy}
 use Rattle.textwrap_marked_laws.proofs.Common.{shown_lines, slice_split, with_titles, filled_end, line_texts, []}
-use Rattle.textwrap_marked_laws.proofs.Common.{◌∙◌, ◌∷◌, ◌≡◌, ℕ}
-use Rattle.textwrap_marked_laws.proofs.TextBack.{text-back}
+use Rattle.textwrap_marked_laws.proofs.{Common.◌∙◌, Common.◌∷◌, Common.◌≡◌, Common.ℕ, TextBack.text-back}
 use Rattle.textwrap_marked_laws.specs.Laws.{AreNewParts}
-use Rattle.textwrap_words.proofs.Common.{Algorithm as DividingAlgorithm}
 use Rattle.textwrap_marked_lines.specs.Columns.{text_columns}
 use Rattle.textwrap_marks.specs.declared.options.Algorithm.{Algorithm}
-use Rattle.textwrap_words.proofs.Common.{ByFirstFit}
+use Rattle.textwrap_words.proofs.Common.{Algorithm as DividingAlgorithm, ByFirstFit}
 
 divided-one : (algorithm : DividingAlgorithm) (widths : List ℕ) (xs : List WordText)
     (lines others : List (List WordText)) → IsDividedBy algorithm sizes_of widths xs lines
@@ -127,8 +125,7 @@ module _ (options : ReflowOptions) (text other : List ℕ)
       → IsReflowedFrom options text reflowed
   from-other ends reflowed laid =
       subst (λ New. New reflowed) (sym (laid-same (end_of text)))
-      (subst (λ x. AreOfBlocks options (ending_bytes x) false (blocks (lines_of_text options other)) reflowed)
-      ends laid)
+      (rw ends at laid)
 
   pub laid-other : (reflowed : List ℕ) → IsReflowedFrom options text reflowed
       → AreOfBlocks options (end_of text) false (blocks (lines_of_text options other)) reflowed
@@ -157,6 +154,4 @@ module _ (options : ReflowOptions) (width : ℕ) (algorithm : Algorithm) (ending
       → IsReflowedFrom others text between
       → AreSameParts ending (text_parts options text) (text_parts options between)
   width-same text between laid =
-      subst (λ p. AreSameParts ending p (text_parts options between)) (parts-same text)
-      (subst (AreSameParts ending (text_parts others text)) (parts-same between)
-      (text-back others text between laid).same)
+      rw (parts-same text, parts-same between) at (text-back others text between laid).same

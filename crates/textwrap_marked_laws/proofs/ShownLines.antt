@@ -65,7 +65,6 @@ module _ (line lead : List ℕ) (marks ws : List SpacedText) (white : All IsWhit
       ap (λ l. nat_lt 0 (length l)) line-words
       ∙ lt-ltb 0 (length (words marks ++ words ws)) (omega (
         arith,
-        some,
         length-append (words marks) (words ws),
         length-map ws (λ (w : SpacedText). w.word),
       ))

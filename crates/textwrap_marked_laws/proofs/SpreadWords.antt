@@ -7,12 +7,11 @@ use Rattle.textwrap_marked_laws.proofs.Common.{is_column_word, All-replicate, Re
 use Rattle.textwrap_marked_laws.proofs.Common.{is_quote, list_any, none-any, All-nil, blanks, length, blank, All}
 use Rattle.textwrap_marked_laws.proofs.Common.{true≢false, last_word, All-cons, All-head, All-tail, bytes_eq, []}
 use Rattle.textwrap_marked_laws.proofs.Common.{◌==◌, ◌||◌, not, suc, sym, ◌-◌, ◌∙◌, ◌∷◌, ◌≡◌, ap, ℕ}
-use Rattle.textwrap_marked_laws.proofs.LineWords.{spread, shown, gap}
+use Rattle.textwrap_marked_laws.proofs.{HangingKinds.HasNoMark, LaterLines.bullets-none, LineKinds.one_if}
+use Rattle.textwrap_marked_laws.proofs.{LineWords.{spread, shown, gap}, OpenBehind.{text-letter, text-other}}
 use Rattle.textwrap_marked_laws.proofs.SpacedBack.{AreSpaced, IsSpaced, IsPlain, IsWhite}
-use Rattle.textwrap_marked_laws.proofs.{HangingKinds.HasNoMark, LineKinds.one_if}
-use Rattle.textwrap_marked_laws.proofs.{LaterLines.bullets-none, OpenBehind.text-letter, OpenBehind.text-other}
-use Rattle.textwrap_marks.specs.Signs.{first_white, may_go_on, last_of, is_gap}
-use Rattle.textwrap_marks.{proofs.Letterless.quote-plain, proofs.Letterless.box-plain, specs.Marks.is_among}
+use Rattle.textwrap_marks.proofs.Letterless.{quote-plain, box-plain}
+use Rattle.textwrap_marks.specs.{Marks.is_among, Signs.{first_white, may_go_on, last_of, is_gap}}
 use Rattle.textwrap_text.proofs.Common.{not-true}
 
 -- a gap is white

@@ -1,5 +1,6 @@
 -- A new text, read again, has the parts of the text.
-use Rattle.textwrap_marked_laws.proofs.AnewLines.{returns_by, bytes-by, IsTold}
+use Rattle.textwrap_marked.specs.Within.{IsReflowedWithinFrom}
+use Rattle.textwrap_marked_laws.proofs.{AnewLines.{returns_by, bytes-by, IsTold}, BegunAlike.AreBegun}
 use Rattle.textwrap_marked_laws.proofs.Common.{IsOfBlock, LineRange, StateText, is_beside, all-left, All-nil, []}
 use Rattle.textwrap_marked_laws.proofs.Common.{false_from_ne_true, length-slice_split, AreOfBlocksWithin, Option}
 use Rattle.textwrap_marked_laws.proofs.Common.{filled_ending, lines_of_text, AreSameParts, AreOfBlocks, LineText}
@@ -9,14 +10,11 @@ use Rattle.textwrap_marked_laws.proofs.Common.{parts_of_blocks, IsReflowedFrom, 
 use Rattle.textwrap_marked_laws.proofs.Common.{subst, Bool, List, None, Some, flat, refl, true, ◌++◌, ◌==◌, ◌||◌}
 use Rattle.textwrap_marked_laws.proofs.Common.{◌<◌, ◌∙◌, ◌∷◌, ◌≡◌, ap}
 use Rattle.textwrap_marked_laws.proofs.Feedless.{IsFeedlessLine, split-feedless, read-feedless, split-joined}
-use Rattle.textwrap_marked_laws.proofs.LinesAlone.{none-alike, AreAlike}
+use Rattle.textwrap_marked_laws.proofs.{Feedless.IsFeedless, FenceMarks.safe-none, FilledBack.filled-step}
+use Rattle.textwrap_marked_laws.proofs.{LinesAlone.{none-alike, AreAlike}, NewBlock.paragraph-at}
 use Rattle.textwrap_marked_laws.proofs.ReadBack.{AreOfBlocksAny, IsReadBack, within-any, kept-step, laid-any}
-use Rattle.textwrap_marked_laws.proofs.TextBlocks.{read-more, read}
+use Rattle.textwrap_marked_laws.proofs.{ReadBack.{ending, Walks}, TextBlocks.{read-more, read}}
 use Rattle.textwrap_marked_laws.proofs.TextParts.{blocks-back, blocks-flat, blocks-are, AreBlocks}
-use Rattle.textwrap_marked_laws.proofs.{BegunAlike.AreBegun, Feedless.IsFeedless}
-use Rattle.textwrap_marked_laws.proofs.{FenceMarks.safe-none, NewBlock.paragraph-at}
-use Rattle.textwrap_marked_laws.proofs.{FilledBack.filled-step, ReadBack.ending, ReadBack.Walks}
-use Rattle.textwrap_marked.specs.Within.{IsReflowedWithinFrom}
 
 module _ (options : ReflowOptions) (returns : Bool) (told : IsTold options.ending returns) where
   read-none : (state : StateText) (raws : List (List ℕ)) → [] ≡ read options state raws → [] ≡ raws

@@ -8,13 +8,11 @@ use Rattle.textwrap_marked_laws.proofs.Common.{or-false, All-map, All-nil, enter
 use Rattle.textwrap_marked_laws.proofs.Common.{true, ◌&&◌, ◌++◌, ◌||◌, ap₂, map, not, sym, ◌<◌, ◌∙◌, ◌∷◌, ◌≡◌, ⊤}
 use Rattle.textwrap_marked_laws.proofs.Common.{without_returns, is_column_word, words_of_lines, ReflowOptions, ℕ}
 use Rattle.textwrap_marked_laws.proofs.Common.{words_before_last, bytes_eq-Decides, opens_paragraph, with_titles}
+use Rattle.textwrap_marked_laws.proofs.{Common.ap, HangingForms.IsHanging, LaterLines.IsOfText}
 use Rattle.textwrap_marked_laws.proofs.LinesAlone.{AreTextLines, more-lines, no-lines}
-use Rattle.textwrap_marked_laws.proofs.OpenBehind.{behind_text, no-columns}
+use Rattle.textwrap_marked_laws.proofs.{OpenBehind.behind_text, OpenBehind.no-columns, ParagraphLines.later-line}
 use Rattle.textwrap_marked_laws.proofs.SpacedBack.{spaced-plain, IsPlain}
 use Rattle.textwrap_marked_laws.proofs.SpreadWords.{front-more, last-more, last_text}
-use Rattle.textwrap_marked_laws.proofs.{HangingForms.IsHanging, ParagraphLines.later-line}
-use Rattle.textwrap_marked_laws.proofs.Common.{ap}
-use Rattle.textwrap_marked_laws.proofs.LaterLines.{IsOfText}
 use Rattle.textwrap_marked_lines.specs.Lines.{is_title}
 use Rattle.textwrap_marks.{proofs.ListLemmas.or-right, specs.Signs.ends_early}
 
@@ -297,7 +295,6 @@ module _ (options : ReflowOptions) (in_block : Bool) (hanging : List ℕ)
     closing = sym (closing-same in_block line.words) ∙ of.closes;
     words_some = omega (
       arith,
-      of.some,
       length-append (map (λ w. w.word) line.words) [],
       length-map line.words (λ w. w.word),
     );

@@ -7,8 +7,7 @@ use Rattle.textwrap_marked_laws.proofs.Common.{false, Bool, List, None, cond, fl
 use Rattle.textwrap_marked_laws.proofs.Common.{flat_map-append, parts_of_blocks, without_returns, join_with_byte}
 use Rattle.textwrap_marked_laws.proofs.Common.{slice_split, with_titles, append-nil, read_lines, text_parts, sym}
 use Rattle.textwrap_marked_laws.proofs.Common.{◌∷◌, ◌≡◌, [], ap, ⊤}
-use Rattle.textwrap_marked_laws.proofs.TextBlocks.{AreOneBlock, last_line}
-use Rattle.textwrap_marked_laws.specs.Laws.{source}
+use Rattle.textwrap_marked_laws.{proofs.TextBlocks.AreOneBlock, proofs.TextBlocks.last_line, specs.Laws.source}
 
 abbrev lines-text : List LineText → List ℕ
 lines-text lines = flat_map (kept_line None) lines

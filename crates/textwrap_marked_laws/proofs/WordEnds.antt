@@ -4,12 +4,11 @@ use Rattle.textwrap_marked_laws.proofs.Common.{ReflowOptions, closes_block, clos
 use Rattle.textwrap_marked_laws.proofs.Common.{SpacedText, append-nil, cases_Bool, first_word, deeper_by, is_cut}
 use Rattle.textwrap_marked_laws.proofs.Common.{ends_with, last_word, All-cons, bytes_eq, contains, none-any, All}
 use Rattle.textwrap_marked_laws.proofs.Common.{or-false, All-nil, length, nat_eq, arith, codes, false, subst, []}
-use Rattle.textwrap_marked_laws.proofs.Common.{◌<◌, ◌∙◌, ◌∷◌, ◌≡◌, ◌≢◌, ℕ}
-use Rattle.textwrap_marked_laws.proofs.LineWords.{MayPart, spread}
-use Rattle.textwrap_marked_laws.proofs.SpreadWords.{spread-words, spread-any, last_text}
+use Rattle.textwrap_marked_laws.proofs.{Common.{◌<◌, ◌∙◌, ◌∷◌, ◌≡◌, ◌≢◌, ℕ}, LineWords.{MayPart, spread}}
+use Rattle.textwrap_marked_laws.proofs.{OpenBehind.text-other, SpreadWords.{spread-words, spread-any, last_text}}
 use Rattle.textwrap_marked_laws.proofs.TextBlocks.{closing-before, closes_badly, closing-same, AreClosing}
-use Rattle.textwrap_marked_laws.proofs.{OpenBehind.text-other, TextBlocks.NoClose}
-use Rattle.textwrap_marks.{proofs.Letterless.dots-plain, specs.Signs.is_example_key, specs.Signs.may_go_on}
+use Rattle.textwrap_marked_laws.proofs.TextBlocks.{NoClose}
+use Rattle.textwrap_marks.{proofs.Letterless.dots-plain, specs.Signs.{is_example_key, may_go_on}}
 
 -- ---- the last of some texts
 

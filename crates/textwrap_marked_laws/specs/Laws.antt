@@ -1,33 +1,27 @@
 -- The statements of the laws, each under a name that a caller can cite.
-use Rattle.std.specs.Prelude.{◌≡◌, ◌≢◌, ℕ, ◌+◌, ◌<◌, ◌≤◌, ◌⊎◌, ◌==◌, ◌||◌, Bool, true, false, List}
-use Rattle.std.specs.Prelude.{[], ◌∷◌, ◌++◌, All, bytes_eq, codes, drop, if◌then◌else◌, IsUtf8, length}
-use Rattle.std.specs.Prelude.{map, nat_eq, nat_lt, None, Option, Some, ⊤}
 use Rattle.std.specs.List.{filter, flat_map, list_any, slice_split, starts_with}
-use Rattle.textwrap_base.specs.Cost.{division_cost, problem_at}
-use Rattle.textwrap_base.specs.Division.{closed_width, IsDivision}
-use Rattle.textwrap_base.specs.declared.penalties.Penalties.{Penalties}
-use Rattle.textwrap_text.specs.Units.{text_width}
-use Rattle.textwrap_words.specs.Words.{WordText, sizes_of, word_of}
-use Rattle.textwrap_text.specs.LineEnding.{ending_bytes}
-use Rattle.textwrap_layout.specs.Paragraph.{covered}
-use Rattle.textwrap_layout.specs.Text.{HasWholeSequences}
+use Rattle.std.specs.Prelude.{◌≡◌, ◌≢◌, ℕ, ◌+◌, ◌<◌, ◌≤◌, ◌⊎◌, ◌==◌, ◌||◌, Bool, true, false, List, []}
+use Rattle.std.specs.Prelude.{◌∷◌, ◌++◌, All, bytes_eq, codes, drop, if◌then◌else◌, IsUtf8, length}
+use Rattle.std.specs.Prelude.{map, nat_eq, nat_lt, None, Option, Some, ⊤}
+use Rattle.textwrap_base.specs.{Cost.division_cost, Cost.problem_at, Division.closed_width}
+use Rattle.textwrap_base.specs.{Division.IsDivision, declared.penalties.Penalties.Penalties}
 use Rattle.textwrap_display.specs.Justifying.{gaps, line_words}
-use Rattle.textwrap_text.specs.declared.line_ending.LineEnding.{LineEnding}
+use Rattle.textwrap_layout.specs.{Paragraph.covered, Text.HasWholeSequences}
+use Rattle.textwrap_marked.specs.{Pieces.pieces, Pieces.words_of_lines, Reflow.byte_order_mark}
+use Rattle.textwrap_marked.specs.Reflow.{filled_end, filled_ending, first_room, IsReflowed, kept_line}
+use Rattle.textwrap_marked.specs.Reflow.{kept_text, later_room, printed, shown_lines}
+use Rattle.textwrap_marked.specs.{Within.IsReflowedWithin, declared.within.LineRange.LineRange}
 use Rattle.textwrap_marked_lines.specs.Blocks.{blocks, is_beside, stays}
 use Rattle.textwrap_marked_lines.specs.Columns.{text_columns}
 use Rattle.textwrap_marked_lines.specs.Lines.{LineText, lines_of_text, without_returns}
-use Rattle.textwrap_marked.specs.Pieces.{pieces, words_of_lines}
-use Rattle.textwrap_marked.specs.Reflow.{byte_order_mark, filled_end, filled_ending, first_room}
-use Rattle.textwrap_marked.specs.Reflow.{IsReflowed, kept_line, kept_text, later_room, printed}
-use Rattle.textwrap_marked.specs.Reflow.{shown_lines}
-use Rattle.textwrap_marked.specs.Within.{IsReflowedWithin}
 use Rattle.textwrap_marks.specs.Marks.{is_among, is_bullet, is_comment_at, is_quote}
-use Rattle.textwrap_marks.specs.Signs.{begins_text}
-use Rattle.textwrap_marks.specs.Words.{has_bytes, is_white, spaced_text, SpacedText}
-use Rattle.textwrap_marks.specs.declared.options.Algorithm.{Algorithm}
+use Rattle.textwrap_marks.specs.{Signs.begins_text, Words.has_bytes, Words.is_white, Words.spaced_text}
+use Rattle.textwrap_marks.specs.{Words.SpacedText, declared.options.Algorithm.Algorithm}
 use Rattle.textwrap_marks.specs.declared.options.Algorithm.TheVariants.{FirstFit, LeastCost}
 use Rattle.textwrap_marks.specs.declared.options.ReflowOptions.{ReflowOptions}
-use Rattle.textwrap_marked.specs.declared.within.LineRange.{LineRange}
+use Rattle.textwrap_text.specs.{LineEnding.ending_bytes, Units.text_width}
+use Rattle.textwrap_text.specs.declared.line_ending.LineEnding.{LineEnding}
+use Rattle.textwrap_words.specs.Words.{WordText, sizes_of, word_of}
 
 -- a text becomes one text at the same options
 abbrev pub ReflowedTextsAreUnique : Type 0

@@ -1,18 +1,14 @@
 -- Lines that were written by first fit at the balanced width are balanced, and as many as at the width of
 -- the options; and what a refusal says of texts.
-use Rattle.textwrap_plain.proofs.Balance.Search.{balanced-many}
 use Rattle.textwrap_calls.proofs.Common.{arith, done, inl, inr, length, Line, List, ℕ, ◌∙◌}
-use Rattle.textwrap_calls.proofs.Common.{separator_of, options_settings, subst}
-use Rattle.textwrap_calls.specs.Options.{options_points}
-use Rattle.textwrap_calls.proofs.Common.{TextwrapLine}
+use Rattle.textwrap_calls.proofs.Common.{separator_of, options_settings, subst, TextwrapLine}
 use Rattle.textwrap_calls.proofs.Common.{too_small, ◌↔◌, ◌≡◌, ◌⊎◌}
-use Rattle.textwrap_calls.specs.Options.{ArePlacedBy}
-use Rattle.textwrap_calls.specs.Status.{not_utf8, out_of_memory, unknown_options}
-use Rattle.textwrap_calls.specs.Wrapping.{WritesLongLines}
+use Rattle.textwrap_calls.specs.{Options.{options_points, ArePlacedBy}, Status.not_utf8}
+use Rattle.textwrap_calls.specs.{Status.{out_of_memory, unknown_options}, Wrapping.WritesLongLines}
 use Rattle.textwrap_calls.specs.declared.options.TextwrapOptions.{TextwrapOptions}
 use Rattle.textwrap_more_calls.specs.Balancing.{AreBalancedBy, AreByFirstFit, first_fit_at}
 use Rattle.textwrap_more_calls.specs.Balancing.{IsBalancedBy}
-use Rattle.textwrap_plain.specs.Options.{words_by}
+use Rattle.textwrap_plain.{proofs.Balance.Search.balanced-many, specs.Options.words_by}
 
 module _ (o options : TextwrapOptions) (text : List ℕ) (width : ℕ) {status : ℕ}
     {lines_before lines_after : List TextwrapLine} {count_before count_after : ℕ}

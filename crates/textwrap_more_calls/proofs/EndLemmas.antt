@@ -1,10 +1,9 @@
 -- Where lines end that a built-in algorithm finds of pieces, seen by their words.
 use Rattle.std.proofs.lemmas.Simd.{map-map}
-use Rattle.textwrap_base.proofs.Common.{priced_at, Sizes}
-use Rattle.textwrap_base.proofs.Cost.{Chosen.fragments_table-map, Measures.total_width-same}
-use Rattle.textwrap_base.specs.Algorithms.{Algorithm, ByFirstFit, ByOptimalFit, OverflowsBy}
-use Rattle.textwrap_calls.proofs.Common.{[], ap}
-use Rattle.textwrap_calls.proofs.Common.{length, length-map, List, map, refl, sym, ℕ, ◌+◌, ◌∷◌, ◌≡◌}
+use Rattle.textwrap_base.proofs.{Common.Sizes, Cost.Chosen.fragments_table-map}
+use Rattle.textwrap_base.{proofs.Cost.Measures.total_width-same, specs.Algorithms.OverflowsBy}
+use Rattle.textwrap_lines.proofs.Common.{priced_at, Algorithm, ByFirstFit, ByOptimalFit, [], ap}
+use Rattle.textwrap_lines.proofs.Common.{length, length-map, List, map, refl, sym, ℕ, ◌+◌, ◌∷◌, ◌≡◌}
 use Rattle.textwrap_more_calls.specs.Fragments.{line_ends_from}
 
 module _ {X Y : Type 0} (f : X → Y) where

@@ -1,11 +1,10 @@
 -- Balanced lines, as C has them.
 use Rattle.std.specs.Prelude.{ℕ, List}
 use Rattle.textwrap.specs.Paragraph.{Line}
-use Rattle.textwrap_plain.specs.Balance.{AreFirstFitAt, IsBalanced}
 use Rattle.textwrap_calls.specs.Options.{ArePlacedBy, separator_of, options_settings, options_points}
 use Rattle.textwrap_calls.specs.declared.options.TextwrapOptions.{TextwrapOptions}
 use Rattle.textwrap_layout.specs.declared.places.Place.{Place}
-use Rattle.textwrap_plain.specs.Options.{words_by}
+use Rattle.textwrap_plain.specs.{Balance.AreFirstFitAt, Balance.IsBalanced, Options.words_by}
 
 -- the options at a width, by first fit
 abbrev pub first_fit_at : TextwrapOptions → ℕ → TextwrapOptions

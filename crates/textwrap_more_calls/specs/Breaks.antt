@@ -1,8 +1,7 @@
 -- Where a line may or must end, as C has it.
 use Rattle.std.specs.Prelude.{ℕ, List, map, if◌then◌else◌}
 use Rattle.textwrap_more_calls.specs.declared.breaks.TextwrapLineBreak.{TextwrapLineBreak}
-use Rattle.textwrap_unicode.specs.Breaks.{breaks_by}
-use Rattle.textwrap_unicode.specs.declared.breaks.LineBreak.{LineBreak}
+use Rattle.textwrap_unicode.specs.{Breaks.breaks_by, declared.breaks.LineBreak.LineBreak}
 use Rattle.textwrap_unicode.specs.declared.numbers.Numbers.{Numbers}
 
 abbrev pub break_place : LineBreak → TextwrapLineBreak

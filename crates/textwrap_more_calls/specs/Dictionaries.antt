@@ -1,11 +1,8 @@
 -- Dictionaries that are read into numbers.
 use Rattle.std.specs.Prelude.{◌≡◌, ℕ, List, Err, false, true}
-use Rattle.textwrap_hyphens.specs.Parsed.{Holds}
-use Rattle.textwrap_hyphens.specs.Seal.{is_sealed}
-use Rattle.textwrap_hyphens.specs.Table.{held_in}
-use Rattle.textwrap_dictionaries.specs.Parsing.{parsed}
-use Rattle.textwrap_dictionaries.specs.declared.errors.Fault.{Fault}
+use Rattle.textwrap_dictionaries.specs.{Parsing.parsed, declared.errors.Fault.Fault}
 use Rattle.textwrap_dictionaries.specs.declared.errors.ParseError.TheVariants.{Line}
+use Rattle.textwrap_hyphens.specs.{Parsed.Holds, Seal.is_sealed, Table.held_in}
 
 -- these numbers say what the text says
 pub record AreNumbersOf (text words : List ℕ) : Type 0 where

@@ -1,8 +1,7 @@
 -- What the numbers of a caller's fragments mean, and where lines of them end.
 use Rattle.std.specs.Prelude.{◌≡◌, ℕ, ◌+◌, List, [], ◌∷◌, length}
 use Rattle.textwrap_base.specs.Cost.{PricedSizes, Problem, problem_by}
-use Rattle.textwrap_base.specs.Sizes.{Sizes}
-use Rattle.textwrap_base.specs.declared.penalties.Penalties.{Penalties}
+use Rattle.textwrap_base.specs.{Sizes.Sizes, declared.penalties.Penalties.Penalties}
 use Rattle.textwrap_more_calls.specs.declared.fragments.TextwrapFragment.{TextwrapFragment}
 use Rattle.textwrap_more_calls.specs.declared.fragments.TextwrapPenalties.{TextwrapPenalties}
 

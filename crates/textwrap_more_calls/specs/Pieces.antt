@@ -1,9 +1,8 @@
 -- What is reported of words and pieces, and the offsets that a line may be cut at.
 use Rattle.std.specs.Prelude.{ℕ, ◌+◌, ◌<◌, ◌==◌, List, [], ◌∷◌, length, IsCharBoundary, ⊤}
 use Rattle.std.specs.Prelude.{if◌then◌else◌}
-use Rattle.textwrap_words.specs.Cuts.{AreNext}
-use Rattle.textwrap_words.specs.Words.{WordText}
 use Rattle.textwrap_more_calls.specs.declared.pieces.TextwrapPiece.{TextwrapPiece}
+use Rattle.textwrap_words.specs.{Cuts.AreNext, Words.WordText}
 
 -- where words stand, one after another, the first of them at the place
 abbrev pub piece_places : ℕ → List WordText → List TextwrapPiece

@@ -1,13 +1,11 @@
 -- What is given and reported of a paragraph in steps.
 use Rattle.std.specs.Prelude.{◌≡◌, ℕ, List}
-use Rattle.textwrap.specs.Cuts.{AreInnerCuts}
-use Rattle.textwrap.specs.LineEnds.{AreEnds, lines_between}
-use Rattle.textwrap.specs.Options.{Settings}
-use Rattle.textwrap.specs.Paragraph.{Line}
+use Rattle.textwrap.specs.{Cuts.AreInnerCuts, LineEnds.AreEnds, LineEnds.lines_between}
+use Rattle.textwrap.specs.{Options.Settings, Paragraph.Line}
+use Rattle.textwrap_calls.specs.Options.{says_yes}
 use Rattle.textwrap_layout.specs.Places.{CutLine, division_cuts, lines_of, places_of}
 use Rattle.textwrap_layout.specs.declared.places.Place.{Place}
 use Rattle.textwrap_lines.specs.Steps.{pieces_at}
-use Rattle.textwrap_calls.specs.Options.{says_yes}
 
 -- the paragraph may be cut at these offsets, and its words split at these points
 pub record AreSteps (cuts points paragraph : List ℕ) : Type 0 where

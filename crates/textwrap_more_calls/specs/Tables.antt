@@ -1,17 +1,14 @@
 -- The texts of a table and its columns, as C has them.
 use Rattle.std.specs.Prelude.{◌≡◌, ℕ, ◌≤◌, List, All, map}
-use Rattle.textwrap_calls.specs.Columns.{AreTextGaps}
-use Rattle.textwrap_calls.specs.Display.{alignment_of}
+use Rattle.textwrap_calls.specs.{Columns.AreTextGaps, Display.alignment_of}
 use Rattle.textwrap_calls.specs.Options.{AreKnown, AreTexts, options_settings, options_points}
-use Rattle.textwrap_calls.specs.Options.{options_algorithm, separator_of}
-use Rattle.textwrap_calls.specs.Texts.{bytes_of, IsText}
-use Rattle.textwrap_calls.specs.declared.columns.TextwrapGaps.{TextwrapGaps}
-use Rattle.textwrap_more_calls.specs.declared.tables.TextwrapCell.{TextwrapCell}
-use Rattle.textwrap_more_calls.specs.declared.tables.TextwrapColumn.{TextwrapColumn}
+use Rattle.textwrap_calls.specs.{Options.options_algorithm, Options.separator_of, Texts.bytes_of}
+use Rattle.textwrap_calls.specs.{Texts.IsText, declared.columns.TextwrapGaps.TextwrapGaps}
 use Rattle.textwrap_calls.specs.declared.texts.TextwrapText.{TextwrapText}
 use Rattle.textwrap_display.specs.Tables.{Shape}
-use Rattle.textwrap_plain.specs.Options.{words_by}
-use Rattle.textwrap_plain.specs.Tables.{PlainColumnParts}
+use Rattle.textwrap_more_calls.specs.declared.tables.TextwrapCell.{TextwrapCell}
+use Rattle.textwrap_more_calls.specs.declared.tables.TextwrapColumn.{TextwrapColumn}
+use Rattle.textwrap_plain.specs.{Options.words_by, Tables.PlainColumnParts}
 
 -- what a column is made of
 abbrev pub parts_of_column : TextwrapColumn → PlainColumnParts

@@ -1,17 +1,16 @@
 -- The lines of a text, each paragraph of which comes with what a caller found of it.
 use Rattle.std.specs.Prelude.{◌≡◌, ℕ, Bool, false, ◌||◌, nat_lt, List, [], ◌∷◌, length, map}
 use Rattle.std.specs.Prelude.{if◌then◌else◌}
-use Rattle.textwrap_words.specs.LineEnds.{lines_between}
-use Rattle.textwrap_words.specs.Words.{WordText, word_of}
-use Rattle.textwrap_text.specs.LineEnding.{ending_bytes, join_with, paragraphs_of}
+use Rattle.textwrap_calls.specs.Options.{step_settings}
+use Rattle.textwrap_calls.specs.declared.options.TextwrapOptions.{TextwrapOptions}
 use Rattle.textwrap_layout.specs.Options.{Settings}
 use Rattle.textwrap_layout.specs.Paragraph.{LineParts, is_whole, line_bytes, parts_from}
 use Rattle.textwrap_layout.specs.Places.{CutLine, lines_of, text_cuts}
 use Rattle.textwrap_lines.specs.Steps.{pieces_at}
-use Rattle.textwrap_calls.specs.Options.{step_settings}
 use Rattle.textwrap_more_calls.specs.Steps.{AreLineSteps}
-use Rattle.textwrap_calls.specs.declared.options.TextwrapOptions.{TextwrapOptions}
 use Rattle.textwrap_more_calls.specs.declared.steps.TextwrapSteps.{TextwrapSteps}
+use Rattle.textwrap_text.specs.LineEnding.{ending_bytes, join_with, paragraphs_of}
+use Rattle.textwrap_words.specs.{LineEnds.lines_between, Words.WordText, Words.word_of}
 
 module _ (settings : Settings) where
   -- a whole paragraph is a line of one piece, any other is divided at these steps, where `is_later`

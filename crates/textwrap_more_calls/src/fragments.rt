@@ -5,12 +5,11 @@ ghost use Rattle.textwrap_base.specs.Division.{IsGreedy, IsDivision};
 ghost use Rattle.textwrap_base.specs.Errors.{Fits64Bits, Passes128Bits};
 ghost use Rattle.textwrap_base.specs.OptimalFit.{IsByOptimalFit};
 ghost use Rattle.textwrap_base.specs.Table.{TableOverflows};
-ghost use Rattle.textwrap_more_calls.specs.Fragments.{fragment_sizes, fragments_problem, ends_of};
-ghost use Rattle.textwrap_more_calls.specs.Fragments.{AreEndsOf};
-ghost use Rattle.textwrap_more_calls.specs.Fragments.{AreKnownPenalties};
 ghost use Rattle.textwrap_calls.specs.Room.{WritesText};
 ghost use Rattle.textwrap_calls.specs.Status.{done, out_of_memory, too_small, unknown_options};
 ghost use Rattle.textwrap_calls.specs.Status.{overflow};
+ghost use Rattle.textwrap_more_calls.specs.Fragments.{fragment_sizes, fragments_problem, ends_of};
+ghost use Rattle.textwrap_more_calls.specs.Fragments.{AreEndsOf, AreKnownPenalties};
 
 use std::alloc::{AllocError, Global};
 use textwrap::words::Fragment;

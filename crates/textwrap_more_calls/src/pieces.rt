@@ -1,21 +1,20 @@
 //! Words, and the pieces that they are split and broken into, by where they stand.
-ghost use Rattle.textwrap_calls.specs.Options.{TellsFaults, AreKnown, AreTexts};
 ghost use Rattle.std.specs.Prelude.{◌≡◌, ◌⊎◌, ◌↔◌, ◌≤◌, [], IfOk, IsUtf8, true, map};
-ghost use Rattle.textwrap_calls.specs.Options.{separator_of, options_settings, options_points};
-ghost use Rattle.textwrap_more_calls.specs.Pieces.{AreOffsets, offsets_past, piece_places};
+ghost use Rattle.textwrap_calls.specs.Options.{TellsFaults, AreKnown, AreTexts, separator_of};
+ghost use Rattle.textwrap_calls.specs.Options.{options_settings, options_points};
 ghost use Rattle.textwrap_calls.specs.Room.{WritesText};
-ghost use Rattle.textwrap_calls.specs.Status.{done, not_utf8, too_small};
-ghost use Rattle.textwrap_calls.specs.Status.{wrong_places};
+ghost use Rattle.textwrap_calls.specs.Status.{done, not_utf8, too_small, wrong_places};
 ghost use Rattle.textwrap_layout.specs.Options.{settings_view};
 ghost use Rattle.textwrap_layout.specs.Paragraph.{broken_pieces_of, pieces_of};
+ghost use Rattle.textwrap_more_calls.specs.Pieces.{AreOffsets, offsets_past, piece_places};
 ghost use Rattle.textwrap_plain.specs.Options.{points_by, split_by_points, words_by};
+ghost use Rattle.textwrap_plain.specs.Options.{plain_settings};
+ghost use Rattle.textwrap_text.specs.Units.{stripped};
 ghost use Rattle.textwrap_words.specs.Breaking.{broken_pieces, pieces_left};
 ghost use Rattle.textwrap_words.specs.Pieces.{as_splitter};
-ghost use Rattle.textwrap_text.specs.Units.{stripped};
 ghost use Rattle.textwrap_words.specs.WordOffsets.{words_at};
 ghost use Rattle.textwrap_words.specs.WordSplitters.{hyphen_points};
 ghost use Rattle.textwrap_words.specs.Words.{piece, word_view, Tiles};
-ghost use Rattle.textwrap_plain.specs.Options.{plain_settings};
 
 use simdutf8::basic::from_utf8;
 use std::alloc::{AllocError, Global};

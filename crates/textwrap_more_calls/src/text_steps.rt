@@ -1,22 +1,21 @@
 //! A whole text in steps: each of its paragraphs comes with what a caller found of it.
-ghost use Rattle.std.specs.Prelude.{◌≡◌, ◌≢◌, ◌≤◌, ◌<◌, ◌+◌, ◌⊎◌, ◌++◌, false, List, ℕ};
-ghost use Rattle.std.specs.Prelude.{IfErr, IfOk, IsUtf8, OnOk, length, map, nat_lt, slice_range};
-ghost use Rattle.std.specs.Prelude.{if◌then◌else◌};
 ghost use Rattle.std.specs.Io.{StartsWith};
+ghost use Rattle.std.specs.Prelude.{◌≡◌, ◌≢◌, ◌≤◌, ◌<◌, ◌+◌, ◌⊎◌, ◌++◌, false, List, ℕ, IfErr};
+ghost use Rattle.std.specs.Prelude.{IfOk, IsUtf8, OnOk, length, map, nat_lt, slice_range};
+ghost use Rattle.std.specs.Prelude.{if◌then◌else◌};
 ghost use Rattle.textwrap_calls.specs.Options.{step_settings, AreKnown, AreTexts, TellsUnknown};
 ghost use Rattle.textwrap_calls.specs.Options.{TellsNotUtf8};
 ghost use Rattle.textwrap_calls.specs.Room.{WritesText};
-ghost use Rattle.textwrap_calls.specs.Status.{out_of_memory, unknown_options};
-ghost use Rattle.textwrap_calls.specs.Status.{wrong_places};
-ghost use Rattle.textwrap_more_calls.specs.Steps.{AreLineSteps, ArePlacedCuts};
-ghost use Rattle.textwrap_more_calls.specs.TextSteps.{AreTextSteps, filled_at, parts_at};
-ghost use Rattle.textwrap_more_calls.specs.TextSteps.{text_step_cuts, AreStepsOf};
+ghost use Rattle.textwrap_calls.specs.Status.{out_of_memory, unknown_options, wrong_places};
 ghost use Rattle.textwrap_calls.specs.Wrapping.{ShowLines, WritesLines};
-ghost use Rattle.textwrap_text.specs.LineEnding.{ending_bytes, join_with, paragraphs_of};
 ghost use Rattle.textwrap_layout.specs.Options.{settings_view};
 ghost use Rattle.textwrap_layout.specs.Paragraph.{Line, is_whole, line_bytes, text_limit};
 ghost use Rattle.textwrap_layout.specs.Places.{HasPlaces, HasPlacesMore, cut_lines, lines_of};
 ghost use Rattle.textwrap_layout.specs.Text.{covered_by};
+ghost use Rattle.textwrap_more_calls.specs.Steps.{AreLineSteps, ArePlacedCuts};
+ghost use Rattle.textwrap_more_calls.specs.TextSteps.{AreTextSteps, filled_at, parts_at};
+ghost use Rattle.textwrap_more_calls.specs.TextSteps.{text_step_cuts, AreStepsOf};
+ghost use Rattle.textwrap_text.specs.LineEnding.{ending_bytes, join_with, paragraphs_of};
 
 use crate::steps::{TextwrapSteps, push_step_lines};
 use simdutf8::basic::from_utf8;

@@ -1,18 +1,13 @@
 -- What is known of characters of ASCII and of Latin scripts without a table.
-use Rattle.std.specs.List.{list_all}
-use Rattle.std.specs.Char.{to_ascii_lowercase}
-use Rattle.std.specs.Char.Unicode.Rows.{by_runs, by_strings}
-use Rattle.std.specs.Char.Unicode.ToLowercase.{lowercase_runs, lowercase_strings, to_lowercase}
-use Rattle.std.specs.Prelude.{nat_le, not, ◌%◌, ◌==◌, ◌||◌}
-use Rattle.std.proofs.lemmas.Bool.{eqb-true, leb-true}
-use Rattle.textwrap_text.proofs.Common.{and_parts, nat_tests}
-use Rattle.std.proofs.lemmas.List.Folds.{list_all_at}
+use Rattle.std.proofs.{Common.nat_le, Common.◌%◌, Common.leb-true, lemmas.List.Folds.list_all_at}
 use Rattle.std.proofs.lemmas.List.FromFn.{get_or-range_with_len, length-range_with_len}
-use Rattle.textwrap_text.proofs.Common.{Bool, List, [], arith, cases_lt, false, get_or, inl, inr}
-use Rattle.textwrap_text.proofs.Common.{false≢true}
-use Rattle.textwrap_text.proofs.Common.{range_with_len, refl}
-use Rattle.textwrap_text.proofs.Common.{true, ℕ, ◌+◌, ◌-◌, ◌<◌, ◌∙◌, ◌∷◌, ◌≡◌, ◌≢◌, ◌≤◌}
+use Rattle.std.specs.Char.{to_ascii_lowercase, Unicode.Rows.by_runs, Unicode.Rows.by_strings}
+use Rattle.std.specs.Char.Unicode.ToLowercase.{lowercase_runs, lowercase_strings, to_lowercase}
 use Rattle.textwrap_patterns.specs.Letters.{is_combining_mark, lowered}
+use Rattle.textwrap_text.proofs.Common.{list_all, not, ◌==◌, ◌||◌, eqb-true, and_parts, nat_tests}
+use Rattle.textwrap_text.proofs.Common.{Bool, List, [], arith, cases_lt, false, get_or, inl, inr}
+use Rattle.textwrap_text.proofs.Common.{false≢true, range_with_len, refl, true, ℕ, ◌+◌, ◌-◌, ◌<◌}
+use Rattle.textwrap_text.proofs.Common.{◌∙◌, ◌∷◌, ◌≡◌, ◌≢◌, ◌≤◌}
 use Rattle.ucd_derived.specs.AlphabeticRanges.{alphabetic_ranges}
 use Rattle.ucd_derived.specs.Binary.{is_alphabetic, is_grapheme_extend}
 use Rattle.ucd_derived.specs.GraphemeExtendRanges.{grapheme_extend_ranges}

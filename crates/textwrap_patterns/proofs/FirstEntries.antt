@@ -1,15 +1,14 @@
 -- The first entry with a key: among parts of a list, where keys differ, and in a stable sort.
-use Rattle.std.specs.List.Sorted.{IsPermutation, IsStableBy, ties}
-use Rattle.std.specs.Prelude.{bytes_eq}
-use Rattle.std.proofs.lemmas.List.Sorted.{All-permutation}
+use Rattle.std.proofs.{Common.bytes_eq, lemmas.List.Sorted.All-permutation}
 use Rattle.std.proofs.lemmas.Slice.Eq.{bytes_eq-Decides}
-use Rattle.textwrap_text.proofs.Common.{All, All-cons, All-head, All-nil, All-tail, ap}
-use Rattle.textwrap_text.proofs.Common.{append-nil, arith, Bool, false, filter, get_or, inl}
-use Rattle.textwrap_text.proofs.Common.{inr, List, None, refl, rules, suc, sym}
-use Rattle.textwrap_text.proofs.Common.{true, ℕ, ⊎_elim, ◌++◌, ◌≡◌, ◌∙◌, ◌∷◌, ◌⊎◌, []}
+use Rattle.std.specs.List.Sorted.{IsPermutation, IsStableBy, ties}
 use Rattle.textwrap_patterns.proofs.KeyOrder.{behind-other, ties-same}
 use Rattle.textwrap_patterns.specs.Entries.{AreSortedFrom, entry_for, is_before}
 use Rattle.textwrap_patterns.specs.declared.entries.TrieEntry.{TrieEntry}
+use Rattle.textwrap_text.proofs.Common.{All, All-cons, All-head, All-nil, All-tail, ap, append-nil}
+use Rattle.textwrap_text.proofs.Common.{arith, Bool, false, filter, get_or, inl, inr, List, None}
+use Rattle.textwrap_text.proofs.Common.{refl, rules, suc, sym, true, ℕ, ⊎_elim, ◌++◌, ◌≡◌, ◌∙◌, ◌∷◌}
+use Rattle.textwrap_text.proofs.Common.{◌⊎◌, []}
 
 abbrev pub HasOther : {A : Type 0} → List ℕ → TrieEntry A → Type 0
 HasOther key e = bytes_eq e.key.items key ≡ false

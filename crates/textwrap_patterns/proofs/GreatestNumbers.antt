@@ -1,16 +1,13 @@
 -- The greatest of numbers: among parts of a list, one more, and in any order.
-use Rattle.std.specs.List.Sorted.{IsPermutation}
+use Rattle.std.proofs.{Common.Err, Common.Ok, lemmas.List.get_or-append_right}
 use Rattle.std.proofs.lemmas.List.Sorted.{All-permutation, IsPermutation-sym}
-use Rattle.textwrap_text.proofs.Common.{ap, arith, get_or, length, List, map, map-append, max}
-use Rattle.textwrap_text.proofs.Common.{take, take_more, ℕ, ◌+◌, ◌++◌, ◌<◌, ◌∙◌, ◌∷◌, ◌≡◌, []}
-use Rattle.textwrap_text.proofs.Common.{get_or_past, All, All-cons, All-head, All-tail, ◌≤◌}
-use Rattle.textwrap_text.proofs.Common.{drop, get_or-drop, get_or_append_left}
-use Rattle.textwrap_text.proofs.Common.{cond, IfOk, min, Result}
-use Rattle.std.proofs.Common.{Err, Ok}
-use Rattle.std.specs.Prelude.{is_ok}
-use Rattle.std.proofs.lemmas.List.{get_or-append_right}
+use Rattle.std.specs.{List.Sorted.IsPermutation, Prelude.is_ok}
 use Rattle.textwrap_patterns.specs.Merging.{first_numbers, greatest}
 use Rattle.textwrap_patterns.specs.declared.entries.TrieEntry.{TrieEntry}
+use Rattle.textwrap_text.proofs.Common.{ap, arith, get_or, length, List, map, map-append, max, take}
+use Rattle.textwrap_text.proofs.Common.{take_more, ℕ, ◌+◌, ◌++◌, ◌<◌, ◌∙◌, ◌∷◌, ◌≡◌, []}
+use Rattle.textwrap_text.proofs.Common.{get_or_past, All, All-cons, All-head, All-tail, ◌≤◌, drop}
+use Rattle.textwrap_text.proofs.Common.{get_or-drop, get_or_append_left, cond, IfOk, min, Result}
 
 pub greatest-append : (ns ms : List ℕ) → greatest (ns ++ ms) ≡ max (greatest ns) (greatest ms)
 greatest-append [] ms = omega arith

@@ -1,15 +1,13 @@
 -- Which of two keys stands before the other.
-use Rattle.std.specs.Cmp.Lexicographic.{slice_cmp}
-use Rattle.std.specs.Ordering.{is_eq, is_lt, nat_cmp, ordering_reverse}
-use Rattle.std.specs.Prelude.{bytes_eq}
-use Rattle.std.specs.declared.cmp.Ordering.{Ordering}
+use Rattle.std.proofs.{Common.bytes_eq, lemmas.Cmp.nat_list_cmp_total}
+use Rattle.std.proofs.lemmas.{Cmp.same_from_slice_cmp, Slice.Eq.bytes_eq-Decides}
+use Rattle.std.specs.{Cmp.Lexicographic.slice_cmp, Ordering.is_eq, Ordering.is_lt, Ordering.nat_cmp}
+use Rattle.std.specs.{Ordering.ordering_reverse, declared.cmp.Ordering.Ordering}
 use Rattle.std.specs.declared.cmp.Ordering.TheVariants.{Less, Equal, Greater}
-use Rattle.std.proofs.lemmas.Cmp.{nat_list_cmp_total, same_from_slice_cmp}
-use Rattle.std.proofs.lemmas.Slice.Eq.{bytes_eq-Decides}
+use Rattle.textwrap_patterns.specs.Entries.{is_before}
 use Rattle.textwrap_text.proofs.Common.{ap, arith, Bool, false, false≢true, inl, inr, List}
 use Rattle.textwrap_text.proofs.Common.{nat_tests, not, refl, rules, subst, sym, true, true≢false}
 use Rattle.textwrap_text.proofs.Common.{ℕ, ◌&&◌, ◌≡◌, ◌≢◌, ◌∙◌, ◌⊎◌}
-use Rattle.textwrap_patterns.specs.Entries.{is_before}
 
 same-order : (xs ys : List ℕ) → is_eq (slice_cmp nat_cmp xs ys) ≡ bytes_eq xs ys
 same-order xs ys =

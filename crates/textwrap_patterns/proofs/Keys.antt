@@ -1,18 +1,16 @@
 -- Keys in order, from a letter on.
-use Rattle.textwrap_text.proofs.Common.{[], All, All-head, All-tail, ap, ap₂, arith, Bool}
-use Rattle.textwrap_text.proofs.Common.{cond, drop, drop_all, drop_more, eq-eqb, eqb, eqb-true}
-use Rattle.textwrap_text.proofs.Common.{false, false≢true, get_or, get_or-drop, get_or-take, inl}
-use Rattle.textwrap_text.proofs.Common.{inr, length, length-append, length-drop, length-take, List}
-use Rattle.textwrap_text.proofs.Common.{ltb, ltb-true, nat_tests, ne_eqb, None, Option, refl, Some}
-use Rattle.textwrap_text.proofs.Common.{subst, suc, sym, take, true, zero, ℕ, ◌&&◌, ◌++◌, ◌+◌, ◌<◌}
-use Rattle.textwrap_text.proofs.Common.{◌∙◌, ◌∷◌, ◌≡◌, ◌≢◌, ◌≤◌, ◌⊎◌}
-use Rattle.std.proofs.lemmas.List.{get_or-append-add}
-use Rattle.std.specs.Ordering.{is_lt, nat_cmp, ordering_then}
-use Rattle.std.specs.Cmp.Lexicographic.{slice_cmp}
+use Rattle.std.{proofs.lemmas.List.get_or-append-add, specs.Cmp.Lexicographic.slice_cmp}
+use Rattle.std.specs.{Ordering.is_lt, Ordering.nat_cmp, Ordering.ordering_then, Prelude.bytes_eq}
 use Rattle.std.specs.declared.cmp.Ordering.TheVariants.{Equal, Greater, Less}
-use Rattle.std.specs.Prelude.{bytes_eq}
 use Rattle.textwrap_patterns.specs.Entries.{AreSortedFrom, entry_for, is_before, letter_at}
 use Rattle.textwrap_patterns.specs.declared.entries.TrieEntry.{TrieEntry}
+use Rattle.textwrap_text.proofs.Common.{[], All, All-head, All-tail, ap, ap₂, arith, Bool, cond}
+use Rattle.textwrap_text.proofs.Common.{drop, drop_all, drop_more, eq-eqb, eqb, eqb-true, false}
+use Rattle.textwrap_text.proofs.Common.{false≢true, get_or, get_or-drop, get_or-take, inl, inr}
+use Rattle.textwrap_text.proofs.Common.{length, length-append, length-drop, length-take, List, ltb}
+use Rattle.textwrap_text.proofs.Common.{ltb-true, nat_tests, ne_eqb, None, Option, refl, Some}
+use Rattle.textwrap_text.proofs.Common.{subst, suc, sym, take, true, zero, ℕ, ◌&&◌, ◌++◌, ◌+◌, ◌<◌}
+use Rattle.textwrap_text.proofs.Common.{◌∙◌, ◌∷◌, ◌≡◌, ◌≢◌, ◌≤◌, ◌⊎◌}
 
 -- nothing stands before a key that has ended
 before-some : (xs ys : List ℕ) → is_before xs ys ≡ true → 0 < length ys

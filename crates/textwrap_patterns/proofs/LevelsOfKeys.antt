@@ -1,15 +1,13 @@
 -- What a node gives a text is the greatest of what it has for the beginnings of the text; and where
 -- its keys are those of entries, this is what they give.
-use Rattle.std.specs.Prelude.{bytes_eq}
-use Rattle.textwrap_text.proofs.Common.{ap, ap₂, arith, Bool, cond, eqb, false, get_or}
-use Rattle.textwrap_text.proofs.Common.{get_or_past, List, max, nat_eq, None, Option, refl, Some}
-use Rattle.textwrap_text.proofs.Common.{starts_with, suc, true, unwrap_or, ℕ, ◌≡◌, ◌∙◌, ◌∷◌}
-use Rattle.textwrap_text.proofs.Common.{[]}
+use Rattle.std.proofs.Common.{bytes_eq}
 use Rattle.textwrap_patterns.proofs.FirstEntries.{entry_for-none, others-behind}
-use Rattle.textwrap_patterns.specs.Entries.{AreSortedFrom, entry_for}
-use Rattle.textwrap_patterns.specs.Merging.{greatest_number}
-use Rattle.textwrap_patterns.specs.Trie.{child_of, level_below, level_from, lists_of, numbers_below, numbers_for, slots_of}
-use Rattle.textwrap_patterns.specs.declared.entries.TrieEntry.{TrieEntry}
+use Rattle.textwrap_patterns.specs.{Entries.AreSortedFrom, Entries.entry_for, Merging.greatest_number}
+use Rattle.textwrap_patterns.specs.Trie.{child_of, level_below, level_from, lists_of, numbers_below, numbers_for}
+use Rattle.textwrap_patterns.specs.{Trie.slots_of, declared.entries.TrieEntry.TrieEntry}
+use Rattle.textwrap_text.proofs.Common.{ap, ap₂, arith, Bool, cond, eqb, false, get_or, get_or_past, List, max}
+use Rattle.textwrap_text.proofs.Common.{nat_eq, None, Option, refl, Some, starts_with, suc, true, unwrap_or, ℕ}
+use Rattle.textwrap_text.proofs.Common.{◌≡◌, ◌∙◌, ◌∷◌, []}
 
 -- a number of some numbers, or 0 of none
 abbrev pub number_of : Option (List ℕ) → ℕ → ℕ

@@ -1,11 +1,10 @@
 -- Lists of numbers within one.
-use Rattle.textwrap_text.proofs.Common.{[], ap, append_assoc, arith, drop, get_or, length, List, min}
-use Rattle.textwrap_text.proofs.Common.{drop-drop, length-take}
-use Rattle.textwrap_text.proofs.Common.{refl, take, take_at, ℕ, ◌++◌, ◌+◌, ◌-◌, ◌<◌, ◌∙◌, ◌∷◌, ◌≡◌}
-use Rattle.textwrap_text.proofs.Common.{get_or_append_left, length-append, length-drop, suc, take-append-le, ◌≤◌}
 use Rattle.std.proofs.Math.Seq.{drop-append_seam}
 use Rattle.std.proofs.lemmas.List.{drop-append-le, take_min, take_rest}
 use Rattle.textwrap_patterns.specs.Trie.{numbers_at}
+use Rattle.textwrap_text.proofs.Common.{[], ap, append_assoc, arith, drop, get_or, length, List, min, drop-drop}
+use Rattle.textwrap_text.proofs.Common.{length-take, refl, take, take_at, ℕ, ◌++◌, ◌+◌, ◌-◌, ◌<◌, ◌∙◌, ◌∷◌, ◌≡◌}
+use Rattle.textwrap_text.proofs.Common.{get_or_append_left, length-append, length-drop, suc, take-append-le, ◌≤◌}
 
 -- what does not fit is left out, so it need not be asked for
 pub numbers_at-fit : (words : List ℕ) (at n : ℕ) → at < length words

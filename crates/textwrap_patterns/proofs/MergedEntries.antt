@@ -1,18 +1,17 @@
 -- Entries that are merged: those with one key become one entry, which stands before the others.
-use Rattle.std.specs.Prelude.{bytes_eq}
-use Rattle.textwrap_text.proofs.Common.{All, All-append, All-cons, All-drop, All-head, All-nil}
-use Rattle.textwrap_text.proofs.Common.{All-tail, ap, append_assoc, arith, Bool, cond, drop}
-use Rattle.textwrap_text.proofs.Common.{false, get_or, get_or-drop, length, length-drop, List}
-use Rattle.textwrap_text.proofs.Common.{map, max, nat_eq, refl, Some, starts_with, suc}
-use Rattle.textwrap_text.proofs.Common.{sym, take, take-append-drop, true, zero, ℕ, ◌+◌}
-use Rattle.textwrap_text.proofs.Common.{◌++◌, ◌<◌, ◌≤◌, ◌≡◌, ◌≢◌, ◌∙◌, ◌∷◌, [], ◌⊎◌, inl, inr}
+use Rattle.std.proofs.Common.{bytes_eq}
 use Rattle.textwrap_patterns.proofs.FirstEntries.{entry_for-before, entry_for-behind}
-use Rattle.textwrap_patterns.proofs.GreatestNumbers.{greatest-parts}
-use Rattle.textwrap_patterns.proofs.KeyOrder.{before-later, before-other}
-use Rattle.textwrap_patterns.specs.Entries.{AreSortedFrom, entry_for, is_before}
-use Rattle.textwrap_patterns.specs.Merging.{AreInOrder, first_key, first_numbers, greatest}
-use Rattle.textwrap_patterns.specs.Merging.{greatest_number, number_in}
-use Rattle.textwrap_patterns.specs.declared.entries.TrieEntry.{TrieEntry}
+use Rattle.textwrap_patterns.proofs.{GreatestNumbers.greatest-parts, KeyOrder.before-later}
+use Rattle.textwrap_patterns.{proofs.KeyOrder.before-other, specs.Entries.AreSortedFrom}
+use Rattle.textwrap_patterns.specs.{Entries.entry_for, Entries.is_before, Merging.AreInOrder}
+use Rattle.textwrap_patterns.specs.Merging.{first_key, first_numbers, greatest, greatest_number}
+use Rattle.textwrap_patterns.specs.{Merging.number_in, declared.entries.TrieEntry.TrieEntry}
+use Rattle.textwrap_text.proofs.Common.{All, All-append, All-cons, All-drop, All-head, All-nil}
+use Rattle.textwrap_text.proofs.Common.{All-tail, ap, append_assoc, arith, Bool, cond, drop, false}
+use Rattle.textwrap_text.proofs.Common.{get_or, get_or-drop, length, length-drop, List, map, max}
+use Rattle.textwrap_text.proofs.Common.{nat_eq, refl, Some, starts_with, suc, sym, take}
+use Rattle.textwrap_text.proofs.Common.{take-append-drop, true, zero, ℕ, ◌+◌, ◌++◌, ◌<◌, ◌≤◌, ◌≡◌}
+use Rattle.textwrap_text.proofs.Common.{◌≢◌, ◌∙◌, ◌∷◌, [], ◌⊎◌, inl, inr}
 
 abbrev pub StandsBefore : {A : Type 0} → TrieEntry A → List (TrieEntry A) → Type 0
 StandsBefore m es = All (λ e. is_before m.key.items e.key.items ≡ true) es

@@ -1,13 +1,12 @@
 -- What is left in the slots of a trie where a node is put among them.
-use Rattle.textwrap_text.proofs.Common.{[], All, All-head, All-tail, ap, arith, Bool, cases_eq}
-use Rattle.textwrap_text.proofs.Common.{cond, eq-eqb, eqb, eqb-true, false, get_or, length}
-use Rattle.textwrap_text.proofs.Common.{List, ne_eqb, None, Option, refl, Some, suc, sym, take, take_more, true, ℕ}
-use Rattle.textwrap_text.proofs.Common.{⊎_elim, ◌*◌, ◌++◌, ◌+◌, ◌<◌, ◌∙◌, ◌∷◌, ◌≡◌, ◌≢◌}
-use Rattle.std.proofs.lemmas.List.Elements.{All-push}
-use Rattle.std.specs.Prelude.{◌%◌, nat_lt}
+use Rattle.std.proofs.{Common.◌%◌, lemmas.List.Elements.All-push}
 use Rattle.textwrap_patterns.specs.Trie.{child_at, child_in, empty_slot, kind_of, place_of, slot_at}
 use Rattle.textwrap_patterns.specs.Writing.{AreFree, child_for, HaveParents, IsKind, IsLater, IsNodeOf, slot_for}
 use Rattle.textwrap_patterns.specs.declared.slots.Child.{Child}
+use Rattle.textwrap_text.proofs.Common.{[], All, All-head, All-tail, ap, arith, Bool, cases_eq, cond, eq-eqb, eqb}
+use Rattle.textwrap_text.proofs.Common.{eqb-true, false, get_or, length, List, ne_eqb, None, Option, refl, Some}
+use Rattle.textwrap_text.proofs.Common.{suc, sym, take, take_more, true, ℕ, ⊎_elim, ◌*◌, ◌++◌, ◌+◌, ◌<◌, ◌∙◌, ◌∷◌}
+use Rattle.textwrap_text.proofs.Common.{◌≡◌, ◌≢◌, nat_lt}
 
 abbrev pub AreCodes : List Child → Type 0
 AreCodes children = All (λ c. c.letter < 0x110000) children
@@ -261,35 +260,6 @@ module _ (old new : List ℕ) (place list : ℕ) (children : List Child) (parent
         ∙ ap (λ p. child_at after p letter) (omega (arith, is, has.0, small))
         ∙ later.children place letter own-some ∙ put-children letter;
   }
-
--- a node without children, in any slots
-pub leaf-none : (slots : List ℕ) → HaveParents slots → IsNodeOf None [] slots slots 3
-leaf-none slots parents = record {
-  parents = parents;
-  later = later-same slots;
-  list = λ after later code small.
-      let is_kind : kind_of (3 * 0x200000 + code) ≡ 3 = omega (arith, small) in
-      ap (λ n. list_by n after (3 * 0x200000 + code)) is_kind;
-  child = λ after letter later code small.
-      let slot = 3 * 0x200000 + code in
-      let is_kind : kind_of slot ≡ 3 = omega (arith, small) in
-      ap (λ n. cond (nat_lt n 2) (child_at after (place_of slot) letter) empty_slot) is_kind;
-}
-
-pub leaf-some : (slots : List ℕ) (place node : ℕ) → node ≡ place * 4 + 2 → HaveParents slots
-    → IsNodeOf (Some place) [] slots slots node
-leaf-some slots place node is parents = record {
-  parents = parents;
-  later = later-same slots;
-  list = λ after later code small.
-      let slot = node * 0x200000 + code in
-      let is_kind : kind_of slot ≡ 2 = omega (arith, is, small) in
-      ap (λ n. list_by n after slot) is_kind ∙ ap Some (omega (arith, is, small));
-  child = λ after letter later code small.
-      let slot = node * 0x200000 + code in
-      let is_kind : kind_of slot ≡ 2 = omega (arith, is, small) in
-      ap (λ n. cond (nat_lt n 2) (child_at after (place_of slot) letter) empty_slot) is_kind;
-}
 
 pub no-parents : HaveParents []
 no-parents = λ place letter none. empty-none letter

@@ -1,22 +1,19 @@
 -- A trie of which the first children are written.
-use Rattle.textwrap_text.proofs.Common.{[], All, All-drop, All-head, All-tail, All-take}
-use Rattle.textwrap_text.proofs.Common.{ap, append-nil, append_assoc, arith, cases_eq, cond, drop, eq-eqb}
-use Rattle.textwrap_text.proofs.Common.{eqb, get_or, get_or-drop, get_or_default, length}
-use Rattle.textwrap_text.proofs.Common.{length-drop, List, ne_eqb, None, Option}
-use Rattle.textwrap_text.proofs.Common.{refl, Some, subst, suc, sym, take, take-append-drop, ℕ, ⊎_elim}
-use Rattle.textwrap_text.proofs.Common.{◌*◌, ◌++◌, ◌+◌, ◌-◌, ◌<◌, ◌∙◌, ◌∷◌, ◌≡◌, ◌≢◌, ◌≤◌}
 use Rattle.std.proofs.lemmas.List.Elements.{All-push}
-use Rattle.std.specs.Option.{option_map}
-use Rattle.textwrap_text.proofs.Lists.Parts.{all-right}
-use Rattle.textwrap_patterns.proofs.PutNodes.{later-later, later-same}
 use Rattle.textwrap_patterns.proofs.Keys.{entry_for-all_ended, entry_for-append, entry_for-group}
 use Rattle.textwrap_patterns.proofs.Keys.{entry_for-other, first_of_two, letters-rise, sorted-group}
 use Rattle.textwrap_patterns.proofs.Keys.{sorted-right, sorted-take}
+use Rattle.textwrap_patterns.proofs.PutNodes.{later-later, later-same}
 use Rattle.textwrap_patterns.specs.Entries.{AreSortedFrom, entry_for, IsGroupOf, letter_at}
 use Rattle.textwrap_patterns.specs.Trie.{empty_slot, numbers_at, numbers_below}
 use Rattle.textwrap_patterns.specs.Writing.{child_for, HaveParents, IsLater, IsListOf, IsNodeOf, IsTrie}
-use Rattle.textwrap_patterns.specs.declared.entries.TrieEntry.{TrieEntry}
-use Rattle.textwrap_patterns.specs.declared.slots.Child.{Child}
+use Rattle.textwrap_patterns.specs.declared.{entries.TrieEntry.TrieEntry, slots.Child.Child}
+use Rattle.textwrap_text.proofs.Common.{[], All, All-drop, All-head, All-tail, All-take, ap, append-nil}
+use Rattle.textwrap_text.proofs.Common.{append_assoc, arith, cases_eq, cond, drop, eq-eqb, eqb, get_or}
+use Rattle.textwrap_text.proofs.Common.{get_or-drop, get_or_default, length, length-drop, List, ne_eqb}
+use Rattle.textwrap_text.proofs.Common.{None, Option, refl, Some, subst, suc, sym, take, take-append-drop}
+use Rattle.textwrap_text.proofs.Common.{ℕ, ⊎_elim, ◌*◌, ◌++◌, ◌+◌, ◌-◌, ◌<◌, ◌∙◌, ◌∷◌, ◌≡◌, ◌≢◌, ◌≤◌}
+use Rattle.textwrap_text.proofs.{Common.option_map, Lists.Parts.all-right}
 
 -- below an empty slot there are no numbers
 pub below-none : (key slots lists : List ℕ) → numbers_below key slots lists empty_slot ≡ None

@@ -1,25 +1,15 @@
 -- What stands in a list of numbers once it is written.
-use Rattle.textwrap_text.proofs.Common.{[], ap, append-nil, append_assoc, arith, drop, drop_all, get_or}
-use Rattle.textwrap_text.proofs.Common.{length, length-append, List, None, Option, refl, Some, sym}
-use Rattle.textwrap_text.proofs.Common.{ℕ, ◌*◌, ◌++◌, ◌+◌, ◌<◌, ◌∙◌, ◌∷◌, ◌≡◌, ◌≤◌}
-use Rattle.std.proofs.lemmas.List.{get_or_at}
+use Rattle.std.proofs.Common.{[], ap, append-nil, append_assoc, arith, drop, get_or, length}
+use Rattle.std.proofs.Common.{length-append, List, None, refl, sym, ℕ, ◌*◌, ◌++◌, ◌+◌, ◌∙◌, ◌∷◌}
+use Rattle.std.proofs.{Common.◌≡◌, lemmas.List.get_or_at}
 use Rattle.textwrap_patterns.proofs.ListsWithin.{numbers_at-written, rest-written}
-use Rattle.textwrap_patterns.proofs.PutNodes.{later-same}
-use Rattle.textwrap_patterns.specs.Entries.{entry_for}
+use Rattle.textwrap_patterns.{proofs.PutNodes.later-same, specs.Entries.entry_for}
 use Rattle.textwrap_patterns.specs.Trie.{lists_of, numbers_at, numbers_below, numbers_for}
 use Rattle.textwrap_patterns.specs.Writing.{IsList, IsListOf, IsTrie, HoldsTrie}
 use Rattle.textwrap_patterns.specs.declared.entries.TrieEntry.{TrieEntry}
 
 pub list-none : (old : List ℕ) → IsListOf None old old None
 list-none old = record { added = []; grown = sym (append-nil old); list = λ more. refl }
-
-pub list-some : (said : Option (List ℕ)) (numbers old new : List ℕ) (place : ℕ) → said ≡ Some numbers
-    → IsList numbers old new place → IsListOf said old new (Some place)
-list-some said numbers old new place is list = record {
-  added = list.added;
-  grown = list.grown;
-  list = λ more. ap Some (list.list more) ∙ sym is;
-}
 
 -- a list that is written behind its length is found there
 pub list-written : (numbers old new : List ℕ) (place : ℕ) → place ≡ length old
@@ -31,13 +21,6 @@ list-written numbers old new place at grown = record {
       ∙ ap (numbers_at ((old ++ length numbers ∷ numbers) ++ more)) at
       ∙ numbers_at-written old numbers more;
 }
-
--- the key that ends at the letter is that of the first entry
-pub entry_for-ended : {A : Type 0} (depth : ℕ) (entries : List (TrieEntry A)) (first : TrieEntry A) → 0 < length entries
-    → first ≡ get_or entries 0 first → length first.key.items ≤ depth
-    → entry_for depth entries [] ≡ Some first.numbers.items
-entry_for-ended {A} depth [] first some is ended = absurd (omega (arith, some))
-entry_for-ended {A} depth (e ∷ es) first some is ended = grind (arith, drop_all)
 
 -- ---- a whole trie
 

@@ -1,6 +1,5 @@
 -- Patterns that are read character by character, and places one after another.
-use Rattle.std.specs.Prelude.{Option, None, Some}
-use Rattle.textwrap_text.proofs.Common.{List, ℕ, ◌≡◌, ◌∷◌, drop, true, false, refl}
+use Rattle.std.proofs.Common.{Option, None, Some, List, ℕ, ◌≡◌, ◌∷◌, drop, true, false, refl}
 use Rattle.textwrap_patterns.specs.Letters.{folded}
 use Rattle.textwrap_patterns.specs.Written.{is_digit, letters_written, levels_written}
 

@@ -1,11 +1,8 @@
 -- Patterns at whose hyphen letters change, as libhyphen has them: a pattern, a slash, and the change.
-use Rattle.std.specs.Prelude.{ℕ, suc, ◌+◌, ◌-◌, ◌*◌, ◌%◌, Bool, ◌==◌, ◌&&◌, not, List, [], ◌∷◌, Option, None, Some}
-use Rattle.std.specs.Prelude.{drop, if◌then◌else◌, length, nat_lt, take}
-use Rattle.std.specs.Int.{is_in_range}
-use Rattle.std.specs.List.{list_any, prefix_len}
-use Rattle.textwrap_patterns.specs.Listed.{PatternText}
-use Rattle.textwrap_patterns.specs.Written.{is_digit}
-use Rattle.textwrap_patterns.specs.declared.changes.Region.{Region}
+use Rattle.std.specs.{Int.is_in_range, List.list_any, List.prefix_len}
+use Rattle.std.specs.Prelude.{ℕ, suc, ◌+◌, ◌-◌, ◌*◌, ◌%◌, Bool, ◌==◌, ◌&&◌, not, List, [], ◌∷◌, Option, None}
+use Rattle.std.specs.Prelude.{Some, drop, if◌then◌else◌, length, nat_lt, take}
+use Rattle.textwrap_patterns.specs.{Listed.PatternText, Written.is_digit, declared.changes.Region.Region}
 
 -- how many characters stand before the first of this one, these characters, and those behind it
 abbrev pub before : ℕ → List ℕ → ℕ

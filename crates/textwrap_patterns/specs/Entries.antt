@@ -1,8 +1,7 @@
 -- What a trie is made of: keys, each with its numbers.
-use Rattle.std.specs.Prelude.{◌≡◌, ◌≢◌, ℕ, ◌<◌, ◌≤◌, All, Bool, true, List, [], ◌∷◌, Option, None, Some, bytes_eq, drop}
-use Rattle.std.specs.Prelude.{if◌then◌else◌, length, slice_index, slice_index_or, take}
-use Rattle.std.specs.Cmp.Lexicographic.{slice_cmp}
-use Rattle.std.specs.Ordering.{is_lt, nat_cmp}
+use Rattle.std.specs.{Cmp.Lexicographic.slice_cmp, Ordering.is_lt, Ordering.nat_cmp}
+use Rattle.std.specs.Prelude.{◌≡◌, ◌≢◌, ℕ, ◌<◌, ◌≤◌, All, Bool, true, List, [], ◌∷◌, Option, None, Some, bytes_eq}
+use Rattle.std.specs.Prelude.{drop, if◌then◌else◌, length, slice_index, slice_index_or, take}
 use Rattle.textwrap_patterns.specs.declared.entries.TrieEntry.{TrieEntry}
 
 -- the numbers of the first entry with this key, from a letter on

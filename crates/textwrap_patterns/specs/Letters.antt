@@ -1,13 +1,11 @@
 -- The letters of a word: what is lower-cased, what counts as a letter, and the runs of letters.
 use Rattle.std.specs.Prelude.{ℕ, suc, Bool, false, ◌==◌, ◌&&◌, ◌||◌, not, List, [], ◌∷◌, filter}
-use Rattle.std.specs.Prelude.{length, map, nat_le}
-use Rattle.std.specs.Prelude.{if◌then◌else◌}
+use Rattle.std.specs.Prelude.{length, map, nat_le, if◌then◌else◌}
 use Rattle.std.specs.StrCase.Lower.{lowercase_before}
-use Rattle.textwrap_text.specs.Characters.{characters_of}
-use Rattle.textwrap_text.specs.declared.characters.Character.{Character}
 use Rattle.textwrap_patterns.specs.declared.letters.Letter.{Letter}
-use Rattle.unicode.specs.Binary.{is_alphabetic, is_grapheme_extend}
+use Rattle.textwrap_text.specs.{Characters.characters_of, declared.characters.Character.Character}
 use Rattle.textwrap_words.specs.WordOffsets.{soft_hyphen}
+use Rattle.unicode.specs.Binary.{is_alphabetic, is_grapheme_extend}
 
 abbrev pub apostrophe : ℕ
 apostrophe = 0x27

@@ -1,7 +1,6 @@
 -- What is listed in a dictionary of hyphenation: patterns, and words with their hyphens as exceptions.
 use Rattle.std.specs.Prelude.{ℕ, List, []}
-use Rattle.textwrap_patterns.specs.declared.patterns.Exception.{Exception}
-use Rattle.textwrap_patterns.specs.declared.patterns.Pattern.{Pattern}
+use Rattle.textwrap_patterns.specs.declared.patterns.{Exception.Exception, Pattern.Pattern}
 
 -- letters, and a level for the place before each of them and for the one behind the last
 pub record PatternText : Type 0 where

@@ -1,9 +1,8 @@
 -- What entries say together: of those with one key the first, or the greatest number at each place.
+use Rattle.std.specs.List.{starts_with}
 use Rattle.std.specs.Prelude.{◌≡◌, ℕ, ◌<◌, List, [], ◌∷◌, ◌++◌, false, if◌then◌else◌, length, map}
 use Rattle.std.specs.Prelude.{max, nat_eq, slice_index, slice_index_or}
-use Rattle.std.specs.List.{starts_with}
-use Rattle.textwrap_patterns.specs.Entries.{is_before}
-use Rattle.textwrap_patterns.specs.declared.entries.TrieEntry.{TrieEntry}
+use Rattle.textwrap_patterns.specs.{Entries.is_before, declared.entries.TrieEntry.TrieEntry}
 
 abbrev pub greatest : List ℕ → ℕ
 greatest [] = 0

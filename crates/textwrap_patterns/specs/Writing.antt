@@ -2,13 +2,10 @@
 -- behind that.
 use Rattle.std.specs.Option.{option_map}
 use Rattle.std.specs.Prelude.{◌≡◌, ◌≢◌, ℕ, suc, ◌+◌, ◌*◌, ◌<◌, ◌==◌, All, List, [], ◌∷◌, ◌++◌, Option, None, Some}
-use Rattle.std.specs.Prelude.{if◌then◌else◌}
-use Rattle.textwrap_patterns.specs.Entries.{entry_for}
-use Rattle.textwrap_patterns.specs.Trie.{child_at, child_of, empty_slot, list_of, lists_of}
-use Rattle.textwrap_patterns.specs.Trie.{numbers_at, numbers_below, slot_at, slots_of}
-use Rattle.std.specs.Prelude.{slice_index}
-use Rattle.textwrap_patterns.specs.declared.entries.TrieEntry.{TrieEntry}
-use Rattle.textwrap_patterns.specs.declared.slots.Child.{Child}
+use Rattle.std.specs.Prelude.{if◌then◌else◌, slice_index}
+use Rattle.textwrap_patterns.specs.{Entries.entry_for, Trie.child_at, Trie.child_of, Trie.empty_slot}
+use Rattle.textwrap_patterns.specs.Trie.{list_of, lists_of, numbers_at, numbers_below, slot_at, slots_of}
+use Rattle.textwrap_patterns.specs.declared.{entries.TrieEntry.TrieEntry, slots.Child.Child}
 
 -- the slot of the last child with a letter, or another one
 abbrev pub child_for : List Child → ℕ → ℕ → ℕ

@@ -1,9 +1,7 @@
 -- How patterns and exceptions are written.
-use Rattle.std.specs.Prelude.{ℕ, ◌-◌, Bool, List, [], ◌∷◌}
-use Rattle.std.specs.Prelude.{drop, filter, if◌then◌else◌, map, not}
 use Rattle.std.specs.Int.{is_in_range}
-use Rattle.textwrap_patterns.specs.Letters.{folded}
-use Rattle.textwrap_patterns.specs.Listed.{PatternText}
+use Rattle.std.specs.Prelude.{ℕ, ◌-◌, Bool, List, [], ◌∷◌, drop, filter, if◌then◌else◌, map, not}
+use Rattle.textwrap_patterns.specs.{Letters.folded, Listed.PatternText}
 
 abbrev pub is_digit : ℕ → Bool
 is_digit c = is_in_range 0x30 0x39 c

@@ -2,8 +2,7 @@
 ghost use Rattle.std.specs.Prelude.{◌≡◌, ◌<◌, ◌≤◌, length, take, true, IfNone, IfOk, IfSome};
 ghost use Rattle.textwrap_patterns.specs.Letters.{begins_letter, counts, folded, has_letters};
 ghost use Rattle.textwrap_patterns.specs.Letters.{is_hyphen_character, is_letter_or_mark};
-ghost use Rattle.textwrap_patterns.specs.Letters.{is_combining_mark};
-ghost use Rattle.textwrap_patterns.specs.Letters.{letters_of, lowered, run_len};
+ghost use Rattle.textwrap_patterns.specs.Letters.{is_combining_mark, letters_of, lowered, run_len};
 ghost use Rattle.textwrap_text.specs.Units.{IsPrintable};
 
 use std::alloc::{AllocError, Allocator};

@@ -1,7 +1,6 @@
 //! Patterns and exceptions, made of how they are written.
 ghost use Rattle.std.specs.Prelude.{◌≡◌, ◌↔◌, ◌-◌, chars, length, IfOk, IfSome, IsSome, IsTrue};
-ghost use Rattle.textwrap_patterns.specs.Listed.{exception_text, exception_view};
-ghost use Rattle.textwrap_patterns.specs.Listed.{pattern_view};
+ghost use Rattle.textwrap_patterns.specs.Listed.{exception_text, exception_view, pattern_view};
 ghost use Rattle.textwrap_patterns.specs.Places.{AreInnerPlaces};
 ghost use Rattle.textwrap_patterns.specs.Written.{is_digit, pattern_written};
 

@@ -1,13 +1,11 @@
 -- Lines that keep to a width as texts of their own, by first fit, where no text has escape sequences and
 -- each character has room behind each indent.
-use Rattle.std.{proofs.lemmas.List.Elements.All-map, specs.List.zip, specs.Prelude.chars}
-use Rattle.std.specs.Prelude.{sum_by}
+use Rattle.std.proofs.Common.{chars}
 use Rattle.textwrap_base.proofs.Division.Map.{IsDividedBy-whole}
-use Rattle.textwrap_display.specs.Tables.{IsCell, Shape}
-use Rattle.textwrap_layout.proofs.Common.{CutsNoSequence, HasNoEscape, IsPrintedWithin}
-use Rattle.textwrap_layout.proofs.Common.{ArePieces, last_piece}
-use Rattle.textwrap_layout.proofs.Paragraph.{LeftOff.blanks-utf8, Widths.PiecesClose}
-use Rattle.textwrap_layout.proofs.Paragraph.Pieces.{pieces-measured}
+use Rattle.textwrap_display.{proofs.Common.IsWholeText, specs.Tables.{IsCell, Shape}}
+use Rattle.textwrap_layout.proofs.Common.{CutsNoSequence, HasNoEscape, IsPrintedWithin, ArePieces}
+use Rattle.textwrap_layout.proofs.{Common.last_piece, Paragraph.LeftOff.blanks-utf8}
+use Rattle.textwrap_layout.proofs.Paragraph.{Pieces.pieces-measured, Widths.PiecesClose}
 use Rattle.textwrap_layout.proofs.Text.Paragraphs.{each_part, paragraphs_of-each, text_width-append}
 use Rattle.textwrap_layout.proofs.Text.Paragraphs.{units-plain}
 use Rattle.textwrap_lines.proofs.Common.{All, All-cons, All-head, All-nil, All-tail, AreCuts}
@@ -15,36 +13,29 @@ use Rattle.textwrap_lines.proofs.Common.{AreParagraphParts, AreTextLines, AreTex
 use Rattle.textwrap_lines.proofs.Common.{ByFirstFit, CanKeepToWidth, HasNoPenalty, IsDividedBy}
 use Rattle.textwrap_lines.proofs.Common.{IsDividedInto, IsMeasured, IsUtf8, Line, LineParts, List}
 use Rattle.textwrap_lines.proofs.Common.{Settings, WordText, [], all-left, all-right, ap}
-use Rattle.textwrap_lines.proofs.Common.{append_assoc, arith, cases_Bool, cond, covered}
-use Rattle.textwrap_lines.proofs.Common.{false, flat, indent_of, inl, inr, ◌-◌, ◌<◌}
-use Rattle.textwrap_lines.proofs.Common.{is_whole, laid_out-cases, length, line_bytes, line_from}
-use Rattle.textwrap_lines.proofs.Common.{map, nat_lt, paragraphs_of, paragraphs_of-utf8, parts_from}
-use Rattle.textwrap_lines.proofs.Common.{parts_of, pieces-tile, refl, rules, sizes_of, subst, sym}
-use Rattle.textwrap_lines.proofs.Common.{tiled, tiled-word_of, true, widths_of, word_of, ℕ, None}
-use Rattle.textwrap_lines.proofs.Common.{◌++◌, ◌+◌, ◌∷◌, ◌≡◌, ◌≢◌, ◌≤◌}
-use Rattle.textwrap_lines.proofs.Text.Groups.{groups-all, groups-map}
-use Rattle.textwrap_lines.proofs.Text.Printed.{ArePrintedWithin-by, PrintsPenalty, blanks-whole}
-use Rattle.textwrap_lines.proofs.Text.Printed.{bytes-trimmed}
-use Rattle.textwrap_lines.proofs.Common.{chars-IsAscii}
-use Rattle.textwrap_lines.proofs.PrintableTexts.Bytes.{printable-utf8}
-use Rattle.textwrap_text.proofs.Units.Reading.{printable-ascii}
-use Rattle.textwrap_words.specs.WordSplitters.{hyphen}
+use Rattle.textwrap_lines.proofs.Common.{append_assoc, arith, cases_Bool, cond, covered, false}
+use Rattle.textwrap_lines.proofs.Common.{flat, indent_of, inl, inr, ◌-◌, ◌<◌, is_whole}
+use Rattle.textwrap_lines.proofs.Common.{laid_out-cases, length, line_bytes, line_from, map, nat_lt}
+use Rattle.textwrap_lines.proofs.Common.{paragraphs_of, paragraphs_of-utf8, parts_from, parts_of}
+use Rattle.textwrap_lines.proofs.Common.{pieces-tile, refl, rules, sizes_of, subst, sym, tiled}
+use Rattle.textwrap_lines.proofs.Common.{tiled-word_of, true, widths_of, word_of, ℕ, None, ◌++◌}
+use Rattle.textwrap_lines.proofs.Common.{◌+◌, ◌∷◌, ◌≡◌, ◌≢◌, ◌≤◌, chars-IsAscii}
+use Rattle.textwrap_lines.proofs.PrintableTexts.Bytes.{printable-utf8, printable-ascii}
+use Rattle.textwrap_lines.proofs.Text.{Groups.{groups-all, groups-map}, Printed.ArePrintedWithin-by}
+use Rattle.textwrap_lines.proofs.Text.Printed.{PrintsPenalty, blanks-whole, bytes-trimmed}
 use Rattle.textwrap_plain.proofs.Pieces.{hyphen-printable, hyphen-prints}
-use Rattle.textwrap_plain.proofs.Words.{close-at, lines-greedy}
-use Rattle.textwrap_plain.proofs.Words.{pieces-at, texts-at}
-use Rattle.textwrap_plain.specs.CutSides.{points_by-cuts}
-use Rattle.textwrap_plain.specs.Laws.{CellsKeepToColumns, HasRoomBehind, MayKeepToColumn}
-use Rattle.textwrap_plain.specs.Laws.{hyphen_columns}
-use Rattle.textwrap_plain.specs.Options.{is_dictionary, plain_algorithm, plain_settings, points_by}
-use Rattle.textwrap_plain.specs.Options.{port_splitter, words_by}
+use Rattle.textwrap_plain.proofs.Words.{close-at, lines-greedy, pieces-at, texts-at}
+use Rattle.textwrap_plain.specs.{CutSides.points_by-cuts, Laws.{CellsKeepToColumns, HasRoomBehind}}
+use Rattle.textwrap_plain.specs.{Laws.{MayKeepToColumn, hyphen_columns}, Options.is_dictionary}
+use Rattle.textwrap_plain.specs.Options.{plain_algorithm, plain_settings, points_by, port_splitter}
+use Rattle.textwrap_plain.specs.{Options.words_by, Tables.{PlainMakes, plain_parts, plain_shape}}
+use Rattle.textwrap_plain.specs.declared.columns.PlainColumn.{PlainColumn}
 use Rattle.textwrap_plain.specs.declared.options.PlainSplitter.{PlainSplitter}
 use Rattle.textwrap_plain.specs.declared.options.PlainSplitter.TheVariants.{BuiltIn, Dictionary}
-use Rattle.textwrap_plain.specs.Tables.{PlainMakes, plain_parts, plain_shape}
-use Rattle.textwrap_plain.specs.declared.columns.PlainColumn.{PlainColumn}
 use Rattle.textwrap_styles.proofs.SequenceTexts.{nil-whole, whole_text-append}
-use Rattle.textwrap_styles.specs.Styled.{IsWholeText}
-use Rattle.textwrap_text.proofs.Common.{filter, nat_tests, sum_by-cons}
-use Rattle.textwrap_text.specs.Units.{columns, escape, text_width, visible}
+use Rattle.textwrap_text.proofs.Common.{All-map, zip, sum_by, filter, nat_tests, sum_by-cons}
+use Rattle.textwrap_text.proofs.Common.{columns, escape, text_width}
+use Rattle.textwrap_words.proofs.Common.{hyphen, visible}
 use Rattle.textwrap_words.proofs.Word.Words.{text_width-nil, word_of-measured}
 
 -- ---- one character
@@ -142,8 +133,6 @@ module _ (settings : Settings) (spare : ℕ) (text : List ℕ) (can : CanKeepToW
         text_width-append indent (w.word ++ w.penalty) whole.0 whole.1,
         text_width-append w.word w.penalty word.0 word.1,
         ap (sum_by columns) plain,
-        marked.1,
-        fits,
       )
 
   abbrev Keeps : LineParts → Type 0

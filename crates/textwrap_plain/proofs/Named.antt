@@ -1,22 +1,17 @@
 -- What holds by the options that hold no function holds by what they name.
+use Rattle.textwrap.proofs.Common.{Settings, Bool, List, [], map, refl, ℕ, ◌∷◌, ◌≡◌}
+use Rattle.textwrap.proofs.Common.{Algorithm, WordText}
 use Rattle.textwrap_display.proofs.TableGroups.{MakeThose, table-map}
 use Rattle.textwrap_display.specs.Tables.{IsTableBy, RowGaps}
-use Rattle.textwrap_layout.proofs.Common.{Settings}
 use Rattle.textwrap_plain.specs.Options.{DividesFrom, words_by}
 use Rattle.textwrap_plain.specs.Tables.{IsPlainTable, PlainMakes, plain_parts, plain_shape}
 use Rattle.textwrap_plain.specs.declared.columns.PlainColumn.{PlainColumn}
 use Rattle.textwrap_plain.specs.declared.options.PlainSeparator.{PlainSeparator}
-use Rattle.textwrap_text.proofs.Common.{Bool, List, [], map, refl, subst, ℕ, ◌∷◌, ◌≡◌}
-use Rattle.textwrap_words.proofs.Common.{Algorithm, WordText}
 
 pub named : (P : Settings → (Settings → Bool → List ℕ → List (List WordText) → Type 0) → Type 0)
     {s t : Settings} {w v : PlainSeparator} {p q : List ℕ → List ℕ} {a b : Algorithm} → s ≡ t → w ≡ v
     → p ≡ q → a ≡ b → P s (DividesFrom (words_by w) p a) → P t (DividesFrom (words_by v) q b)
-named P {s} {t} {w} {v} {p} {q} {a} {b} settings words points algorithm is =
-    subst (λ r. P r (DividesFrom (words_by v) q b)) settings
-    (subst (λ u. P s (DividesFrom (words_by u) q b)) words
-    (subst (λ o. P s (DividesFrom (words_by w) o b)) points
-    (subst (λ e. P s (DividesFrom (words_by w) p e)) algorithm is)))
+named P settings words points algorithm is = rw (settings, words, points, algorithm) at is
 
 -- ---- what a table of columns without functions shows
 

@@ -1,20 +1,19 @@
 -- The lines of hyphenated pieces: the hyphens behind them, and those that pass their width.
-use Rattle.textwrap_base.proofs.Common.{AllFit, Fits, closed_width, line_width}
+use Rattle.textwrap.proofs.Common.{Settings, parts_from, parts_of, widths_of, All, All-cons}
+use Rattle.textwrap.proofs.Common.{All-head, All-nil, All-tail, Bool, List, [], ap, arith, cases_lt}
+use Rattle.textwrap.proofs.Common.{false, inl, inr, length, refl, rules, subst, suc, sym, take_all}
+use Rattle.textwrap.proofs.Common.{text_width, true, zero, ℕ, ⊎_elim, ◌++◌, ◌+◌, ◌<◌, ◌==◌, ◌∙◌}
+use Rattle.textwrap.proofs.Common.{◌∷◌, ◌≡◌, ◌≤◌, ◌⊎◌, all-right, flat, ByFirstFit, IsDividedBy}
+use Rattle.textwrap.proofs.Common.{WordText, sizes_of, text_width-nil}
 use Rattle.textwrap_base.proofs.Division.Map.{IsDivision-whole}
 use Rattle.textwrap_hyphens.proofs.SplitPieces.{HasHyphenAtMost}
-use Rattle.textwrap_layout.proofs.Common.{Settings, empty_word, front_pieces, last_piece}
-use Rattle.textwrap_layout.proofs.Common.{later_width, parts_from, parts_of, widths_of}
+use Rattle.textwrap_layout.proofs.Common.{AllFit, Fits, closed_width, line_width, empty_word}
+use Rattle.textwrap_layout.proofs.Common.{front_pieces, last_piece, later_width}
 use Rattle.textwrap_layout.proofs.Paragraph.Widths.{later_is}
+use Rattle.textwrap_lines.proofs.Common.{all-left}
 use Rattle.textwrap_plain.specs.Hyphenated.{AddsHyphenAtMost, KeepsButHyphen, OnlyHyphensPass}
-use Rattle.textwrap_text.proofs.Common.{All, All-cons, All-head, All-nil, All-tail, Bool, List, []}
-use Rattle.textwrap_text.proofs.Common.{ap, arith, cases_lt, cond_both, eqb-true, false, inl, inr}
-use Rattle.textwrap_text.proofs.Common.{length, nil_from_length, refl, rules, subst, suc, sym}
-use Rattle.textwrap_text.proofs.Common.{take_all, text_width, true, zero, ℕ, ⊎_elim, ◌++◌, ◌+◌, ◌<◌}
-use Rattle.textwrap_text.proofs.Common.{◌==◌, ◌∙◌, ◌∷◌, ◌≡◌, ◌≤◌, ◌⊎◌}
-use Rattle.textwrap_text.proofs.Lists.Parts.{all-left, all-right, flat}
-use Rattle.textwrap_words.proofs.Common.{ByFirstFit, IsDividedBy, WordText, column_characters}
-use Rattle.textwrap_words.proofs.{Common.sizes_of, Word.BrokenPieces.IsTight}
-use Rattle.textwrap_words.proofs.Word.Words.{text_width-nil}
+use Rattle.textwrap_text.proofs.Common.{cond_both, eqb-true, nil_from_length}
+use Rattle.textwrap_words.proofs.{Common.column_characters, Word.BrokenPieces.IsTight}
 
 -- ---- hyphens
 

@@ -1,30 +1,27 @@
 -- The pieces of a hyphenated paragraph.
-use Rattle.textwrap_base.{proofs.Common.total_width, specs.Errors.Fits64Bits}
+use Rattle.std.proofs.Common.{eqb, ltb, ◌*◌}
+use Rattle.textwrap_base.specs.Errors.{Fits64Bits}
 use Rattle.textwrap_hyphens.proofs.SplitPieces.{HasHyphenAtMost, held-cuts, split-carries}
-use Rattle.textwrap_hyphens.{proofs.SplitPieces.split-hyphens, specs.Table.held}
-use Rattle.textwrap_hyphens.specs.declared.table.PatternTable.{PatternTable}
-use Rattle.textwrap_layout.proofs.Common.{ArePieces, ArePoints, AreWordsCut, Settings, as_splitter}
-use Rattle.textwrap_layout.proofs.Common.{empty_word, fitting_pieces, front_pieces, later_width}
-use Rattle.textwrap_layout.proofs.{Common.room_of, Paragraph.Room.fitting-tight}
-use Rattle.textwrap_layout.proofs.Paragraph.Widths.{PiecesClose, close-room}
-use Rattle.textwrap_layout.proofs.Paragraph.Pieces.{AreWordsCut-texts, pieces-bounded, pieces-tile}
-use Rattle.textwrap_lines.proofs.Common.{IsPrintable, printable-width}
+use Rattle.textwrap_hyphens.proofs.SplitPieces.{split-hyphens}
+use Rattle.textwrap_hyphens.specs.{Table.held, declared.table.PatternTable.PatternTable}
+use Rattle.textwrap_layout.proofs.Common.{total_width, ArePieces, AreWordsCut, empty_word}
+use Rattle.textwrap_layout.proofs.Common.{fitting_pieces, front_pieces, room_of, broken_pieces}
+use Rattle.textwrap_layout.proofs.Paragraph.Pieces.{AreWordsCut-texts, pieces-bounded}
+use Rattle.textwrap_layout.proofs.Paragraph.{Room.fitting-tight, Widths.{PiecesClose, close-room}}
+use Rattle.textwrap_lines.proofs.Common.{ArePoints, Settings, as_splitter, later_width, pieces-tile}
+use Rattle.textwrap_lines.proofs.Common.{IsPrintable, printable-width, IsPrintableByte, All}
+use Rattle.textwrap_lines.proofs.Common.{All-append, All-cons, All-nil, All-weaker, Bool, IsUtf8}
+use Rattle.textwrap_lines.proofs.Common.{List, [], ap, arith, cond, false, inl, inr, length, refl}
+use Rattle.textwrap_lines.proofs.Common.{subst, sym, true, ℕ, ⊤, ◌++◌, ◌<◌, ◌^◌, ◌∷◌, ◌≡◌, ◌≤◌}
+use Rattle.textwrap_lines.proofs.Common.{WordText, broken_word, sizes_of, AreTexts}
 use Rattle.textwrap_lines.proofs.Text.Printed.{PrintsPenalty}
-use Rattle.textwrap_text.specs.Units.{IsPrintableByte}
-use Rattle.textwrap_words.specs.WordSplitters.{hyphen}
 use Rattle.textwrap_plain.{proofs.Widths.pieces-wide, specs.Hyphenated.ArePointsBy}
 use Rattle.textwrap_plain.specs.{Options.points_by, declared.options.PlainSplitter.PlainSplitter}
 use Rattle.textwrap_plain.specs.declared.options.PlainSplitter.TheVariants.{BuiltIn, Dictionary}
-use Rattle.textwrap_text.proofs.Common.{All, All-append, All-cons, All-nil, All-weaker, Bool, IsUtf8}
-use Rattle.textwrap_text.proofs.Common.{List, [], ap, arith, cond, eqb, false, inl, inr, length, ltb}
-use Rattle.textwrap_text.proofs.Common.{refl, subst}
-use Rattle.textwrap_text.proofs.Common.{sym, true, ℕ, ⊤, ◌*◌, ◌++◌, ◌<◌, ◌^◌, ◌∷◌, ◌≡◌, ◌≤◌}
-use Rattle.textwrap_words.proofs.Common.{WordText, broken_pieces, broken_texts, broken_word}
-use Rattle.textwrap_words.proofs.{Common.sizes_of, Word.BrokenPieces.IsTight}
-use Rattle.textwrap_words.proofs.Word.BrokenPieces.{pieces_with-all}
-use Rattle.textwrap_words.proofs.Word.Pieces.{ArePoints-cuts, ArePoints-hyphens, AreTexts}
-use Rattle.textwrap_words.proofs.Word.Pieces.{split-measured, split-tile}
-use Rattle.textwrap_words.proofs.Word.Words.{All-each, total_width-narrow}
+use Rattle.textwrap_words.proofs.Common.{hyphen, broken_texts}
+use Rattle.textwrap_words.proofs.Word.BrokenPieces.{IsTight, pieces_with-all}
+use Rattle.textwrap_words.proofs.Word.Pieces.{ArePoints-cuts, ArePoints-hyphens, split-measured}
+use Rattle.textwrap_words.proofs.Word.{Pieces.split-tile, Words.{All-each, total_width-narrow}}
 
 -- ---- the empty piece in front, and the pieces of a broken word
 
@@ -136,7 +133,6 @@ plain-fits (BuiltIn given) settings paragraph pieces utf8 short are =
     let splitter = as_splitter given in
     omega (
       arith,
-      short,
       ap length
           (pieces-tile settings AreWordsCut (ArePoints splitter) AreWordsCut-texts
           (ArePoints-cuts splitter) paragraph pieces utf8 are),
@@ -147,6 +143,5 @@ plain-fits (BuiltIn given) settings paragraph pieces utf8 short are =
 plain-fits (Dictionary table) settings paragraph pieces utf8 short are =
     omega (
       arith,
-      short,
       hyphenated-wide settings AreWordsCut AreWordsCut-texts table paragraph pieces utf8 are,
     )

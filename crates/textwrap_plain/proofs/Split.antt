@@ -1,8 +1,7 @@
 -- Words that are split where a function says: the pieces of a paragraph are those that are computed.
-use Rattle.textwrap_layout.proofs.Common.{ArePieces, Settings, broken_pieces_of}
+use Rattle.textwrap.proofs.Common.{Settings, List, [], arith, refl, rules, ℕ, ◌∷◌, ◌≡◌, WordText}
+use Rattle.textwrap_layout.proofs.Common.{ArePieces, broken_pieces_of, AreSplit}
 use Rattle.textwrap_plain.specs.Options.{split_by_points}
-use Rattle.textwrap_text.proofs.Common.{List, [], arith, refl, rules, ℕ, ◌∷◌, ◌≡◌}
-use Rattle.textwrap_words.proofs.Common.{AreSplit, WordText}
 
 abbrev pub AreAt : (List ℕ → List ℕ) → List ℕ → List ℕ → Type 0
 AreAt points word ps = ps ≡ points word

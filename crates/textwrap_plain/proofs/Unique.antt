@@ -1,15 +1,13 @@
 -- A text has one list of lines, where functions name the words of a line and the points of a word.
-use Rattle.textwrap_base.proofs.{Cost.Results.chosen_one, Division.Greedy.greedy_unique}
-use Rattle.textwrap_hyphens.specs.{Hyphenation.Hyphenation, Splitting.split_points}
-use Rattle.textwrap_layout.proofs.Common.{Settings, first_width, later_width}
-use Rattle.textwrap_layout.specs.Paragraph.{IsDividedInto, widths_of}
-use Rattle.textwrap_lines.proofs.PlacedPieces.{two-equal}
+use Rattle.textwrap.proofs.Common.{greedy_unique, words_unique}
+use Rattle.textwrap_base.proofs.Cost.Results.{chosen_one}
+use Rattle.textwrap_hyphens.specs.Hyphenation.{Hyphenation}
+use Rattle.textwrap_lines.proofs.Common.{Settings, first_width, later_width, IsDividedInto}
+use Rattle.textwrap_lines.proofs.Common.{widths_of, Bool, List, arith, sym, ℕ, ◌∙◌, ◌≡◌, Algorithm}
+use Rattle.textwrap_lines.proofs.Common.{AreWordsOf, ByFirstFit, ByOptimalFit, IsDividedBy}
+use Rattle.textwrap_lines.proofs.{Common.{WordText, sizes_of, words_of}, PlacedPieces.two-equal}
 use Rattle.textwrap_plain.proofs.Split.{AreAt, pieces-from}
-use Rattle.textwrap_plain.specs.{Hyphenated.DividesAtPoints, Options.DividesFrom}
-use Rattle.textwrap_text.proofs.Common.{Bool, List, arith, sym, ℕ, ◌∙◌, ◌≡◌}
-use Rattle.textwrap_words.proofs.Common.{Algorithm, AreWordsOf, ByFirstFit, ByOptimalFit}
-use Rattle.textwrap_words.proofs.Common.{IsDividedBy, WordText, sizes_of, words_of}
-use Rattle.textwrap_words.proofs.Word.Words.{words_unique}
+use Rattle.textwrap_plain.specs.{Hyphenated.{split_points, DividesAtPoints}, Options.DividesFrom}
 
 division_one-by : (Words : List ℕ → List WordText → Type 0) (words : List ℕ → List WordText)
     → ((line : List ℕ) (ws : List WordText) → Words line ws → ws ≡ words line)

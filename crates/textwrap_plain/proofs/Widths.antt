@@ -1,17 +1,16 @@
 -- The widths of the pieces of a paragraph are together at most twice its bytes: each hyphen has a
 -- byte of its own before it.
-use Rattle.textwrap_base.proofs.{Common.total_width, Cost.LineCosts.total_width-cons}
+use Rattle.textwrap_base.proofs.Cost.LineCosts.{total_width-cons}
 use Rattle.textwrap_hyphens.proofs.SplitPieces.{CarriesHyphen}
-use Rattle.textwrap_layout.proofs.Common.{Settings, broken_pieces_of, empty_word, front_pieces}
-use Rattle.textwrap_layout.proofs.Common.{fitting_pieces, room_of}
-use Rattle.textwrap_text.proofs.Common.{All, All-head, All-tail, Bool, IsUtf8, List, [], ap}
-use Rattle.textwrap_text.proofs.Common.{append-nil, arith, cond, eqb, false, flat_map, length}
-use Rattle.textwrap_text.proofs.Common.{length-append, ltb, sum_by-append, true, ℕ, ◌*◌, ◌++◌, ◌+◌}
-use Rattle.textwrap_text.proofs.{Common.◌∷◌, Common.◌≡◌, Common.◌≤◌, Units.Reading.text_width-le}
-use Rattle.textwrap_words.proofs.Common.{WordText, broken_pieces, broken_texts, broken_word}
-use Rattle.textwrap_words.proofs.Common.{piece, pieces_with, sizes_of, tile_of, tiled}
+use Rattle.textwrap_layout.proofs.Common.{total_width, broken_pieces_of, empty_word, front_pieces}
+use Rattle.textwrap_layout.proofs.Common.{fitting_pieces, room_of, broken_pieces, pieces_with}
+use Rattle.textwrap_lines.proofs.Common.{Settings, All, All-head, All-tail, Bool, IsUtf8, List, []}
+use Rattle.textwrap_lines.proofs.Common.{ap, append-nil, arith, cond, false, flat_map, length}
+use Rattle.textwrap_lines.proofs.Common.{length-append, true, ℕ, ◌++◌, ◌+◌, ◌∷◌, ◌≡◌, ◌≤◌, WordText}
+use Rattle.textwrap_lines.proofs.Common.{broken_word, piece, sizes_of, tile_of, tiled, IsMeasured}
+use Rattle.textwrap_text.proofs.{Common.{eqb, ltb, sum_by-append, ◌*◌}, Units.Reading.text_width-le}
+use Rattle.textwrap_words.proofs.Common.{broken_texts}
 use Rattle.textwrap_words.proofs.Word.BrokenPieces.{broken_texts-tile, broken_texts-utf8}
-use Rattle.textwrap_words.proofs.Word.Words.{IsMeasured}
 
 total_width-append : (ws vs : List WordText)
     → total_width sizes_of (ws ++ vs) ≡ total_width sizes_of ws + total_width sizes_of vs
@@ -48,7 +47,6 @@ broken_word-wide limit w measured carries =
       | true ↦
           omega (
             arith,
-            carries,
             pieces_with-wide w.whitespace w.penalty (broken_texts limit w.word)
                 (broken_texts-utf8 limit w.word measured.utf8),
             ap length (broken_texts-tile limit w.word measured.utf8),
@@ -57,8 +55,6 @@ broken_word-wide limit w measured carries =
       | false ↦
           omega (
             arith,
-            carries,
-            measured.width,
             text_width-le w.word measured.utf8,
             total_width-cons sizes_of w [],
             length-append w.word w.whitespace,
@@ -89,7 +85,6 @@ words-wide (w ∷ words) measured carries =
     omega (
       arith,
       All-head CarriesHyphen w words carries,
-      here.width,
       text_width-le w.word here.utf8,
       total_width-cons sizes_of w words,
       length-append w.word w.whitespace,

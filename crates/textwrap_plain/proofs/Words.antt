@@ -1,33 +1,28 @@
 -- The words of a line by options without functions, and what lines of them keep to.
+use Rattle.textwrap.proofs.Common.{⊎_elim, text_width-nil}
 use Rattle.textwrap_base.proofs.Division.Map.{IsDividedBy-some, IsDividedBy-whole}
+use Rattle.textwrap_hyphens.proofs.SplitPieces.{HasHyphenAtMost}
 use Rattle.textwrap_hyphens.specs.declared.table.PatternTable.{PatternTable}
-use Rattle.textwrap_layout.proofs.Common.{ArePrintedWithin, AreTextLines, CanKeepToWidth, IsWrapped}
-use Rattle.textwrap_layout.proofs.Common.{Line, LinesKeepToWidth, Settings}
-use Rattle.textwrap_layout.proofs.Common.{ArePieces, later_width}
+use Rattle.textwrap_layout.proofs.Common.{IsWrapped, LinesKeepToWidth, ArePieces}
 use Rattle.textwrap_layout.proofs.Paragraph.Pieces.{AreWordsCut-texts, pieces-no_penalty}
 use Rattle.textwrap_layout.proofs.Paragraph.Widths.{PiecesClose, close-plain}
-use Rattle.textwrap_hyphens.proofs.SplitPieces.{HasHyphenAtMost}
+use Rattle.textwrap_lines.proofs.Common.{ArePrintedWithin, AreTextLines, CanKeepToWidth, Line}
+use Rattle.textwrap_lines.proofs.Common.{Settings, later_width, All, All-weaker, Bool, IsUtf8, List}
+use Rattle.textwrap_lines.proofs.Common.{None, Some, [], arith, append-nil, false, ◌<◌, ◌∷◌, refl}
+use Rattle.textwrap_lines.proofs.Common.{rules, subst, sym, take, true, ℕ, ◌≡◌, ◌≢◌, flat}
+use Rattle.textwrap_lines.proofs.Common.{Algorithm, ByFirstFit, IsDividedBy, WordText, as_splitter}
+use Rattle.textwrap_lines.proofs.Common.{ends_in_hyphen, sizes_of, AreTexts, HasNoPenalty}
 use Rattle.textwrap_lines.proofs.Text.Printed.{ArePrintedWithin-by, PrintsPenalty}
 use Rattle.textwrap_lines.proofs.Text.Promises.{IsWrapped-by, LinesKeepToWidth-by}
 use Rattle.textwrap_plain.proofs.Pieces.{hyphen-prints, hyphenated-close, hyphenated-hyphens}
 use Rattle.textwrap_plain.proofs.Wrapping.{AddOnlyHyphens-by, LinesKeepButHyphens-by, hyphens-alone}
-use Rattle.textwrap_plain.specs.CutSides.{points_by-cuts, words_by-cut}
-use Rattle.textwrap_plain.specs.Hyphenated.{AddOnlyHyphens, AddsHyphenAtMost, AreTheText}
-use Rattle.textwrap_plain.specs.Hyphenated.{LinesKeepButHyphens}
+use Rattle.textwrap_plain.specs.{CutSides.{points_by-cuts, words_by-cut}, Hyphenated.AddOnlyHyphens}
+use Rattle.textwrap_plain.specs.Hyphenated.{AddsHyphenAtMost, AreTheText, LinesKeepButHyphens}
 use Rattle.textwrap_plain.specs.Options.{DividesFrom, is_dictionary, points_by, port_splitter}
-use Rattle.textwrap_plain.specs.Options.{words_by}
-use Rattle.textwrap_plain.specs.declared.options.PlainSeparator.{PlainSeparator}
+use Rattle.textwrap_plain.specs.{Options.words_by, declared.options.PlainSeparator.PlainSeparator}
 use Rattle.textwrap_plain.specs.declared.options.PlainSplitter.{PlainSplitter}
 use Rattle.textwrap_plain.specs.declared.options.PlainSplitter.TheVariants.{BuiltIn, Dictionary}
-use Rattle.textwrap_text.proofs.Common.{All, All-weaker, Bool, IsUtf8, List, None, Some, [], arith}
-use Rattle.textwrap_text.proofs.Common.{append-nil, false, ⊎_elim, ◌<◌, ◌∷◌}
-use Rattle.textwrap_words.specs.WordSplitters.{hyphen}
-use Rattle.textwrap_text.proofs.Common.{refl, rules, subst, sym, take, true, ℕ, ◌≡◌, ◌≢◌}
-use Rattle.textwrap_text.proofs.Lists.Parts.{Begins, flat}
-use Rattle.textwrap_words.proofs.Common.{Algorithm, ByFirstFit, IsDividedBy, WordText, as_splitter}
-use Rattle.textwrap_words.proofs.Common.{ends_in_hyphen, sizes_of}
-use Rattle.textwrap_words.proofs.Word.Pieces.{ArePoints-hyphens, AreTexts}
-use Rattle.textwrap_words.proofs.Word.Words.{HasNoPenalty, text_width-nil}
+use Rattle.textwrap_words.proofs.{Common.{hyphen, Begins}, Word.Pieces.ArePoints-hyphens}
 
 -- the words of a line are texts of it
 pub words_by-texts : (separator : PlainSeparator) (line : List ℕ) → IsUtf8 line

@@ -1,43 +1,39 @@
 -- What a hyphenated text promises.
-use Rattle.std.specs.Prelude.{MatchBool}
-use Rattle.textwrap_base.proofs.Common.{closed_width}
+use Rattle.textwrap.proofs.Common.{text_width-nil}
 use Rattle.textwrap_hyphens.proofs.SplitPieces.{HasHyphenAtMost, held-cuts}
-use Rattle.textwrap_hyphens.specs.{Hyphenation.Hyphenation, Splitting.split_points, Table.held}
+use Rattle.textwrap_hyphens.specs.{Hyphenation.Hyphenation, Table.held}
 use Rattle.textwrap_hyphens.specs.declared.table.PatternTable.{PatternTable}
-use Rattle.textwrap_layout.proofs.Common.{AreParagraphParts, AreTextLines, IsDividedInto, IsWrapped}
-use Rattle.textwrap_layout.proofs.Common.{Line, LineParts, Settings, front_pieces, is_whole}
-use Rattle.textwrap_layout.proofs.Common.{ArePrintedWithin, CanKeepToWidth, LinesKeepToWidth}
-use Rattle.textwrap_layout.proofs.Common.{fitting_pieces, later_width, widths_of}
+use Rattle.textwrap_layout.proofs.Common.{IsWrapped, front_pieces, LinesKeepToWidth, fitting_pieces}
+use Rattle.textwrap_layout.proofs.{Common.words_unique, Paragraph.Pieces.division-as}
 use Rattle.textwrap_layout.proofs.Paragraph.Widths.{PiecesClose}
-use Rattle.textwrap_layout.proofs.Paragraph.{LeftOff.laid_out-cases, Pieces.division-as}
 use Rattle.textwrap_layout.specs.declared.options.Options.{Options}
-use Rattle.textwrap_lines.proofs.Common.{paragraphs_of, paragraphs_of-utf8}
+use Rattle.textwrap_lines.proofs.Common.{MatchBool, closed_width, AreParagraphParts, AreTextLines}
+use Rattle.textwrap_lines.proofs.Common.{IsDividedInto, Line, LineParts, Settings, is_whole}
+use Rattle.textwrap_lines.proofs.Common.{ArePrintedWithin, CanKeepToWidth, later_width, widths_of}
+use Rattle.textwrap_lines.proofs.Common.{laid_out-cases, paragraphs_of, paragraphs_of-utf8, All}
+use Rattle.textwrap_lines.proofs.Common.{All-cons, All-nil, All-weaker, Bool, IsUtf8, List, [], ap}
+use Rattle.textwrap_lines.proofs.Common.{◌<◌, cond, false, inl, map, refl, subst, sym, true, ℕ, ◌++◌}
+use Rattle.textwrap_lines.proofs.Common.{◌↔◌, ◌∙◌, ◌∷◌, ◌≡◌, ◌≢◌, ◌≤◌, all-left, flat, Algorithm}
+use Rattle.textwrap_lines.proofs.Common.{ByFirstFit, IsDividedBy, MayDivide, MaySeparate, WordText}
+use Rattle.textwrap_lines.proofs.Common.{algorithm_view, sizes_of, word_of, words_of, AreTexts}
 use Rattle.textwrap_lines.proofs.Paragraph.KeepsTo.{parts_from-pieces, whole_line-within}
-use Rattle.textwrap_lines.proofs.Text.{Groups.groups-all, Groups.groups-map, Promises.IsWrapped-by}
+use Rattle.textwrap_lines.proofs.Text.Groups.{groups-all, groups-map}
 use Rattle.textwrap_lines.proofs.Text.Printed.{ArePrintedWithin-by, PrintsPenalty}
-use Rattle.textwrap_lines.proofs.Text.Promises.{LinesKeepToWidth-by}
-use Rattle.textwrap_plain.proofs.Passing.{greedy_passes, parts_from-hyphens}
-use Rattle.textwrap_plain.proofs.Pieces.{hyphen-prints, hyphenated-close, hyphenated-hyphens}
-use Rattle.textwrap_plain.proofs.Pieces.{hyphenated-tight}
-use Rattle.textwrap_plain.specs.Hyphenated.{AddOnlyHyphens, AddsHyphenAtMost, ArePointsBy}
-use Rattle.textwrap_plain.specs.Hyphenated.{AreTheText, DividesAtPoints}
+use Rattle.textwrap_lines.proofs.Text.Promises.{IsWrapped-by, LinesKeepToWidth-by}
+use Rattle.textwrap_plain.proofs.{Passing.{greedy_passes, parts_from-hyphens}, Pieces.hyphen-prints}
+use Rattle.textwrap_plain.proofs.Pieces.{hyphenated-close, hyphenated-hyphens, hyphenated-tight}
+use Rattle.textwrap_plain.specs.Hyphenated.{split_points, AddOnlyHyphens, AddsHyphenAtMost}
+use Rattle.textwrap_plain.specs.Hyphenated.{ArePointsBy, AreTheText, DividesAtPoints}
 use Rattle.textwrap_plain.specs.Hyphenated.{DividesHyphenatedUnder, HasPartsBeside, KeepButHyphens}
 use Rattle.textwrap_plain.specs.Hyphenated.{LinesKeepButHyphens, OnlyHyphensPass}
 use Rattle.textwrap_plain.specs.Options.{DividesFrom, DividesPlainly, plain_algorithm}
 use Rattle.textwrap_plain.specs.declared.options.PlainOptions.{PlainOptions}
 use Rattle.textwrap_plain.specs.declared.options.PlainSeparator.TheVariants.{AtBlanks}
 use Rattle.textwrap_plain.specs.declared.options.PlainSplitter.TheVariants.{Dictionary}
-use Rattle.textwrap_text.proofs.Common.{All, All-cons, All-nil, All-weaker, Bool, IsUtf8, List, None}
-use Rattle.textwrap_text.proofs.Common.{Some, [], ap, ⊎_elim, ◌<◌}
-use Rattle.textwrap_text.proofs.Common.{cond, false, inl, map, refl, subst, sym, true, ℕ, ◌++◌, ◌↔◌}
-use Rattle.textwrap_text.proofs.Common.{◌∙◌, ◌∷◌, ◌≡◌, ◌≢◌, ◌≤◌}
-use Rattle.textwrap_text.proofs.Lists.Parts.{Begins, all-left, flat}
-use Rattle.textwrap_words.proofs.Common.{Algorithm, ByFirstFit, IsDividedBy, MayDivide, MaySeparate}
-use Rattle.textwrap_words.proofs.Common.{WordText, algorithm_view, sizes_of, word_of}
-use Rattle.textwrap_words.proofs.{Common.words_of, Word.Divisions.MayDivide-begins}
+use Rattle.textwrap_text.proofs.Common.{None, Some, ⊎_elim}
+use Rattle.textwrap_words.proofs.{Common.Begins, Word.Divisions.MayDivide-begins}
 use Rattle.textwrap_words.proofs.Word.Divisions.{MayDivide-greedy, MayDivide-some, MayDivide-whole}
-use Rattle.textwrap_words.proofs.Word.{Parts.MaySeparate-texts, Pieces.AreTexts, Words.words_unique}
-use Rattle.textwrap_words.proofs.Word.Words.{text_width-nil}
+use Rattle.textwrap_words.proofs.Word.Parts.{MaySeparate-texts}
 use Rattle.textwrap_words.specs.declared.wrap_algorithms.WrapAlgorithm.TheVariants.{FirstFit}
 
 -- ---- what the lines keep to

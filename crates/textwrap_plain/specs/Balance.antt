@@ -1,15 +1,11 @@
 -- The least width at which first fit takes no more lines of a text.
-use Rattle.std.specs.Prelude.{◌≡◌, ℕ, ◌+◌, ◌≤◌, ◌⊎◌, max, List, [], ◌∷◌, All, length}
 use Rattle.std.specs.List.{flat_map}
+use Rattle.std.specs.Prelude.{◌≡◌, ℕ, ◌+◌, ◌≤◌, ◌⊎◌, max, List, [], ◌∷◌, All, length}
 use Rattle.textwrap_base.specs.Division.{closed_width}
-use Rattle.textwrap_text.specs.LineEnding.{paragraphs_of}
-use Rattle.textwrap_text.specs.Units.{text_width}
-use Rattle.textwrap_words.specs.Words.{WordText, sizes_of}
-use Rattle.textwrap_words.specs.WrapAlgorithms.{ByFirstFit}
-use Rattle.textwrap_layout.specs.Options.{Settings}
-use Rattle.textwrap_layout.specs.Paragraph.{Line}
-use Rattle.textwrap_layout.specs.Text.{AreTextLines}
+use Rattle.textwrap_layout.specs.{Options.Settings, Paragraph.Line, Text.AreTextLines}
 use Rattle.textwrap_plain.specs.Options.{DividesFrom, split_by_points}
+use Rattle.textwrap_text.specs.{LineEnding.paragraphs_of, Units.text_width}
+use Rattle.textwrap_words.specs.{Words.WordText, Words.sizes_of, WrapAlgorithms.ByFirstFit}
 
 abbrev pub at_width : Settings → ℕ → Settings
 at_width settings width = record settings { width = width }

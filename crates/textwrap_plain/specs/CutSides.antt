@@ -1,26 +1,21 @@
 -- Where texts are cut into words by options without functions, what stands on either side of a cut of a
 -- printable one, and where words are split: the laws of such cuts.
-use Rattle.std.specs.Prelude.{ℕ, ◌-◌, List, None, Some, slice_index}
-use Rattle.textwrap_text.proofs.Common.{false≢true, ap, IsPrintable, IsUtf8, is_blank, refl, stripped}
-use Rattle.std.specs.Prelude.{◌≡◌}
 use Rattle.std.proofs.lemmas.Bool.{and_parts, eqb-true, not-true}
 use Rattle.std.specs.Char.{is_ascii_alphanumeric}
-use Rattle.textwrap_layout.specs.Direct.{AreWordsCut}
-use Rattle.textwrap_layout.specs.Printable.{AfterOthers, BeforeOthers}
-use Rattle.textwrap_unicode.proofs.PrintableCuts.{cut-after_other, cut-before_other}
-use Rattle.textwrap_unicode.specs.Breaks.{breaks_by}
-use Rattle.textwrap_unicode.specs.Cuts.{cuts_by, offsets_of}
-use Rattle.textwrap_unicode.specs.declared.numbers.Numbers.TheVariants.{ByExpression, ByPairs}
+use Rattle.std.specs.Prelude.{ℕ, ◌-◌, List, None, Some, slice_index, ◌≡◌}
 use Rattle.textwrap_hyphens.proofs.SplitPieces.{held-cuts}
-use Rattle.textwrap_words.proofs.Word.Offsets.{cuts_at-AreInnerCuts}
-use Rattle.textwrap_words.proofs.Word.Pieces.{ArePoints-cuts}
-use Rattle.textwrap_words.specs.Cuts.{AreCuts}
-use Rattle.textwrap_words.specs.Pieces.{as_splitter}
+use Rattle.textwrap_layout.specs.{Direct.AreWordsCut, Printable.AfterOthers, Printable.BeforeOthers}
 use Rattle.textwrap_plain.specs.Options.{is_cut_plainly, points_by, words_by}
 use Rattle.textwrap_plain.specs.declared.options.PlainSeparator.{PlainSeparator}
 use Rattle.textwrap_plain.specs.declared.options.PlainSeparator.TheVariants.{AtBlanks, AtBreaks}
 use Rattle.textwrap_plain.specs.declared.options.PlainSplitter.{PlainSplitter}
 use Rattle.textwrap_plain.specs.declared.options.PlainSplitter.TheVariants.{BuiltIn, Dictionary}
+use Rattle.textwrap_text.proofs.Common.{false≢true, ap, IsPrintable, IsUtf8, is_blank, refl, stripped}
+use Rattle.textwrap_unicode.proofs.PrintableCuts.{cut-after_other, cut-before_other}
+use Rattle.textwrap_unicode.specs.{Breaks.breaks_by, Cuts.cuts_by, Cuts.offsets_of}
+use Rattle.textwrap_unicode.specs.declared.numbers.Numbers.TheVariants.{ByExpression, ByPairs}
+use Rattle.textwrap_words.proofs.Word.{Offsets.cuts_at-AreInnerCuts, Pieces.ArePoints-cuts}
+use Rattle.textwrap_words.specs.{Cuts.AreCuts, Pieces.as_splitter}
 
 pub cuts-before_others : (separator : PlainSeparator) (text : List ℕ) → IsPrintable text
     → BeforeOthers (is_cut_plainly separator text) text

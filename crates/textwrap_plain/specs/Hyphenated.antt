@@ -1,23 +1,20 @@
 -- The lines of a text whose words are split where a dictionary has hyphens, and behind hyphens of
 -- their own.
-use Rattle.std.specs.Prelude.{◌≡◌, ℕ, ◌+◌, ◌<◌, ◌≤◌, ◌⊎◌, ⊤, All, Bool, false, List, []}
-use Rattle.std.specs.Prelude.{◌∷◌, MatchBool, Some, length, map}
+pub use Rattle.textwrap_hyphens.specs.Splitting.{ArePointsBy, is_split_point, split_points}
 use Rattle.std.specs.List.{flat_map}
+use Rattle.std.specs.Prelude.{◌≡◌, ℕ, ◌+◌, ◌<◌, ◌≤◌, ◌⊎◌, ⊤, All, Bool, false, List, [], ◌∷◌}
+use Rattle.std.specs.Prelude.{MatchBool, Some, length, map}
 use Rattle.textwrap_base.specs.Division.{closed_width, line_width}
-use Rattle.textwrap_text.specs.LineEnding.{paragraphs_of}
-use Rattle.textwrap_text.specs.Units.{column_characters}
-use Rattle.textwrap_words.specs.WordSplitters.{hyphen}
-use Rattle.textwrap_words.specs.WordSeparators.{MaySeparate}
-use Rattle.textwrap_words.specs.WrapAlgorithms.{Algorithm, IsDividedBy, MayDivide, algorithm_view}
-use Rattle.textwrap_words.specs.Words.{AreWordsOf, WordText, sizes_of}
-use Rattle.textwrap_words.specs.declared.word_separators.WordSeparator.TheVariants.{AsciiSpace}
-use Rattle.textwrap_layout.specs.Options.{Settings}
-use Rattle.textwrap_layout.specs.Paragraph.{IsDividedInto, Line, LineParts, is_whole, line_from}
-use Rattle.textwrap_layout.specs.Paragraph.{widths_of}
+use Rattle.textwrap_hyphens.specs.Hyphenation.{Hyphenation}
+use Rattle.textwrap_layout.specs.{Options.Settings, Paragraph.IsDividedInto}
+use Rattle.textwrap_layout.specs.Paragraph.{Line, LineParts, is_whole, line_from, widths_of}
 use Rattle.textwrap_layout.specs.Text.{AreGroups, AreTextLines, LeavesOffBlanks, covered_by}
 use Rattle.textwrap_layout.specs.declared.options.Options.{Options}
-use Rattle.textwrap_hyphens.specs.Hyphenation.{Hyphenation}
-pub use Rattle.textwrap_hyphens.specs.Splitting.{ArePointsBy, is_split_point, split_points}
+use Rattle.textwrap_text.specs.{LineEnding.paragraphs_of, Units.column_characters}
+use Rattle.textwrap_words.specs.{WordSeparators.MaySeparate, WordSplitters.hyphen}
+use Rattle.textwrap_words.specs.Words.{AreWordsOf, WordText, sizes_of}
+use Rattle.textwrap_words.specs.WrapAlgorithms.{Algorithm, IsDividedBy, MayDivide, algorithm_view}
+use Rattle.textwrap_words.specs.declared.word_separators.WordSeparator.TheVariants.{AsciiSpace}
 
 -- a paragraph may be divided so by the separator and the algorithm of the options, under these
 -- settings, with its words split at points by the dictionary

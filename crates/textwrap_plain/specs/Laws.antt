@@ -1,26 +1,17 @@
 -- What the laws say.
+use Rattle.std.specs.List.{zip}
 use Rattle.std.specs.Prelude.{◌≡◌, ◌≢◌, ◌↔◌, ℕ, ◌+◌, ◌<◌, ◌≤◌, All, Bool, IsUtf8, List, None, chars, map}
 use Rattle.std.specs.Prelude.{if◌then◌else◌, true}
-use Rattle.std.specs.List.{zip}
-use Rattle.textwrap.specs.Filling.{IsFilled}
-use Rattle.textwrap.specs.Laws.{IsUnique}
-use Rattle.textwrap.specs.Options.{Settings}
-use Rattle.textwrap.specs.Paragraph.{Line}
-use Rattle.textwrap.specs.Text.{ArePrintedWithin, AreTextLines, CanKeepToWidth, HasNoEscape}
-use Rattle.textwrap.specs.Text.{IsWrapped, LinesKeepToWidth}
-use Rattle.textwrap_layout.specs.Paragraph.{later_width}
-use Rattle.textwrap.specs.Units.{columns, text_width}
-use Rattle.textwrap.specs.Words.{WordText}
+use Rattle.textwrap.specs.{Filling.IsFilled, Laws.IsUnique, Options.Settings, Paragraph.Line}
+use Rattle.textwrap.specs.Text.{ArePrintedWithin, AreTextLines, CanKeepToWidth, HasNoEscape, IsWrapped}
+use Rattle.textwrap.specs.{Text.LinesKeepToWidth, Units.columns, Units.text_width, Words.WordText}
 use Rattle.textwrap.specs.WrapAlgorithms.{Algorithm, ByFirstFit, algorithm_view}
-use Rattle.textwrap_display.specs.Laws.{KeepToColumns}
-use Rattle.textwrap_display.specs.Tables.{AreCells}
-use Rattle.textwrap_hyphens.specs.Hyphenation.{Hyphenation}
-use Rattle.textwrap_hyphens.specs.Table.{held}
+use Rattle.textwrap_display.specs.{Laws.KeepToColumns, Tables.AreCells}
+use Rattle.textwrap_hyphens.specs.{Hyphenation.Hyphenation, Table.held}
 use Rattle.textwrap_hyphens.specs.declared.table.PatternTable.{PatternTable}
-use Rattle.textwrap_layout.specs.declared.options.Options.{Options}
-use Rattle.textwrap_plain.specs.Hyphenated.{AddOnlyHyphens, DividesAtPoints}
-use Rattle.textwrap_plain.specs.Hyphenated.{AreTheText, DividesHyphenatedUnder, HasPartsBeside}
-use Rattle.textwrap_plain.specs.Hyphenated.{LinesKeepButHyphens}
+use Rattle.textwrap_layout.specs.{Paragraph.later_width, declared.options.Options.Options}
+use Rattle.textwrap_plain.specs.Hyphenated.{AddOnlyHyphens, DividesAtPoints, AreTheText}
+use Rattle.textwrap_plain.specs.Hyphenated.{DividesHyphenatedUnder, HasPartsBeside, LinesKeepButHyphens}
 use Rattle.textwrap_plain.specs.Options.{is_dictionary, DividesPlainly, plain_algorithm, plain_settings}
 use Rattle.textwrap_plain.specs.Tables.{PlainMakes, plain_parts, plain_shape}
 use Rattle.textwrap_plain.specs.declared.columns.PlainColumn.{PlainColumn}

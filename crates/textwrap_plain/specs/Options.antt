@@ -1,31 +1,25 @@
 -- What options without functions say, and the lines that they name.
+use Rattle.std.specs.List.{flat_map}
 use Rattle.std.specs.Prelude.{◌≡◌, ◌≢◌, ℕ, ◌-◌, ◌<◌, Bool, false, true, List, None, Option, Some, map}
 use Rattle.std.specs.Prelude.{slice_index}
-use Rattle.std.specs.List.{flat_map}
-use Rattle.textwrap.specs.Cuts.{parts_between}
-use Rattle.textwrap_text.specs.Units.{text_width}
-use Rattle.textwrap.specs.Options.{default_algorithm, Settings, settings_at}
-use Rattle.textwrap_layout.specs.Options.{layout_view}
-use Rattle.textwrap.specs.WordSplitters.{Splitter, AtHyphens}
-use Rattle.textwrap_words.specs.WordSplitters.{points_of, split_pieces}
+use Rattle.textwrap.specs.{Cuts.parts_between, Options.default_algorithm, Options.Settings}
+use Rattle.textwrap.specs.{Options.settings_at, WordSplitters.Splitter, WordSplitters.AtHyphens}
 use Rattle.textwrap.specs.Words.{WordText, is_cut, word_of, words_of}
 use Rattle.textwrap.specs.WrapAlgorithms.{Algorithm, ByFirstFit}
-use Rattle.textwrap_layout.specs.Direct.{as_algorithm}
-use Rattle.textwrap_hyphens.specs.Splitting.{split_points}
-use Rattle.textwrap_hyphens.specs.Table.{held}
-use Rattle.textwrap_layout.specs.Paragraph.{IsDividedInto}
+use Rattle.textwrap_hyphens.specs.{Splitting.split_points, Table.held}
+use Rattle.textwrap_layout.specs.{Direct.as_algorithm, Options.layout_view, Paragraph.IsDividedInto}
 use Rattle.textwrap_layout.specs.declared.layout.Layout.{Layout}
-use Rattle.textwrap_words.specs.Pieces.{as_splitter}
-use Rattle.textwrap_words.specs.WrapAlgorithms.{IsDividedBy}
-use Rattle.textwrap_words.specs.Words.{sizes_of}
-use Rattle.textwrap_unicode.specs.Cuts.{cuts_by}
-use Rattle.textwrap_unicode.specs.Pairs.{at_breaks}
-use Rattle.textwrap_unicode.specs.declared.numbers.Numbers.TheVariants.{ByExpression, ByPairs}
 use Rattle.textwrap_plain.specs.declared.options.PlainOptions.{PlainOptions}
 use Rattle.textwrap_plain.specs.declared.options.PlainSeparator.{PlainSeparator}
 use Rattle.textwrap_plain.specs.declared.options.PlainSeparator.TheVariants.{AtBlanks, AtBreaks}
 use Rattle.textwrap_plain.specs.declared.options.PlainSplitter.{PlainSplitter}
 use Rattle.textwrap_plain.specs.declared.options.PlainSplitter.TheVariants.{BuiltIn, Dictionary}
+use Rattle.textwrap_text.specs.Units.{text_width}
+use Rattle.textwrap_unicode.specs.{Cuts.cuts_by, Pairs.at_breaks}
+use Rattle.textwrap_unicode.specs.declared.numbers.Numbers.TheVariants.{ByExpression, ByPairs}
+use Rattle.textwrap_words.specs.Pieces.{as_splitter}
+use Rattle.textwrap_words.specs.WordSplitters.{points_of, split_pieces}
+use Rattle.textwrap_words.specs.{Words.sizes_of, WrapAlgorithms.IsDividedBy}
 
 -- the words of a line: between blanks, or between the places where Unicode lets it end
 abbrev pub words_by : PlainSeparator → List ℕ → List WordText

@@ -1,15 +1,11 @@
 -- Texts in the columns of a table, by options without functions.
 use Rattle.std.specs.Prelude.{ℕ, List}
-use Rattle.textwrap.specs.Options.{Settings}
-use Rattle.textwrap.specs.Paragraph.{Line}
-use Rattle.textwrap.specs.Text.{AreTextLines}
-use Rattle.textwrap.specs.Words.{WordText}
+use Rattle.textwrap.specs.{Options.Settings, Paragraph.Line, Text.AreTextLines, Words.WordText}
 use Rattle.textwrap.specs.WrapAlgorithms.{Algorithm}
 use Rattle.textwrap_display.specs.Tables.{IsTableBy, RowGaps, Shape}
 use Rattle.textwrap_display.specs.declared.alignment.Alignment.{Alignment}
 use Rattle.textwrap_plain.specs.Options.{DividesFrom, plain_algorithm, plain_settings, points_by}
-use Rattle.textwrap_plain.specs.Options.{words_by}
-use Rattle.textwrap_plain.specs.declared.columns.PlainColumn.{PlainColumn}
+use Rattle.textwrap_plain.specs.{Options.words_by, declared.columns.PlainColumn.PlainColumn}
 
 -- how a column wraps its texts, and where their lines stand in it
 pub record PlainColumnParts : Type 0 where

@@ -1,7 +1,6 @@
 -- The widest of some words.
 use Rattle.std.specs.Prelude.{ℕ, ◌+◌, max, length, List, [], ◌∷◌}
-use Rattle.textwrap_words.specs.Words.{WordText}
-use Rattle.textwrap_words.specs.declared.pieces.Piece.{Piece}
+use Rattle.textwrap_words.specs.{Words.WordText, declared.pieces.Piece.Piece}
 
 -- the columns of the widest word with its penalty, 0 where there is no word
 abbrev pub widest_of_words : List WordText → ℕ

@@ -1,46 +1,28 @@
 -- The hunks of lines with signs: stretches that are near a change, which patch the text.
-use Rattle.std.proofs.Common.{◌≡◌, ◌∙◌, ap, refl, sym, subst, ℕ, ◌+◌, ◌-◌, ◌<◌, ◌≤◌, arith, false}
-use Rattle.std.proofs.Common.{true, zero, ◌⊎◌, inl, inr}
-use Rattle.std.proofs.Common.{List, [], ◌∷◌, ◌++◌, length, take, drop, map, get_or, IsTrue, All}
-use Rattle.std.proofs.Common.{ap₂, suc, Bool}
-use Rattle.std.proofs.Math.Logic.{⊎_map}
-use Rattle.std.proofs.lemmas.List.Elements.{All-cons, All-nil}
-use Rattle.std.specs.List.{flat_map, slice_range}
-use Rattle.std.proofs.lemmas.List.{append_assoc, append-nil, get_or-drop, get_or-take, length-drop}
-use Rattle.std.proofs.lemmas.List.{take_rest}
-use Rattle.std.proofs.lemmas.List.{length-append, length-take, drop-map, take-map}
-use Rattle.std.proofs.lemmas.List.Folds.{drop_split}
-use Rattle.unified_diff.specs.Differences.{AreLean, ArePushed, AreApart, HasContext, HunkText, IsDiff, IsNear}
-use Rattle.unified_diff.specs.Differences.{IsTight}
-use Rattle.unified_diff.specs.Differences.{Patches, SignedText, hunk_text, head_text, line_text}
-use Rattle.unified_diff.specs.Differences.{range_text, signed_view, is_change, new_end, news}
-use Rattle.unified_diff.specs.Differences.{old_end, olds, sign_at}
-use Rattle.unified_diff.specs.declared.differences.SignedLine.{SignedLine}
-use Rattle.unified_diff.specs.declared.differences.Sign.{Sign}
-use Rattle.unified_diff.specs.declared.differences.Sign.TheVariants.{Kept}
+use Rattle.std.proofs.{Common.IsTrue, Math.Logic.⊎_map, lemmas.List.{take_rest, drop-map}}
+use Rattle.std.specs.List.{slice_range}
+use Rattle.textwrap_text.proofs.Common.{◌≡◌, ◌∙◌, ap, refl, sym, subst, ℕ, ◌+◌, ◌-◌, ◌<◌, ◌≤◌, arith, false}
+use Rattle.textwrap_text.proofs.Common.{zero, ◌⊎◌, inl, inr, List, [], ◌∷◌, ◌++◌, length, take, drop, map}
+use Rattle.textwrap_text.proofs.Common.{get_or, All, ap₂, suc, All-cons, All-nil, flat_map, append_assoc}
+use Rattle.textwrap_text.proofs.Common.{append-nil, get_or-drop, get_or-take, length-drop, length-append}
+use Rattle.textwrap_text.proofs.Common.{length-take, take-map, drop_split, false_from_ne_true}
 use Rattle.unified_diff.proofs.DiffLines.{change-within, news-append, news-le, olds-append, olds-le}
+use Rattle.unified_diff.specs.Differences.{AreLean, ArePushed, AreApart, HasContext, HunkText, IsDiff, IsNear}
+use Rattle.unified_diff.specs.Differences.{IsTight, Patches, SignedText, hunk_text, head_text, line_text}
+use Rattle.unified_diff.specs.Differences.{range_text, signed_view, is_change, new_end, news, old_end, olds}
+use Rattle.unified_diff.specs.Differences.{sign_at}
+use Rattle.unified_diff.specs.declared.differences.{Sign.Sign, Sign.TheVariants.Kept, SignedLine.SignedLine}
 
 -- ---- lines that are kept
-
-kept-one : (line : SignedText) (lines : List SignedText) → is_change line.sign ≡ false
-    → (news lines ≡ olds lines) × (length (olds lines) ≡ length lines)
-    → (news (line ∷ lines) ≡ olds (line ∷ lines))
-    × (length (olds (line ∷ lines)) ≡ length (line ∷ lines))
-kept-one line lines kept (same, len) = grind (arith, same, len)
 
 kept-same : (lines : List SignedText)
     → ((k : ℕ) → k < length lines → is_change (sign_at lines k) ≡ false)
     → (news lines ≡ olds lines) × (length (olds lines) ≡ length lines)
 kept-same [] kept = (refl, refl)
 kept-same (line ∷ lines) kept =
-    let rest = kept-same lines (λ k below. kept (suc k) (omega arith)) in
-    kept-one line lines (kept 0 (omega arith)) rest
+    grind (arith, kept 0 (omega arith), kept-same lines (λ k below. kept (suc k) (omega arith)))
 
 -- ---- tests and numbers
-
-not_changed : (change : Bool) → (IsTrue change → ⊥) → change ≡ false
-not_changed true far = absurd (far refl)
-not_changed false far = refl
 
 pub not_below : (n m : ℕ) → (n < m → ⊥) → m ≤ n
 not_below n m less = omega (arith, less)
@@ -79,8 +61,8 @@ module _ (lines : List SignedText) where
       → is_change (sign_at (slice_range lines first last) k) ≡ false
   far-kept first last k order below far =
       rw (sign_at-part lines first last k below)
-      (not_changed (is_change (sign_at lines (first + k))) (λ change. far (first + k) (omega arith) (omega arith)
-      (first + k, change, omega arith, omega arith)))
+      (false_from_ne_true (is_change (sign_at lines (first + k))) (λ change. far (first + k)
+      (omega arith) (omega arith) (first + k, change, omega arith, omega arith)))
 
   far-same : (first last : ℕ) → first ≤ last → last ≤ length lines → AreFar first last
       → (news (slice_range lines first last) ≡ olds (slice_range lines first last))
@@ -345,9 +327,7 @@ module _ (lines : List SignedText) where
       ∙ append_assoc text (head_text (range_text old_start (length (olds part)))
       (range_text new_start (length (news part)))) (flat_map line_text part) in
       let pushed = HasPushed-hunk old text next at old_at new_at first last hunk before is writes in
-      subst (λ n. HasPushed old next last (old_start + n) (new_start + new_len)) (sym olds_are)
-      (subst (λ n. HasPushed old next last (old_start + length (olds part)) (new_start + n))
-      (sym news_are) pushed)
+      rw (olds_are, news_are) pushed
 
   pub HasPushed-all : (old text : List ℕ) (at old_at new_at : ℕ)
       → HasPushed old text at old_at new_at → AreFar at (length lines) → AreLeanParts

@@ -1,14 +1,11 @@
 -- The laws of diffs: their hunks patch the old text into the new one, and turned round back.
-use Rattle.std.proofs.Common.{◌≡◌, ◌∙◌, ap, ap₂, refl, sym, ℕ, ◌+◌, ◌-◌, arith}
-use Rattle.std.proofs.Common.{List, [], ◌∷◌, ◌++◌, length, take, drop, map}
-use Rattle.std.proofs.lemmas.List.{append_assoc, drop_at, take_at, length-append}
-use Rattle.unified_diff.specs.Differences.{HunkText, Patches, SignedText, new_end, news, old_end}
-use Rattle.unified_diff.specs.Differences.{olds, signed_text}
-use Rattle.unified_diff.specs.Laws.{DiffsLeadBack, DiffsLeadOn, TextsAreTheirLines, patched, turned}
-use Rattle.unified_diff.specs.Laws.{turned_line}
+use Rattle.std.proofs.Common.{◌≡◌, ◌∙◌, ap, ap₂, refl, sym, ℕ, ◌+◌, ◌-◌, arith, List, [], ◌∷◌, ◌++◌}
+use Rattle.std.proofs.Common.{length, take, drop, map, append_assoc, drop_at, take_at}
+use Rattle.std.proofs.Common.{length-append}
 use Rattle.textwrap_text.proofs.TextLines.{ended_parts-flat}
-use Rattle.unified_diff.specs.declared.differences.Sign.{Sign}
-use Rattle.unified_diff.specs.declared.differences.Sign.TheVariants.{Kept, Removed, Added}
+use Rattle.unified_diff.specs.Differences.{HunkText, Patches, SignedText, new_end, news, old_end}
+use Rattle.unified_diff.specs.{Differences.olds, Laws.DiffsLeadBack}
+use Rattle.unified_diff.specs.Laws.{DiffsLeadOn, TextsAreTheirLines, patched, turned, turned_line}
 
 -- ---- lists in three parts
 
@@ -39,27 +36,13 @@ patches-patched (hunk ∷ hunks) old_at new_at old new
 
 -- ---- turned round
 
-olds-turned-one : (sign : Sign) (line : List ℕ) (lines : List SignedText)
-    → olds (map turned_line lines) ≡ news lines
-    → olds (map turned_line (signed_text sign line ∷ lines)) ≡ news (signed_text sign line ∷ lines)
-olds-turned-one Kept line lines same = ap (λ ls. line ∷ ls) same
-olds-turned-one Removed line lines same = same
-olds-turned-one Added line lines same = ap (λ ls. line ∷ ls) same
-
-news-turned-one : (sign : Sign) (line : List ℕ) (lines : List SignedText)
-    → news (map turned_line lines) ≡ olds lines
-    → news (map turned_line (signed_text sign line ∷ lines)) ≡ olds (signed_text sign line ∷ lines)
-news-turned-one Kept line lines same = ap (λ ls. line ∷ ls) same
-news-turned-one Removed line lines same = ap (λ ls. line ∷ ls) same
-news-turned-one Added line lines same = same
-
 olds-turned : (lines : List SignedText) → olds (map turned_line lines) ≡ news lines
 olds-turned [] = refl
-olds-turned (line ∷ lines) = olds-turned-one line.sign line.line lines (olds-turned lines)
+olds-turned (line ∷ lines) = grind (arith, olds-turned lines)
 
 news-turned : (lines : List SignedText) → news (map turned_line lines) ≡ olds lines
 news-turned [] = refl
-news-turned (line ∷ lines) = news-turned-one line.sign line.line lines (news-turned lines)
+news-turned (line ∷ lines) = grind (arith, news-turned lines)
 
 patches-turned : (hunks : List HunkText) (old_at new_at : ℕ) (old new : List (List ℕ))
     → Patches old_at new_at old new hunks → Patches new_at old_at new old (map turned hunks)

@@ -1,25 +1,18 @@
 -- The lines of a text, lines with signs, those that either text has, and where they change.
-use Rattle.std.proofs.Math.Bool.{beq}
-use Rattle.std.proofs.Common.{◌≡◌, ◌≢◌, ◌∙◌, ap, refl, sym, ℕ, zero, suc, ◌+◌, ◌-◌, ◌<◌}
-use Rattle.std.proofs.Common.{◌≤◌, arith, Bool, true, false}
-use Rattle.std.proofs.Common.{List, [], ◌∷◌, ◌++◌, length, take, drop, map, get_or}
-use Rattle.std.proofs.Common.{Bor, IsTrue, not}
-use Rattle.std.proofs.lemmas.Slice.Eq.{bytes_eq-Decides}
-use Rattle.std.specs.Str.{bytes_eq}
-use Rattle.std.proofs.lemmas.List.{drop-map, get_or-map, take_more_same, take_rest}
-use Rattle.std.proofs.lemmas.List.{append-nil, append_assoc, length-map, map-append, take-map}
+use Rattle.std.proofs.{Common.IsTrue, Common.count_by, Math.Bool.beq}
+use Rattle.std.proofs.lemmas.List.{drop-map, take_more_same, take_rest}
 use Rattle.std.proofs.lemmas.List.Sums.{count_by-le-length, length-filter}
-use Rattle.std.proofs.Math.Seq.{take-add}
-use Rattle.std.proofs.lemmas.List.Elements.{filter-append}
-use Rattle.std.specs.Prelude.{count_by, filter}
-use Rattle.std.proofs.Common.{All, length-take, take-append-drop}
-use Rattle.std.proofs.lemmas.List.{get_or-take, take_more}
-use Rattle.std.proofs.lemmas.List.Elements.{All-from_get_or}
+use Rattle.std.{proofs.lemmas.Slice.Eq.bytes_eq-Decides, specs.Str.bytes_eq}
+use Rattle.textwrap_text.proofs.Common.{◌≡◌, ◌≢◌, ◌∙◌, ap, refl, sym, ℕ, zero, suc, ◌+◌, ◌-◌, ◌<◌}
+use Rattle.textwrap_text.proofs.Common.{◌≤◌, arith, Bool, true, false, List, [], ◌∷◌, ◌++◌, length}
+use Rattle.textwrap_text.proofs.Common.{take, drop, map, get_or, Bor, not, get_or-map, append-nil}
+use Rattle.textwrap_text.proofs.Common.{append_assoc, length-map, map-append, take-map, take-add}
+use Rattle.textwrap_text.proofs.Common.{filter-append, filter, All, length-take, take-append-drop}
+use Rattle.textwrap_text.proofs.Common.{get_or-take, take_more, All-from_get_or}
 use Rattle.textwrap_text.proofs.TextLines.{ended_parts-front, ended_parts-whole}
-use Rattle.unified_diff.specs.Differences.{AreSameAt, IsNearIf, SignedText, is_change}
-use Rattle.unified_diff.specs.Differences.{is_new, is_old, news, olds, sign_at, signed_text}
-use Rattle.unified_diff.specs.Differences.{signed_view, text_lines}
-use Rattle.unified_diff.specs.declared.differences.Sign.{Sign}
+use Rattle.unified_diff.specs.Differences.{AreSameAt, IsNearIf, SignedText, is_change, is_new}
+use Rattle.unified_diff.specs.Differences.{is_old, news, olds, sign_at, signed_text, signed_view}
+use Rattle.unified_diff.specs.{Differences.text_lines, declared.differences.Sign.Sign}
 use Rattle.unified_diff.specs.declared.differences.Sign.TheVariants.{Kept, Removed, Added}
 use Rattle.unified_diff.specs.declared.differences.SignedLine.{SignedLine}
 
@@ -69,29 +62,16 @@ olds-append xs ys = grind (arith, filter-append, map-append)
 pub news-append : (xs ys : List SignedText) → news (xs ++ ys) ≡ news xs ++ news ys
 news-append xs ys = grind (arith, filter-append, map-append)
 
-pub olds-kept : (lines : List (List ℕ)) → olds (map (signed_text Kept) lines) ≡ lines
-olds-kept [] = refl
-olds-kept (line ∷ lines) = ap (λ ls. line ∷ ls) (olds-kept lines)
+-- lines with a sign that a text has are all in it, and of those with another sign none
+signed-all : (p : Sign → Bool) (sign : Sign) → p sign ≡ true → (lines : List (List ℕ))
+    → map (λ s. s.line) (filter (λ s. p s.sign) (map (signed_text sign) lines)) ≡ lines
+signed-all p sign is [] = refl
+signed-all p sign is (line ∷ lines) = rw is (ap (λ ls. line ∷ ls) (signed-all p sign is lines))
 
-pub news-kept : (lines : List (List ℕ)) → news (map (signed_text Kept) lines) ≡ lines
-news-kept [] = refl
-news-kept (line ∷ lines) = ap (λ ls. line ∷ ls) (news-kept lines)
-
-pub olds-removed : (lines : List (List ℕ)) → olds (map (signed_text Removed) lines) ≡ lines
-olds-removed [] = refl
-olds-removed (line ∷ lines) = ap (λ ls. line ∷ ls) (olds-removed lines)
-
-pub news-removed : (lines : List (List ℕ)) → news (map (signed_text Removed) lines) ≡ []
-news-removed [] = refl
-news-removed (line ∷ lines) = news-removed lines
-
-pub olds-added : (lines : List (List ℕ)) → olds (map (signed_text Added) lines) ≡ []
-olds-added [] = refl
-olds-added (line ∷ lines) = olds-added lines
-
-pub news-added : (lines : List (List ℕ)) → news (map (signed_text Added) lines) ≡ lines
-news-added [] = refl
-news-added (line ∷ lines) = ap (λ ls. line ∷ ls) (news-added lines)
+signed-none : (p : Sign → Bool) (sign : Sign) → p sign ≡ false → (lines : List (List ℕ))
+    → map (λ s. s.line) (filter (λ s. p s.sign) (map (signed_text sign) lines)) ≡ []
+signed-none p sign not [] = refl
+signed-none p sign not (line ∷ lines) = rw not (signed-none p sign not lines)
 
 -- ---- how many they are
 
@@ -133,7 +113,10 @@ pub olds-grown : (old after removed_too all : List SignedText) (kept removed add
     → all ≡ removed_too ++ map (signed_text Added) added
     → olds all ≡ olds old ++ (kept ++ removed)
 olds-grown old after removed_too all kept removed added a b c =
-    grind (arith, olds-append, olds-added, append-nil, olds-removed, olds-kept, append_assoc)
+    let here = signed-all is_old Kept refl kept in
+    let gone = signed-all is_old Removed refl removed in
+    let none = signed-none is_old Added refl added in
+    grind (arith, olds-append, append-nil, append_assoc)
 
 pub news-grown : (old after removed_too all : List SignedText) (kept removed added : List (List ℕ))
     → after ≡ old ++ map (signed_text Kept) kept
@@ -141,7 +124,10 @@ pub news-grown : (old after removed_too all : List SignedText) (kept removed add
     → all ≡ removed_too ++ map (signed_text Added) added
     → news all ≡ news old ++ (kept ++ added)
 news-grown old after removed_too all kept removed added a b c =
-    grind (arith, news-append, news-added, news-removed, append-nil, news-kept, append_assoc)
+    let here = signed-all is_new Kept refl kept in
+    let none = signed-none is_new Removed refl removed in
+    let come = signed-all is_new Added refl added in
+    grind (arith, news-append, append-nil, append_assoc)
 
 -- the first lines of two lists, read one after the other
 pub taken-lines : (lines : List (Bor (List ℕ))) (kept changed : ℕ)

@@ -1,14 +1,11 @@
 -- The nearest line that two lists have, found by where lines stand first.
-use Rattle.std.proofs.Common.{◌≡◌, ◌∙◌, ap, refl, sym, subst, ℕ, ◌+◌, ◌<◌, ◌≤◌, arith}
-use Rattle.std.proofs.Common.{◌⊎◌, ⊎_elim, List, [], length, map, get_or}
-use Rattle.std.proofs.Common.{Bool, cond, is_some, bytes_eq}
+use Rattle.std.proofs.Common.{◌≡◌, ◌∙◌, ap, refl, sym, subst, ℕ, ◌+◌, ◌<◌, ◌≤◌, arith, ◌⊎◌, ⊎_elim}
+use Rattle.std.proofs.Common.{List, [], length, map, get_or, Bool, cond, is_some, bytes_eq, Bor}
+use Rattle.std.proofs.Common.{IfSome, IsSomeAnd, Option, Some, None, true, false, lt-ltb}
 use Rattle.std.proofs.lemmas.Slice.Eq.{bytes_eq-Decides}
-use Rattle.std.proofs.Common.{Bor, IfSome, IsSomeAnd, Option, Some, None, true, false}
-use Rattle.std.proofs.lemmas.Bool.{cases_Bool, cases_lt, false≢true, lt-ltb}
-use Rattle.std.proofs.lemmas.List.{get_or-map, length-map}
-use Rattle.unified_diff.specs.Differences.{AreSameAt, AreSameOrAll, HasFirstPlaces, IsLineAt}
-use Rattle.unified_diff.specs.Differences.{IsNearestBefore, place_of}
-use Rattle.unified_diff.proofs.DiffHunks.{not_below}
+use Rattle.textwrap_text.proofs.Common.{cases_Bool, cases_lt, false≢true, get_or-map, length-map}
+use Rattle.unified_diff.{proofs.DiffHunks.not_below, specs.Differences.{AreSameAt, AreSameOrAll}}
+use Rattle.unified_diff.specs.Differences.{HasFirstPlaces, IsLineAt, IsNearestBefore, place_of}
 
 -- ---- where lines stand first
 

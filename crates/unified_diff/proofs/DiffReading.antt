@@ -1,29 +1,22 @@
 -- What is read of the text of hunks is the hunks.
-use Rattle.std.proofs.Common.{◌≡◌, ◌≢◌, ◌⊎◌, ◌∙◌, ap, ap₂, refl, sym, subst, ℕ, ◌+◌, ◌-◌, ◌<◌, ◌^◌}
-use Rattle.std.proofs.Common.{arith, Bool, true, false, not, zero, suc, inl, inr, cond, rules, ◌==◌}
-use Rattle.std.proofs.Common.{List, [], ◌∷◌, ◌++◌, length, take, map, get_or, All}
-use Rattle.std.proofs.lemmas.List.{append_assoc, append-nil, length-append, take_all, take_more, take_at}
-use Rattle.std.proofs.lemmas.List.Elements.{All-append, All-cons, All-from_get_or, All-get_or, All-head}
-use Rattle.std.proofs.lemmas.List.Elements.{All-nil, All-tail, All-weaker}
-use Rattle.std.proofs.lemmas.List.Splits.{slice_split_at, slice_split_none}
-use Rattle.std.proofs.lemmas.Fmt.{decimal_is_IsNumeral}
-use Rattle.std.proofs.lemmas.Str.Parse.{digit_at}
-use Rattle.std.specs.Fmt.{decimal}
-use Rattle.std.specs.List.{ends_with, flat_map, list_all, slice_split}
-use Rattle.std.proofs.lemmas.List.Sums.{AllPass-from_list_all}
-use Rattle.std.specs.Prelude.{codes, nat_eq}
-use Rattle.std.specs.Str.Parse.{digits_value}
-use Rattle.textwrap_text.proofs.Common.{eqb-false, ne_eqb}
+use Rattle.std.proofs.lemmas.{Fmt.decimal_is_IsNumeral, List.Elements.All-get_or}
+use Rattle.std.proofs.lemmas.List.{Splits.{slice_split_at, slice_split_none}, Sums.AllPass-from_list_all}
+use Rattle.std.{proofs.lemmas.Str.Parse.digit_at, specs.Fmt.decimal, specs.Str.Parse.digits_value}
+use Rattle.textwrap_text.proofs.Common.{◌≡◌, ◌≢◌, ◌⊎◌, ◌∙◌, ap, ap₂, refl, sym, subst, ℕ, ◌+◌, ◌-◌, ◌<◌}
+use Rattle.textwrap_text.proofs.Common.{◌^◌, arith, Bool, true, false, not, zero, suc, inl, inr, cond}
+use Rattle.textwrap_text.proofs.Common.{rules, ◌==◌, List, [], ◌∷◌, ◌++◌, length, take, map, get_or, All}
+use Rattle.textwrap_text.proofs.Common.{append_assoc, append-nil, length-append, take_all, take_more}
+use Rattle.textwrap_text.proofs.Common.{take_at, All-append, All-cons, All-from_get_or, All-head}
+use Rattle.textwrap_text.proofs.Common.{All-nil, All-tail, All-weaker, ends_with, flat_map, list_all}
+use Rattle.textwrap_text.proofs.Common.{slice_split, codes, nat_eq, eqb-false, ne_eqb}
 use Rattle.textwrap_text.proofs.Lists.Parts.{all-left, all-right, ends_with-other, ends_with-true}
 use Rattle.textwrap_text.proofs.TextLines.{by-lines, ended_parts-front, ended_parts-whole}
 use Rattle.unified_diff.specs.Differences.{HunkText, Patches, SignedText, count_text, head_text}
 use Rattle.unified_diff.specs.Differences.{hunk_text, line_text, missing_feed, new_end, news, old_end}
 use Rattle.unified_diff.specs.Differences.{olds, range_text, sign_byte, signed_text, text_lines}
 use Rattle.unified_diff.specs.Laws.{HunksAreRead}
-use Rattle.unified_diff.specs.Reading.{ReadText, range_start, read_lines, read_text}
-use Rattle.unified_diff.specs.Reading.{with_line}
-use Rattle.unified_diff.specs.declared.differences.Sign.{Sign}
-use Rattle.unified_diff.specs.declared.differences.Sign.TheVariants.{Kept, Removed, Added}
+use Rattle.unified_diff.specs.Reading.{ReadText, range_start, read_lines, read_text, with_line}
+use Rattle.unified_diff.specs.declared.differences.Sign.{Sign, TheVariants.{Kept, Removed, Added}}
 
 -- ---- lines
 

@@ -1,17 +1,14 @@
 -- Runs of changed lines, in which no line is removed and added.
 use Rattle.std.proofs.Common.{◌≡◌, ◌∙◌, ap, refl, sym, subst, ℕ, zero, suc, ◌+◌, ◌-◌, ◌<◌, ◌≤◌, arith}
 use Rattle.std.proofs.Common.{◌⊎◌, inl, inr, ⊎_elim, List, [], ◌∷◌, ◌++◌, length, take, drop, map, get_or}
-use Rattle.std.proofs.Common.{Bor, length-take}
-use Rattle.std.proofs.lemmas.Bool.{cases_lt}
+use Rattle.std.proofs.{Common.Bor, Common.length-take, lemmas.Bool.cases_lt}
 use Rattle.std.proofs.lemmas.List.{get_or-append_right, get_or-drop, get_or-take, get_or_append_left}
 use Rattle.std.proofs.lemmas.List.{drop-map, take_rest, length-drop, length-map, map-append, take-map}
 use Rattle.std.specs.List.{slice_range}
-use Rattle.unified_diff.specs.Differences.{AreLean, AreSameAt, AreSameOrAll}
-use Rattle.unified_diff.specs.Differences.{IsNearest, SignedText, line_at}
-use Rattle.unified_diff.specs.Differences.{sign_at, signed_text, is_change}
+use Rattle.unified_diff.proofs.{DiffHunks.sign_at-part, DiffLines.change-within}
+use Rattle.unified_diff.specs.Differences.{AreLean, AreSameAt, AreSameOrAll, IsNearest, SignedText}
+use Rattle.unified_diff.specs.Differences.{line_at, sign_at, signed_text, is_change}
 use Rattle.unified_diff.specs.declared.differences.Sign.TheVariants.{Kept, Removed, Added}
-use Rattle.unified_diff.proofs.DiffHunks.{sign_at-part}
-use Rattle.unified_diff.proofs.DiffLines.{change-within}
 
 -- ---- runs of changed lines
 

@@ -1,16 +1,14 @@
 -- What changes from one text to another, line by line, and how a unified diff writes it.
+use Rattle.std.specs.{HashMap.HashMap, HashMap.get_by, List.ends_with, List.flat_map, List.list_any}
 use Rattle.std.specs.Prelude.{◌≡◌, ◌⊎◌, ℕ, ◌+◌, ◌/◌, ◌%◌, ◌<◌, ◌≤◌, ◌==◌, ◌||◌, Bool, true, false}
-use Rattle.std.specs.Prelude.{List, [], ◌∷◌, ◌++◌, nat_lt}
-use Rattle.std.specs.Prelude.{All, IsTrue, codes, decimal, filter, length, map, slice_index_or}
-use Rattle.std.specs.Prelude.{if◌then◌else◌, nat_eq, ⊤, Option, None, IfSome, IsSomeAnd, bytes_eq}
-use Rattle.std.specs.HashMap.{HashMap, get_by}
-use denote.Ref.{Bor}
-use Rattle.std.specs.List.{ends_with, flat_map, list_any}
-use Rattle.textwrap_text.specs.LineEnding.{line_feed}
-use Rattle.textwrap_text.specs.TextLines.{ended_parts}
+use Rattle.std.specs.Prelude.{List, [], ◌∷◌, ◌++◌, nat_lt, All, IsTrue, codes, decimal, filter}
+use Rattle.std.specs.Prelude.{length, map, slice_index_or, if◌then◌else◌, nat_eq, ⊤, Option, None}
+use Rattle.std.specs.Prelude.{IfSome, IsSomeAnd, bytes_eq}
+use Rattle.textwrap_text.specs.{LineEnding.line_feed, TextLines.ended_parts}
 use Rattle.unified_diff.specs.declared.differences.Sign.{Sign}
 use Rattle.unified_diff.specs.declared.differences.Sign.TheVariants.{Kept, Removed, Added}
 use Rattle.unified_diff.specs.declared.differences.SignedLine.{SignedLine}
+use denote.Ref.{Bor}
 
 -- ---- lines
 

@@ -1,9 +1,8 @@
 -- Laws of the definitions on diffs.
-use Rattle.std.specs.Prelude.{◌≡◌, ℕ, ◌-◌, ◌<◌, ◌^◌, List, [], ◌∷◌, ◌++◌, drop, length, map, take}
 use Rattle.std.specs.List.{flat_map}
+use Rattle.std.specs.Prelude.{◌≡◌, ℕ, ◌-◌, ◌<◌, ◌^◌, List, [], ◌∷◌, ◌++◌, drop, length, map, take}
 use Rattle.unified_diff.specs.Differences.{HunkText, IsDiff, SignedText, hunk_text, news, old_end}
-use Rattle.unified_diff.specs.Differences.{text_lines}
-use Rattle.unified_diff.specs.Reading.{hunks_of}
+use Rattle.unified_diff.specs.{Differences.text_lines, Reading.hunks_of}
 use Rattle.unified_diff.specs.declared.differences.Sign.{Sign}
 use Rattle.unified_diff.specs.declared.differences.Sign.TheVariants.{Kept, Removed, Added}
 

@@ -1,15 +1,13 @@
 //! What changes from one text to another, written as a unified diff: the form that POSIX gives for
 //! `diff -u`, which `patch` and `git apply` read.
-ghost use Rattle.std.specs.Prelude.{◌≡◌, ◌⊎◌, ◌+◌, ◌<◌, ◌≤◌, ◌++◌, ◌∷◌, ◌^◌, ℕ, [], length, map};
-ghost use Rattle.std.specs.Prelude.{drop, take, not};
-ghost use Rattle.std.specs.Prelude.{IfOk, IfSome, OnOk, Some};
 ghost use Rattle.std.specs.List.{flat_map, list_any};
+ghost use Rattle.std.specs.Prelude.{◌≡◌, ◌⊎◌, ◌+◌, ◌<◌, ◌≤◌, ◌++◌, ◌∷◌, ◌^◌, ℕ, [], length, map};
+ghost use Rattle.std.specs.Prelude.{drop, take, not, IfOk, IfSome, OnOk, Some};
 ghost use Rattle.unified_diff.specs.Differences.{AreLean, AreSameAt, AreSameOrAll, HasFirstPlaces};
 ghost use Rattle.unified_diff.specs.Differences.{IsDiffText, IsNearIf, IsNearest, IsNearestBefore};
-ghost use Rattle.unified_diff.specs.Differences.{place_in, place_of};
-ghost use Rattle.unified_diff.specs.Differences.{ArePushed, head_text, is_change, is_new, is_old};
-ghost use Rattle.unified_diff.specs.Differences.{is_escaped, line_text, missing_feed, name_text};
-ghost use Rattle.unified_diff.specs.Differences.{names_text, quoted_byte};
+ghost use Rattle.unified_diff.specs.Differences.{place_in, place_of, ArePushed, head_text};
+ghost use Rattle.unified_diff.specs.Differences.{is_change, is_new, is_old, is_escaped, line_text};
+ghost use Rattle.unified_diff.specs.Differences.{missing_feed, name_text, names_text, quoted_byte};
 ghost use Rattle.unified_diff.specs.Differences.{news, olds, range_text, sign_byte, signed_text};
 ghost use Rattle.unified_diff.specs.Differences.{signed_view, text_lines};
 

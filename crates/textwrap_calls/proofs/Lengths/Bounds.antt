@@ -1,50 +1,38 @@
 -- How many lines and rows a text has at most, and how long they are together, by the options of C.
-use Rattle.std.proofs.lemmas.{Grind.div_ceil_times, List.length-replicate, Nat.mul-le}
-use Rattle.textwrap_text.proofs.Common.{and_parts, max, range_with_len, ◌/◌}
-use Rattle.textwrap_layout.proofs.Common.{AreIndented, indent_of}
-use Rattle.textwrap_lines.proofs.Paragraph.KeepsTo.{HasNoHyphen}
-use Rattle.textwrap_calls.specs.Columns.{AreRows}
-use Rattle.textwrap_calls.proofs.Common.{TextwrapOptions, Bool}
-use Rattle.textwrap_calls.proofs.Common.{flat_map-append}
-use Rattle.textwrap_calls.proofs.Common.{length-append, options_algorithm, ending_bytes}
-use Rattle.textwrap_calls.proofs.Common.{separator_of, IsInColumns, arith}
-use Rattle.textwrap_calls.proofs.Common.{options_settings, built_text, All-head, eqb-true}
-use Rattle.textwrap_calls.proofs.Common.{paragraphs_of}
-use Rattle.textwrap_calls.proofs.PlaceLemmas.{divided-tile}
+use Rattle.std.proofs.{Common.◌/◌, Math.Nat.{lt_of_mul-lt-mul_right, lt-mul-div-succ, mul-div-le}}
+use Rattle.std.proofs.lemmas.List.{Concat.length-flat_map, Folds.sum_by-replicate}
+use Rattle.std.proofs.lemmas.{List.FromFn.{length-range_with_len, fill_by_all}, Nat.mul-le}
+use Rattle.std.specs.Int.{div_ceil}
+use Rattle.textwrap.proofs.Common.{div_ceil_times, length-replicate, and_parts, max, range_with_len}
+use Rattle.textwrap.proofs.Common.{indent_of, Bool, length-append, ending_bytes, arith, All-head}
+use Rattle.textwrap.proofs.Common.{paragraphs_of, All-weaker, None, length-map, line_bytes}
+use Rattle.textwrap.proofs.Common.{LineParts, join_with, line_from, nat_tests, All, All-tail}
+use Rattle.textwrap.proofs.Common.{cases_lt, flat_map, IsUtf8, get_or, length, false, subst, inl}
+use Rattle.textwrap.proofs.Common.{List, cond, refl, true, ◌==◌, inr, map, ℕ, sym, ◌*◌, ◌+◌, ◌-◌}
+use Rattle.textwrap.proofs.Common.{◌<◌, ◌∙◌, ◌∷◌, ◌≡◌, ◌≤◌, [], ap, RowLayout, column_row, padded}
+use Rattle.textwrap.proofs.Common.{cells, cell, replicate, flat_map-map, at_column_width}
+use Rattle.textwrap.proofs.Common.{inner_width, row_layout, row_count, IsInColumns, table_rows}
+use Rattle.textwrap.proofs.{Common.{IsFilled, Settings, flat}, Text.Tables.columns_kept}
+use Rattle.textwrap.specs.Columns.{column_width}
+use Rattle.textwrap_calls.proofs.Common.{TextwrapOptions, flat_map-append, options_algorithm}
+use Rattle.textwrap_calls.proofs.Common.{separator_of, options_settings, built_text, eqb-true}
+use Rattle.textwrap_calls.proofs.{Common.{Divides, ◌&&◌}, Lengths.Lines.{AddsAtMost, indent-length}}
+use Rattle.textwrap_calls.proofs.Lengths.{Lines.{later-length, line-length}, Sums.texts-joined}
+use Rattle.textwrap_calls.proofs.{Lengths.Sums.{by-columns, flat-each}, PlaceLemmas.divided-tile}
 use Rattle.textwrap_calls.proofs.ReadOptions.{options-cuts, options-inside, splitter-named}
-use Rattle.textwrap_calls.specs.Bounds.{hyphens_of}
-use Rattle.textwrap_calls.specs.Options.{options_points}
-use Rattle.textwrap_layout.proofs.Text.Paragraphs.{paragraphs_of-utf8}
+use Rattle.textwrap_calls.specs.Bounds.{hyphens_of, columns_room_bound, fill_bound, rows_bound}
+use Rattle.textwrap_calls.specs.{Columns.AreRows, Options.options_points}
+use Rattle.textwrap_calls.specs.declared.columns.TextwrapGaps.{TextwrapGaps}
+use Rattle.textwrap_display.proofs.Common.{Built}
+use Rattle.textwrap_layout.proofs.Common.{AreIndented, AreTextLines, built_bytes, Slice, Line}
+use Rattle.textwrap_lines.proofs.{Common.paragraphs_of-utf8, Paragraph.KeepsTo.HasNoHyphen}
 use Rattle.textwrap_lines.proofs.Text.Groups.{groups-tile}
-use Rattle.textwrap_plain.specs.Hyphenated.{AddsHyphenAtMost}
+use Rattle.textwrap_plain.proofs.Balance.Counts.{slices, text-size}
+use Rattle.textwrap_plain.proofs.Words.{IsWrapped-at, hyphens-at}
+use Rattle.textwrap_plain.specs.{CutSides.words_by-cut, Hyphenated.AddsHyphenAtMost}
+use Rattle.textwrap_plain.specs.Options.{DividesFrom, points_by, port_splitter, words_by}
 use Rattle.textwrap_plain.specs.declared.options.PlainSplitter.{PlainSplitter}
 use Rattle.textwrap_plain.specs.declared.options.PlainSplitter.TheVariants.{BuiltIn, Dictionary}
-use Rattle.textwrap_text.proofs.Common.{All-weaker, None}
-use Rattle.textwrap_calls.proofs.Common.{length-map, line_bytes, table_rows, LineParts}
-use Rattle.textwrap_calls.proofs.Common.{join_with, line_from, nat_tests, All}
-use Rattle.textwrap_calls.proofs.Common.{All-tail, IsFilled, Settings, cases_lt, flat_map}
-use Rattle.textwrap_calls.proofs.Common.{Divides, IsUtf8, get_or, length, false, subst, inl}
-use Rattle.textwrap_calls.proofs.Common.{List, cond, flat, refl, true, ◌&&◌, ◌==◌, inr, map, ℕ}
-use Rattle.textwrap_calls.proofs.Common.{sym, ◌*◌, ◌+◌, ◌-◌, ◌<◌, ◌∙◌, ◌∷◌, ◌≡◌, ◌≤◌, [], ap}
-use Rattle.textwrap_layout.proofs.Common.{AreTextLines, built_bytes, Slice, Line}
-use Rattle.textwrap.proofs.Common.{RowLayout, column_row, padded, cells, cell}
-use Rattle.std.proofs.Common.{replicate}
-use Rattle.std.proofs.Math.Nat.{lt_of_mul-lt-mul_right, lt-mul-div-succ, mul-div-le}
-use Rattle.std.proofs.lemmas.List.Concat.{length-flat_map}
-use Rattle.std.proofs.lemmas.List.Folds.{sum_by-replicate, flat_map-map}
-use Rattle.std.proofs.lemmas.List.FromFn.{length-range_with_len, fill_by_all}
-use Rattle.std.specs.Int.{div_ceil}
-use Rattle.textwrap_layout.specs.Paragraph.{Built}
-use Rattle.textwrap.proofs.Text.Tables.{columns_kept}
-use Rattle.textwrap.specs.Columns.{at_column_width, column_width, inner_width, row_layout, row_count}
-use Rattle.textwrap_plain.proofs.Words.{IsWrapped-at, hyphens-at}
-use Rattle.textwrap_calls.proofs.Lengths.Lines.{AddsAtMost, indent-length, later-length, line-length}
-use Rattle.textwrap_plain.proofs.Balance.Counts.{slices, text-size}
-use Rattle.textwrap_plain.specs.CutSides.{words_by-cut}
-use Rattle.textwrap_plain.specs.Options.{DividesFrom, points_by, port_splitter, words_by}
-use Rattle.textwrap_calls.proofs.Lengths.Sums.{texts-joined, by-columns, flat-each}
-use Rattle.textwrap_calls.specs.Bounds.{columns_room_bound, fill_bound, rows_bound}
-use Rattle.textwrap_calls.specs.declared.columns.TextwrapGaps.{TextwrapGaps}
 
 -- ---- lines of their own
 
@@ -100,7 +88,6 @@ module _ (settings : Settings) (most len : ℕ) where
         later-length settings most each (omega arith) parts indented.1
             (All-tail (AddsAtMost most) p parts adds),
         mul-le (length parts) each len each (omega (arith, count)) (omega arith),
-        within,
         length-append {A = ℕ},
       )
 
@@ -222,7 +209,6 @@ filled-bounded o len text filled utf8 len_is (lines, are, is) =
       arith,
       texts-joined ending x xs,
       mul-le (length xs) (length ending) len (length ending) (omega (arith, count)) (omega arith),
-      bytes,
     )
 
 -- ---- how long the rows of a text in columns are together
@@ -381,7 +367,6 @@ module _ (o : TextwrapOptions) (gaps : TextwrapGaps) (columns : ℕ) (some : 1 �
         ap length (built-rows rows),
         ap (λ rs. length (flat rs)) rows_are,
         rows-length layout texts some,
-        bounded.bytes,
         mul-le (row_count texts columns) (row_room layout) (rows_bound len columns) room
             (rows-count (length texts) len columns some
             (omega (arith, bounded.count, length-map shown line_bytes)))

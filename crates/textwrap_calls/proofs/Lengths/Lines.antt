@@ -1,17 +1,10 @@
 -- How long the lines of a paragraph are at most.
-use Rattle.textwrap_layout.proofs.Common.{AreIndented, indent_of}
-use Rattle.textwrap_calls.proofs.Common.{length-append}
-use Rattle.textwrap_calls.proofs.Common.{Bool}
-use Rattle.textwrap_calls.proofs.Common.{line_bytes}
-use Rattle.textwrap_calls.proofs.Common.{LineParts, ℕ}
-use Rattle.textwrap_calls.proofs.Common.{line_from, All-head, All-tail, Settings}
-use Rattle.textwrap_calls.proofs.Common.{WordText}
-use Rattle.textwrap_calls.proofs.Common.{length}
-use Rattle.textwrap_calls.proofs.Common.{arith, List, flat}
-use Rattle.textwrap_calls.proofs.Common.{true, All}
-use Rattle.textwrap_calls.proofs.Common.{◌*◌, ◌+◌, ◌∷◌, ◌≡◌, ◌≤◌, [], ap}
-use Rattle.textwrap_layout.specs.Paragraph.{assembled_line, indent_before}
 use Rattle.textwrap.proofs.Text.PlainFilled.{bytes_of}
+use Rattle.textwrap_calls.proofs.Common.{length-append, Bool, line_bytes, LineParts, ℕ, line_from}
+use Rattle.textwrap_calls.proofs.Common.{All-head, All-tail, Settings, WordText, length, arith}
+use Rattle.textwrap_calls.proofs.Common.{List, flat, true, All, ◌*◌, ◌+◌, ◌∷◌, ◌≡◌, ◌≤◌, [], ap}
+use Rattle.textwrap_layout.specs.Paragraph.{indent_before}
+use Rattle.textwrap_lines.proofs.Common.{AreIndented, indent_of, assembled_line}
 use Rattle.textwrap_plain.proofs.Balance.Counts.{slices}
 
 -- ---- how long lines are
@@ -38,7 +31,6 @@ pub line-length : (settings : Settings) (is_later : Bool) (most : ℕ) (p : Line
 line-length settings is_later most p adds is =
     omega (
       arith,
-      adds,
       assembled-length p.indent p.slice p.penalty,
       ap length is,
       indent-length settings is_later p.pieces,
@@ -53,7 +45,6 @@ later-length settings most each enough [] are adds = omega arith
 later-length settings most each enough (p ∷ parts) are adds =
     omega (
       arith,
-      enough,
       line-length settings true most p (All-head (AddsAtMost most) p parts adds) are.0,
       later-length settings most each enough parts are.1 (All-tail (AddsAtMost most) p parts adds),
       length-append {A = ℕ},

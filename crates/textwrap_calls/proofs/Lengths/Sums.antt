@@ -1,12 +1,10 @@
 -- How long texts are together and joined, and bounds that a number may not hold.
-use Rattle.textwrap_text.{proofs.Common.zero, proofs.Numbers.either_short, specs.LentText.as_len}
-use Rattle.textwrap_calls.proofs.Common.{flat_map-append, length-append, join_with, ℕ}
-use Rattle.textwrap_calls.proofs.Common.{flat_map, length, arith, List, flat}
-use Rattle.textwrap_calls.proofs.Common.{map, suc, ◌*◌, ◌+◌, ◌∙◌, ◌∷◌, ◌≡◌, ◌≤◌, [], ap}
 use Rattle.std.proofs.Math.Nat.{mul_comm}
+use Rattle.textwrap.proofs.Common.{zero, either_short, length-append, join_with, ℕ, flat_map}
+use Rattle.textwrap.proofs.Common.{length, arith, List, map, suc, ◌*◌, ◌+◌, ◌∙◌, ◌∷◌, ◌≡◌, ◌≤◌, []}
+use Rattle.textwrap.proofs.Common.{ap, flat_map-map, flat}
+use Rattle.textwrap_calls.{proofs.Common.flat_map-append, specs.Bounds.{as_len, Suffices}}
 use Rattle.textwrap_plain.proofs.Balance.Counts.{flat-plus}
-use Rattle.std.proofs.lemmas.List.Folds.{flat_map-map}
-use Rattle.textwrap_calls.specs.Bounds.{Suffices}
 
 -- ---- how long texts are together and joined
 

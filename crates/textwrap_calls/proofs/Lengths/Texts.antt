@@ -1,25 +1,24 @@
 -- How long the lines of a text are, a text that is unfilled, and one that is dedented.
-use Rattle.std.specs.Str.Lines.{strip_carriage_return}
-use Rattle.std.{proofs.lemmas.Slice.Eq.bytes_eq-Decides, specs.Prelude.slice_index_or}
+use Rattle.std.proofs.{Common.slice_index_or, lemmas.Slice.Eq.bytes_eq-Decides}
 use Rattle.textwrap.proofs.Common.{common_prefix, EndedLine, joined_text, line_prefix, margin_of}
-use Rattle.textwrap.proofs.Text.Unfilling.{common_prefix-begins, line_prefix-begins}
-use Rattle.textwrap.specs.Indentation.{without_margin}
-use Rattle.textwrap.specs.Refilling.{added_ending, has_text, without_indents}
-use Rattle.textwrap_calls.proofs.Common.{All-head, filter, flat_map, List, StartsWith, ℕ, ◌&&◌, ◌≤◌}
-use Rattle.textwrap_calls.proofs.Common.{[], Bool, drop, false, inl, map, sym, ◌++◌, ◌+◌, ◌-◌, ◌≡◌}
-use Rattle.textwrap_calls.proofs.Common.{ap, arith, cases_Bool, IsUtf8, join_with, take, true, ◌==◌}
-use Rattle.textwrap_calls.proofs.Common.{chars, dedented, ending_bytes-some, eqb-true, length-take}
-use Rattle.textwrap_calls.proofs.Common.{cond, length, length-append, length-drop, refl, subst, ◌∙◌}
-use Rattle.textwrap_calls.proofs.Common.{ending_bytes, flat, inr, is_blank_line, take_all, ◌*◌, ◌∷◌}
-use Rattle.textwrap_calls.proofs.Common.{length-map, slice_index, take-append-drop, unfilled_parts}
-use Rattle.textwrap_calls.proofs.Lengths.Sums.{flat-each, texts-joined}
-use Rattle.textwrap_text.proofs.Common.{blank, encode_utf8_all, ends_with, last, nat_eq, take_more}
-use Rattle.textwrap_text.proofs.TextLines.{by-lines, lines-front, lines-made, lines-whole}
-use Rattle.textwrap_text.proofs.TextLines.{ended_lines-front, ended_lines-texts, last-free, made_of}
-use Rattle.textwrap_text.proofs.{Common.{lines, starts_with_length}, Texts.{ascii_seam, cut_text}}
-use Rattle.textwrap_text.proofs.{Lists.Elements.flat-map, TextLines.{ended_lines-whole, texts_of}}
+use Rattle.textwrap.proofs.Common.{without_margin, added_ending, has_text, All-head, filter}
+use Rattle.textwrap.proofs.Common.{flat_map, List, StartsWith, ℕ, ◌≤◌, [], Bool, drop, false, inl}
+use Rattle.textwrap.proofs.Common.{map, sym, ◌++◌, ◌+◌, ◌-◌, ◌≡◌, ap, arith, IsUtf8, join_with}
+use Rattle.textwrap.proofs.Common.{take, true, ◌==◌, chars, dedented, ending_bytes-some, cond}
+use Rattle.textwrap.proofs.Common.{length, length-append, refl, subst, ◌∙◌, ending_bytes, flat, inr}
+use Rattle.textwrap.proofs.Common.{is_blank_line, take_all, ◌*◌, ◌∷◌, length-map, take-append-drop}
+use Rattle.textwrap.proofs.Common.{blank, encode_utf8_all, ends_with, nat_eq, take_more, by-lines}
+use Rattle.textwrap.proofs.Common.{ended_lines-texts, made_of, lines, starts_with_length, texts_of}
+use Rattle.textwrap.proofs.{Common.ended_lines, Text.Unfilling.common_prefix-begins}
+use Rattle.textwrap.{proofs.Text.Unfilling.line_prefix-begins, specs.Refilling.without_indents}
+use Rattle.textwrap_calls.proofs.{Common.unfilled_parts, Lengths.Sums.{flat-each, texts-joined}}
+use Rattle.textwrap_text.proofs.Common.{strip_carriage_return, ◌&&◌, cases_Bool, eqb-true}
+use Rattle.textwrap_text.proofs.Common.{length-take, length-drop, slice_index, last}
+use Rattle.textwrap_text.proofs.Lists.{Elements.flat-map, Parts.{last-append, last-cons}}
+use Rattle.textwrap_text.proofs.TextLines.{lines-front, lines-made, lines-whole, ended_lines-front}
+use Rattle.textwrap_text.proofs.TextLines.{last-free, ended_lines-whole}
+use Rattle.textwrap_text.proofs.Texts.{ascii_seam, cut_text}
 use Rattle.textwrap_text.specs.declared.line_ending.LineEnding.{LineEnding, TheVariants.{CRLF, LF}}
-use Rattle.textwrap_text.{proofs.Lists.Parts.{last-append, last-cons}, specs.TextLines.ended_lines}
 
 -- ---- how long the lines of a text are together
 

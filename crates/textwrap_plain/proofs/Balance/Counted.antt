@@ -1,16 +1,15 @@
 -- How many lines a text takes: as many as stand somewhere, and these are as many as a number says.
-use Rattle.textwrap_layout.proofs.Common.{AreGroups, AreWordsCut, Line, LineParts, Settings}
-use Rattle.textwrap_layout.proofs.Common.{cut_lines, line_from, text_cuts}
-use Rattle.textwrap_layout.{proofs.Text.Sinks.length-places_of, specs.LentPlaces.reported_line}
-use Rattle.textwrap_layout.specs.{Places.ArePlacedLines, declared.places.Place.Place}
+use Rattle.textwrap_layout.proofs.Common.{AreWordsCut, text_cuts, reported_line, ArePlacedLines}
+use Rattle.textwrap_layout.{proofs.Text.Sinks.length-places_of, specs.declared.places.Place.Place}
+use Rattle.textwrap_lines.proofs.Common.{AreGroups, Line, LineParts, Settings, cut_lines, line_from}
+use Rattle.textwrap_lines.proofs.Common.{Bool, IsUtf8, List, [], ap, arith, ending_bytes, false}
+use Rattle.textwrap_lines.proofs.Common.{length, length-append, length-map, map, nat_lt}
+use Rattle.textwrap_lines.proofs.Common.{paragraphs_of, refl, sym, ℕ, ◌++◌, ◌+◌, ◌<◌, ◌^◌, ◌||◌}
+use Rattle.textwrap_lines.proofs.Common.{◌∷◌, ◌≡◌, flat, ByFirstFit, WordText, AreCuts}
 use Rattle.textwrap_plain.proofs.{Balance.Counts.IsInside, Balance.Counts.text-lines, Split.AreAt}
 use Rattle.textwrap_plain.specs.{Balance.TakesLines, Balance.at_width, Options.DividesFrom}
-use Rattle.textwrap_text.proofs.Common.{Bool, IsUtf8, List, [], ap, arith, ending_bytes, false}
-use Rattle.textwrap_text.proofs.Common.{length, length-append, length-map, map, nat_lt}
-use Rattle.textwrap_text.proofs.Common.{paragraphs_of, refl, sym, ℕ, ◌++◌, ◌+◌, ◌<◌, ◌^◌, ◌||◌, ◌∷◌}
-use Rattle.textwrap_text.{proofs.Common.◌≡◌, proofs.Lists.Parts.flat, specs.LentText.as_len}
-use Rattle.textwrap_words.proofs.Common.{ByFirstFit, WordText}
-use Rattle.textwrap_words.specs.Cuts.{AreCuts, AreNext}
+use Rattle.textwrap_text.specs.LentText.{as_len}
+use Rattle.textwrap_words.proofs.Common.{AreNext}
 
 -- ---- lines are as many as the places where they stand
 
@@ -68,8 +67,6 @@ counted words cut points cuts inside settings text width count lines places utf8
   placed.are,
   omega (
     arith,
-    is,
-    short,
     length-map places reported_line,
     placed-many (at_width settings width) _ text lines places placed,
     text-lines words cut points cuts inside ByFirstFit (at_width settings width) text lines utf8

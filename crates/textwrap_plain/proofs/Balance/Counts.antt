@@ -1,42 +1,39 @@
 -- How many pieces and lines a paragraph and a text have at most.
-use Rattle.std.proofs.lemmas.{Grind.flat_map-append, Str.length-le-encodes}
-use Rattle.std.specs.{List.slice_range, Prelude.None, Prelude.Some, Prelude.chars, Str.chars}
-use Rattle.textwrap_base.proofs.{Common.IsDivision, Division.Map.IsDividedBy-whole}
+use Rattle.std.{proofs.Common.chars, proofs.lemmas.Str.length-le-encodes, specs.List.slice_range}
+use Rattle.textwrap.proofs.Common.{chars, ending_bytes-some}
+use Rattle.textwrap_base.proofs.Division.Map.{IsDividedBy-whole}
 use Rattle.textwrap_hyphens.specs.{Splitting.is_split_point, Table.held}
-use Rattle.textwrap_layout.proofs.Common.{AreGroups, AreParagraphParts, AreTextLines, AreWordsCut}
-use Rattle.textwrap_layout.proofs.Common.{Line, LineParts, Settings, broken_pieces_of, covered_by}
-use Rattle.textwrap_layout.proofs.Common.{empty_word, fitting_pieces, front_pieces, is_whole, room_of}
-use Rattle.textwrap_layout.proofs.Common.{line_from, parts_from, widths_of}
-use Rattle.textwrap_layout.proofs.Paragraph.{LeftOff.laid_out-cases, Pieces.AreWordsCut-texts}
-use Rattle.textwrap_layout.proofs.{Paragraph.Pieces.pieces-tile, Text.Paragraphs.ending_bytes-some}
-use Rattle.textwrap_layout.proofs.Text.Paragraphs.{join-paragraphs_of, paragraphs_of-utf8}
+use Rattle.textwrap_layout.proofs.Common.{IsDivision, AreWordsCut, broken_pieces_of, covered_by}
+use Rattle.textwrap_layout.proofs.Common.{empty_word, fitting_pieces, front_pieces, room_of}
+use Rattle.textwrap_layout.proofs.Paragraph.Pieces.{AreWordsCut-texts}
+use Rattle.textwrap_layout.proofs.Text.Paragraphs.{join-paragraphs_of}
+use Rattle.textwrap_lines.proofs.Common.{None, Some, AreGroups, AreParagraphParts, AreTextLines, Line}
+use Rattle.textwrap_lines.proofs.Common.{LineParts, Settings, is_whole, line_from, parts_from}
+use Rattle.textwrap_lines.proofs.Common.{widths_of, laid_out-cases, pieces-tile, paragraphs_of-utf8}
+use Rattle.textwrap_lines.proofs.Common.{All, All-cons, All-head, All-nil, All-tail, All-weaker, Bool}
+use Rattle.textwrap_lines.proofs.Common.{IsUtf8, List, [], ap, arith, cases_Bool, cond, drop}
+use Rattle.textwrap_lines.proofs.Common.{ending_bytes, false, flat_map, inl, inr, join_with, length}
+use Rattle.textwrap_lines.proofs.Common.{length-append, length-drop, length-map, map, nat_lt}
+use Rattle.textwrap_lines.proofs.Common.{paragraphs_of, refl, slice_range, subst, suc, sym, true}
+use Rattle.textwrap_lines.proofs.Common.{zero, ℕ, ◌++◌, ◌+◌, ◌-◌, ◌<◌, ◌||◌, ◌∙◌, ◌∷◌, ◌≡◌, ◌≢◌, ◌≤◌}
+use Rattle.textwrap_lines.proofs.Common.{flat, length-slice, Algorithm, ByFirstFit, ByOptimalFit}
+use Rattle.textwrap_lines.proofs.Common.{IsDividedBy, WordText, broken_word, sizes_of, tile_of, tiled}
+use Rattle.textwrap_lines.proofs.Common.{word_of, AreTexts, IsMeasured, AreCuts, piece}
 use Rattle.textwrap_lines.proofs.Paragraph.KeepsTo.{parts_from-pieces}
 use Rattle.textwrap_lines.proofs.Text.Groups.{groups-map, groups-tile}
 use Rattle.textwrap_plain.proofs.Split.{AreAt, pieces-from, split-computed}
 use Rattle.textwrap_plain.specs.Options.{DividesFrom, points_by, split_by_points}
 use Rattle.textwrap_plain.specs.declared.options.PlainSplitter.{PlainSplitter}
 use Rattle.textwrap_plain.specs.declared.options.PlainSplitter.TheVariants.{BuiltIn, Dictionary}
-use Rattle.textwrap_text.proofs.Common.{All, All-cons, All-head, All-map, All-nil, All-tail}
-use Rattle.textwrap_text.proofs.Common.{All-weaker, Bool, IsUtf8, List, [], ap, arith, cases_Bool}
-use Rattle.textwrap_text.proofs.Common.{chunks, cond, drop, encodes-chars, ending_bytes, false}
-use Rattle.textwrap_text.proofs.Common.{filter, flat_map, inl, inr, join_with, length}
-use Rattle.textwrap_text.proofs.Common.{length-append, length-drop, length-map, lines, map, nat_lt}
-use Rattle.textwrap_text.proofs.Common.{ne_eqb, paragraphs_of, range_with_len, refl, slice_range}
-use Rattle.textwrap_text.proofs.Common.{subst, suc, sym, true, units, zero, ℕ, ◌++◌, ◌+◌, ◌-◌, ◌<◌}
-use Rattle.textwrap_text.proofs.Common.{◌||◌, ◌∙◌, ◌∷◌, ◌≡◌, ◌≢◌, ◌≤◌}
-use Rattle.textwrap_text.proofs.Lists.Parts.{flat, length-slice, some_from_nonempty}
+use Rattle.textwrap_text.proofs.Common.{flat_map-append, All-map, chunks, encodes-chars, filter}
+use Rattle.textwrap_text.proofs.Common.{lines, ne_eqb, range_with_len, units, taken_at, units_past}
 use Rattle.textwrap_text.proofs.Units.Chunks.{AreChunks-chunks}
-use Rattle.textwrap_text.specs.Units.{taken_at, units_past}
-use Rattle.textwrap_words.proofs.Common.{Algorithm, ByFirstFit, ByOptimalFit, IsDividedBy, WordText}
-use Rattle.textwrap_words.proofs.Common.{broken_texts, broken_word, pieces_with}
-use Rattle.textwrap_words.proofs.Common.{sizes_of, split_pieces, tile_of, tiled, word_of}
-use Rattle.textwrap_words.proofs.Word.Breaking.{AreBroken-exists}
-use Rattle.textwrap_words.proofs.Word.Pieces.{AreSplitWords, AreTexts, split-measured, split-tile}
-use Rattle.textwrap_words.proofs.Word.Words.{All-each, IsMeasured, tile_of-word_of}
-use Rattle.textwrap_words.specs.Cuts.{AreCuts, AreInnerCuts, AreLaterCuts, AreNext, parts_between}
-use Rattle.textwrap_words.specs.Cuts.{parts_onward}
-use Rattle.textwrap_words.specs.WordSplitters.{cut_penalty, is_hyphen_point, split_from}
-use Rattle.textwrap_words.specs.Words.{piece}
+use Rattle.textwrap_words.proofs.Common.{some_from_nonempty, broken_texts, pieces_with, split_pieces}
+use Rattle.textwrap_words.proofs.Common.{AreInnerCuts, AreNext, parts_between, parts_onward}
+use Rattle.textwrap_words.proofs.Common.{cut_penalty, is_hyphen_point, split_from}
+use Rattle.textwrap_words.proofs.Word.{Breaking.AreBroken-exists, Pieces.AreSplitWords}
+use Rattle.textwrap_words.proofs.Word.{Pieces.split-measured, Pieces.split-tile, Words.All-each}
+use Rattle.textwrap_words.{proofs.Word.Words.tile_of-word_of, specs.Cuts.AreLaterCuts}
 use Rattle.textwrap_words.specs.declared.pieces.BuiltInSplitter.TheVariants.{HyphenSplitter}
 use Rattle.textwrap_words.specs.declared.pieces.BuiltInSplitter.TheVariants.{NoHyphenation}
 
@@ -123,12 +120,7 @@ split-cover w start [] within are =
 split-cover w start (point ∷ points) within ((after, inside), rest) =
     All-cons CoversSome (piece (slice_range w.word start point) [] (cut_penalty w.word point))
     (split_from w point points)
-    (omega (
-      arith,
-      after,
-      length-slice w.word start point (omega (arith, inside)),
-      length-append {A = ℕ},
-    ))
+    (omega (arith, length-slice w.word start point (omega (arith, inside)), length-append {A = ℕ}))
     (split-cover w point points (omega (arith, inside, length-append w.word w.whitespace)) rest)
 
 -- such are those of the offsets from one on that pass a test
@@ -240,7 +232,6 @@ groups-size is_later (parts ∷ groups) are =
       omega (
         arith,
         flat-plus (λ (p : LineParts). p.slice) (λ p. p.left_off) parts,
-        rest.1,
         ap length (flat_map-append (λ (p : LineParts). p.slice) parts (flat groups)),
         length-append {A = ℕ},
       ),

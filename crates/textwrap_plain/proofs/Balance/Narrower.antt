@@ -1,26 +1,24 @@
 -- At a wider width first fit takes no more lines of a text, where all its pieces have room.
 use Rattle.std.proofs.Math.Nat.{le-max_right}
-use Rattle.textwrap_base.proofs.Common.{AllFit, IsGreedy, Sizes, closed_width, line_width}
 use Rattle.textwrap_base.proofs.Division.Greedy.{greedy_fewest, line_width-later}
-use Rattle.textwrap_layout.proofs.Common.{IsDivision, broken_pieces_of, fitting_pieces, front_pieces}
-use Rattle.textwrap_layout.proofs.Common.{room_of}
+use Rattle.textwrap_layout.proofs.Common.{AllFit, IsGreedy, Sizes, line_width, IsDivision}
+use Rattle.textwrap_layout.proofs.Common.{broken_pieces_of, fitting_pieces, front_pieces, room_of}
 use Rattle.textwrap_layout.specs.Paragraph.{IsLaidOut}
-use Rattle.textwrap_lines.proofs.Common.{All, All-cons, All-head, All-nil, All-tail, All-weaker}
-use Rattle.textwrap_lines.proofs.Common.{AreGroups, AreParagraphParts, Bool, ByFirstFit, Line}
-use Rattle.textwrap_lines.proofs.Common.{LineParts, List, Settings, WordText, [], all-left}
-use Rattle.textwrap_lines.proofs.Common.{all-right, and_parts, ap, arith, cases_Bool}
-use Rattle.textwrap_lines.proofs.Common.{cond, false, first_width, flat, flat_map, indent_of, inl}
-use Rattle.textwrap_lines.proofs.Common.{inr, is_whole, laid_out-cases, later_width, le-ltb, length}
-use Rattle.textwrap_lines.proofs.Common.{length-append, length-map, line_from, lt-ltb, ltb-true}
-use Rattle.textwrap_lines.proofs.Common.{nat_lt, paragraphs_of, parts_from, refl, sizes_of, subst}
-use Rattle.textwrap_lines.proofs.Common.{suc, true, widths_of, word_of, zero, ℕ, ◌&&◌, ◌++◌, ◌+◌}
-use Rattle.textwrap_lines.proofs.Common.{◌-◌, ◌<◌, ◌==◌, ◌||◌, ◌∙◌, ◌∷◌, ◌≡◌, ◌≤◌}
+use Rattle.textwrap_lines.proofs.Common.{closed_width, All, All-cons, All-head, All-nil, All-tail}
+use Rattle.textwrap_lines.proofs.Common.{All-weaker, AreGroups, AreParagraphParts, Bool, ByFirstFit}
+use Rattle.textwrap_lines.proofs.Common.{Line, LineParts, List, Settings, WordText, [], all-left}
+use Rattle.textwrap_lines.proofs.Common.{all-right, and_parts, ap, arith, cases_Bool, cond, false}
+use Rattle.textwrap_lines.proofs.Common.{first_width, flat, flat_map, indent_of, inl, inr, is_whole}
+use Rattle.textwrap_lines.proofs.Common.{laid_out-cases, later_width, le-ltb, length, length-append}
+use Rattle.textwrap_lines.proofs.Common.{length-map, line_from, lt-ltb, ltb-true, nat_lt}
+use Rattle.textwrap_lines.proofs.Common.{paragraphs_of, parts_from, refl, sizes_of, subst, suc, true}
+use Rattle.textwrap_lines.proofs.Common.{widths_of, word_of, zero, ℕ, ◌&&◌, ◌++◌, ◌+◌, ◌-◌, ◌<◌}
+use Rattle.textwrap_lines.proofs.Common.{◌==◌, ◌||◌, ◌∙◌, ◌∷◌, ◌≡◌, ◌≤◌}
 use Rattle.textwrap_lines.proofs.{Paragraph.KeepsTo.parts_from-pieces, Text.Groups.text_one}
 use Rattle.textwrap_plain.proofs.{Split.pieces-from, Unique.division_one-from}
 use Rattle.textwrap_plain.specs.Balance.{AreFirstFitAt, HasRoom, at_width, whole_pieces}
-use Rattle.textwrap_plain.specs.{Balance.wider_indent, Options.DividesFrom, Options.split_by_points}
-use Rattle.textwrap_text.proofs.Common.{add-one, and_from, text_width}
-use Rattle.textwrap_text.proofs.Numbers.{some_later}
+use Rattle.textwrap_plain.specs.{Balance.wider_indent, Options.{DividesFrom, split_by_points}}
+use Rattle.textwrap_text.proofs.{Common.{add-one, and_from, text_width}, Numbers.some_later}
 
 -- ---- lines that fit, fit wider ones
 
@@ -32,7 +30,6 @@ widths-wider first later other last (suc number) one more =
       arith,
       line_width-later first later number,
       line_width-later other last number,
-      more,
     ))
 
 module _ {X : Type 0} (sizes : X → Sizes) (widths others : List ℕ)
@@ -268,7 +265,6 @@ module _ (settings : Settings) (words : List ℕ → List WordText) (points : Li
       (ClosesWithin (later_width (at_width settings v)))
       (λ p keeps. omega (
         arith,
-        keeps,
         le-max_right (text_width settings.initial_indent) (text_width settings.subsequent_indent),
       )) (whole_pieces settings words points text) room.pieces)
 

@@ -1,12 +1,11 @@
 -- The widest of words one after another, and at which widths all have room.
-use Rattle.textwrap_base.proofs.Common.{closed_width}
-use Rattle.textwrap_layout.proofs.Common.{Settings}
+use Rattle.std.proofs.Common.{max}
+use Rattle.textwrap_lines.proofs.Common.{closed_width, Settings, All, All-cons, All-head, All-nil}
+use Rattle.textwrap_lines.proofs.Common.{All-tail, List, [], ap, arith, length, refl, ℕ, ◌++◌, ◌+◌}
+use Rattle.textwrap_lines.proofs.Common.{◌∷◌, ◌≡◌, ◌≤◌, WordText, sizes_of, HasNoPenalty}
+use Rattle.textwrap_lines.proofs.Common.{stand_from}
 use Rattle.textwrap_plain.specs.Balance.{HasRoom, whole_pieces, wider_indent}
 use Rattle.textwrap_plain.specs.Widest.{widest_of_words, widest_place}
-use Rattle.textwrap_text.proofs.Common.{All, All-cons, All-head, All-nil, All-tail, List, [], ap}
-use Rattle.textwrap_text.proofs.Common.{arith, length, max, refl, ℕ, ◌++◌, ◌+◌, ◌∷◌, ◌≡◌, ◌≤◌}
-use Rattle.textwrap_words.proofs.{Common.WordText, Common.sizes_of, Word.Words.HasNoPenalty}
-use Rattle.textwrap_words.specs.Pieces.{stand_from}
 
 widest-append : (ws vs : List WordText) → widest_of_words (ws ++ vs) ≡ max (widest_of_words ws) (widest_of_words vs)
 widest-append [] vs = omega arith

@@ -95,11 +95,6 @@ module _ (settings : Settings) (words : List ℕ → List WordText) (points : Li
             arith,
             lines-fewer settings words points text other middle narrow lines within enough.room
                 narrow_are are,
-            same,
-            is,
-            other_is,
-            more,
-            fewer,
           ))
         ]
 
@@ -137,7 +132,6 @@ module _ (settings : Settings) (words : List ℕ → List WordText) (points : Li
         let (found, whole, found_are, whole_are, fewer) = enough.lines in
         omega (
           arith,
-          fewer,
           ap length (lines-same settings words points text width lines found are found_are),
           ap length
               (lines-same settings words points text settings.width others whole other_are whole_are),

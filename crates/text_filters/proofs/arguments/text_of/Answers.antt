@@ -1,6 +1,5 @@
+use Rattle.clap.{proofs.WalkLemmas.first_value-rows, specs.Words.found_of}
 use Rattle.std.proofs.Common.{◌∙◌}
-use Rattle.clap.specs.Words.{found_of}
-use Rattle.clap.proofs.WalkLemmas.{first_value-rows}
 use Rattle.text_filters.proofs.arguments.text_of.Goals as goal
 
 pub returns : goal.returns

@@ -1,7 +1,5 @@
-use Rattle.std.proofs.Common.{[], ◌∙◌, ap, map, refl}
-use Rattle.std.specs.Prelude.{unwrap_or}
-use Rattle.clap.specs.Words.{found_of}
-use Rattle.clap.proofs.WalkLemmas.{raw_values-rows}
+use Rattle.clap.{proofs.WalkLemmas.raw_values-rows, specs.Words.found_of}
+use Rattle.std.proofs.Common.{[], ◌∙◌, ap, map, refl, unwrap_or}
 use Rattle.text_filters.proofs.CommandLemmas.{unwrap_or-texts}
 use Rattle.text_filters.proofs.arguments.texts_of.Goals as goal
 

@@ -1,6 +1,4 @@
-use Rattle.std.proofs.Common.{refl}
-use Rattle.std.proofs.KnownBytes.{Keeps-refl}
-use Rattle.std.specs.String.{string_bytes}
+use Rattle.std.{proofs.Common.refl, proofs.KnownBytes.Keeps-refl, specs.String.string_bytes}
 use Rattle.text_filters.proofs.InputLemmas.{checks-unwritten, compared-other, compared-same}
 use Rattle.text_filters.proofs.inputs.check_input.Goals as goal
 

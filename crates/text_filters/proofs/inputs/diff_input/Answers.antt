@@ -1,9 +1,5 @@
-use Rattle.std.proofs.Common.{false, subst, sym, true, refl}
-use Rattle.std.proofs.Math.Bool.{and-false, and-true}
-use Rattle.std.proofs.KnownBytes.{Keeps-refl}
-use Rattle.std.specs.Io.KnownBytes.{Appends}
-use Rattle.std.specs.String.{string_bytes}
-use Rattle.textwrap_program.specs.Filling.{WritesPrefix}
+use Rattle.std.proofs.{Common.{false, sym, true, refl}, KnownBytes.Keeps-refl}
+use Rattle.std.{proofs.Math.Bool.{and-false, and-true}, specs.String.string_bytes}
 use Rattle.text_filters.proofs.InputLemmas.{IsDiffText-of, compared-other, compared-same}
 use Rattle.text_filters.proofs.InputLemmas.{differs-unwritten}
 use Rattle.text_filters.proofs.inputs.diff_input.Goals as goal
@@ -28,9 +24,7 @@ pub returns-in-Ok-write_output-clause-treated : goal.returns-in-Ok-write_output-
 returns-in-Ok-write_output-clause-treated g c =
     let filtered = c.in_ok-filtered.filtered in
     let input = filtered.input.items in
-    let output = string_bytes filtered.output.text in
-    let old = g.W.WriteWhole.contents c.args.writer.now in
-    let new = g.W.WriteWhole.contents c.write_output.new.writer in (
+    let output = string_bytes filtered.output.text in (
       input,
       output,
       true,
@@ -41,7 +35,7 @@ returns-in-Ok-write_output-clause-treated g c =
           c.in-Ok.text.items,
           IsDiffText-of c.args.name.now input output _ _ c.in-Ok.text.items c.deref.ensures.value
               c.as_bytes-2.ensures.value c.in-Ok.ensures,
-          subst (Appends old new) c.deref-2.ensures.value c.in-Ok-write_output.ensures.ok,
+          rw c.deref-2.ensures.value at c.in-Ok-write_output.ensures.ok,
         ),
       ),
       sym (and-true c.args.counts),
@@ -61,5 +55,5 @@ returns-clause-treated g c =
     (compared-other _ _ _ _ c.as_slice.ensures.value c.as_bytes.ensures.value c.if-eq.ensures)
     (IsDiffText-of c.args.name.now input output _ _ c.in-Ok.text.items c.deref.ensures.value
     c.as_bytes-2.ensures.value c.in-Ok.ensures)
-    (subst (WritesPrefix old new) c.deref-2.ensures.value c.in-Err.ensures.prefix)
+    (rw c.deref-2.ensures.value at c.in-Err.ensures.prefix)
     c.in-Err.ensures.only_output

@@ -1,6 +1,3 @@
-use Rattle.std.proofs.Common.{subst}
-use Rattle.text_filters.specs.Messages.{about_view, fault_texts, message_line}
-use Rattle.text_filters.specs.Program.{Says}
 use Rattle.text_filters.proofs.MessageLemmas.{says-result}
 use Rattle.text_filters.proofs.program.says.Goals as goal
 
@@ -11,8 +8,6 @@ returns-in-Ok g c =
 
 pub returns-in-Err : goal.returns-in-Err
 returns-in-Err g c =
-    rw c.in-Err.is (subst (λ name. Says g.M.WriteWhole.faults (message_line (about_view c.args.about.now) name (fault_texts c.in-Err.fault))
-    (g.M.WriteWhole.contents c.args.messages.now) (g.M.WriteWhole.contents c.write_fault.new.messages)
-    c.is_ok-in-Err.result) c.subject.ensures
+    rw c.in-Err.is (rw c.subject.ensures at
     (says-result g.M.WriteWhole.faults _ _ _ c.write_fault.result c.is_ok-in-Err.result
     c.is_ok-in-Err.ensures.value c.write_fault.ensures.ok c.write_fault.ensures.prefix c.write_fault.ensures.failed))

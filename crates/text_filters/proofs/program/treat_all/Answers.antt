@@ -1,10 +1,8 @@
 use Rattle.std.proofs.Common.{◌+◌, ◌-◌, ◌∙◌, ◌≡◌, ◌≤◌, ◌^◌, arith, drop, false, refl, subst, sym, true}
-use Rattle.text_filters.specs.Program.{all_well, joined}
-use Rattle.text_filters.specs.declared.program.Ending.{Ending}
-use Rattle.text_filters.specs.Messages.{about_view}
-use Rattle.text_filters.specs.Streams.{faults_of}
 use Rattle.text_filters.proofs.TreatedInputs.{HasTreated-all, HasTreated-closed, HasTreated-next}
 use Rattle.text_filters.proofs.TreatedInputs.{HasTreated-none, texts}
+use Rattle.text_filters.specs.{Messages.about_view, Program.all_well, Program.joined}
+use Rattle.text_filters.specs.{Streams.faults_of, declared.program.Ending.Ending}
 use Rattle.text_filters.proofs.program.treat_all.Goals as goal
 
 few : (ending : Ending) → ending ≡ all_well → ending.replaced ≤ 2 ^ 64 - 1
@@ -19,13 +17,7 @@ loop-name-init g c =
       few c.well-ending.result c.well-ending.ensures,
       HasTreated-none (faults_of g.R.ReadWhole.faults g.W.WriteWhole.faults g.M.WriteWhole.faults) (about_view run.about) (g.T.Filter.work run.filter.now) run.inputs.mode (texts run.inputs.names.now)
           (texts run.inputs.names.now)
-          (record {
-            unread = g.R.ReadWhole.remaining c.args.reader.now;
-            files = g.F.Files.past c.args.files.now;
-            output = g.W.WriteWhole.contents c.args.output.now;
-            messages = g.M.WriteWhole.contents c.args.messages.now;
-          })
-          c.well-ending.result refl c.well-ending.ensures,
+          _ c.well-ending.result refl c.well-ending.ensures,
     )
 
 pub loop-name-preserved : goal.loop-name-preserved

@@ -1,7 +1,6 @@
 use Rattle.std.proofs.Common.{◌-◌, ◌≤◌, ◌^◌, drop, false}
-use Rattle.text_filters.specs.Messages.{about_view}
-use Rattle.text_filters.specs.Streams.{faults_of}
 use Rattle.text_filters.proofs.TreatedInputs.{HasTreated, texts}
+use Rattle.text_filters.specs.{Messages.about_view, Streams.faults_of}
 use Rattle.text_filters.proofs.program.treat_all.Given as goal
 
 abbrev pub invariant-loop-name : goal.invariant-loop-name

@@ -1,5 +1,4 @@
-use Rattle.std.proofs.KnownBytes.{Appends-trans}
-use Rattle.std.proofs.lemmas.Result.{on_err_weaker, on_ok_weaker}
+use Rattle.std.proofs.{KnownBytes.Appends-trans, lemmas.Result.{on_err_weaker, on_ok_weaker}}
 use Rattle.textwrap_program.proofs.WriteLemmas.{OnErr-from, WritesPrefix-after, WritesPrefix-longer}
 use Rattle.text_filters.proofs.program.write_message.Goals as goal
 

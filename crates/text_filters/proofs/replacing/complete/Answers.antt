@@ -1,5 +1,4 @@
-use Rattle.std.proofs.Common.{◌∙◌, subst, sym, Some}
-use Rattle.std.specs.Io.KnownBytes.{Appends}
+use Rattle.std.{proofs.Common.{◌∙◌, subst, sym, Some}, specs.Io.KnownBytes.Appends}
 use Rattle.text_files.proofs.FileLemmas.{PutsEmpty-put}
 use Rattle.text_files.specs.Files.{HasRights, IsGivenRights, PutsEmpty, FolderSteps}
 use Rattle.text_filters.proofs.replacing.complete.Goals as goal

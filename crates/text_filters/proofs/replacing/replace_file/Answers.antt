@@ -1,8 +1,6 @@
-use Rattle.std.proofs.Common.{inl, inr, refl, subst}
-use Rattle.std.specs.String.{string_bytes}
+use Rattle.std.{proofs.Common.{inl, inr, refl}, specs.String.string_bytes}
 use Rattle.text_filters.proofs.InputLemmas.{ReadsText-of, compared-other, compared-same}
 use Rattle.text_filters.proofs.InputLemmas.{replaces-unread}
-use Rattle.text_files.specs.Files.{ReplacesPlace}
 use Rattle.text_filters.proofs.replacing.replace_file.Goals as goal
 
 pub returns-in-Err-clause-replaced : goal.returns-in-Err-clause-replaced
@@ -31,10 +29,7 @@ returns-then-eq-clause-replaced g c =
 pub returns-in-Ok-put_bytes-clause-replaced : goal.returns-in-Ok-put_bytes-clause-replaced
 returns-in-Ok-put_bytes-clause-replaced g c =
     let filtered = c.in-Ok.filtered in
-    let original = c.in_ok-original.original in
-    let name = c.args.name.now in
-    let old = g.F.Files.past c.args.files.now in
-    let new = g.F.Files.past c.put_bytes.new.files in (
+    let original = c.in_ok-original.original in (
       g.F.Input.Read.remaining c.read_filtered.new.reader,
       filtered.input.items,
       string_bytes filtered.output.text,
@@ -45,11 +40,8 @@ returns-in-Ok-put_bytes-clause-replaced g c =
         (
           g.F.Files.place original.node,
           c.in_ok-original.ensures.original,
-          subst (λ past. ReplacesPlace (g.F.Files.place original.node) (string_bytes filtered.output.text)
-              past new) c.open_regular.ensures.kept
-              (subst (λ bytes. ReplacesPlace (g.F.Files.place original.node) bytes
-              (g.F.Files.past c.open_regular.new.files) new) c.as_bytes-2.ensures.value
-              c.in-Ok-put_bytes.ensures.ok),
+          rw c.open_regular.ensures.kept at
+              (rw c.as_bytes-2.ensures.value at c.in-Ok-put_bytes.ensures.ok),
         ),
         refl,
       ),

@@ -1,7 +1,6 @@
-use Rattle.std.proofs.Common.{sym, map}
-use Rattle.std.proofs.lemmas.Result.{IfOk-weaker}
 use Rattle.clap.specs.Words.{app_of}
 use Rattle.text_filters.proofs.CommandLemmas.{kinds-are, matches-are}
+use Rattle.textwrap_lines.proofs.Common.{sym, map, IfOk-weaker}
 use Rattle.text_filters.proofs.tool.matches_in.Goals as goal
 
 pub returns-clause-matches : goal.returns-clause-matches

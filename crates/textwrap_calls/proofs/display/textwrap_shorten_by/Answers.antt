@@ -1,7 +1,6 @@
-use Rattle.textwrap_calls.proofs.display.textwrap_shorten_by.Goals as goal
-use Rattle.textwrap_calls.proofs.Common.{says_yes, rules}
-use Rattle.textwrap_calls.proofs.RoomLemmas.{WritesText-answer}
+use Rattle.textwrap_calls.proofs.{Common.says_yes, Common.rules, RoomLemmas.WritesText-answer}
 use Rattle.textwrap_calls.specs.Display.{IsShort}
+use Rattle.textwrap_calls.proofs.display.textwrap_shorten_by.Goals as goal
 
 pub returns-in-Ok-clause-short : goal.returns-in-Ok-clause-short
 returns-in-Ok-clause-short c =

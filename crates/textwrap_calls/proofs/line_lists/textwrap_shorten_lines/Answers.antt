@@ -1,7 +1,5 @@
+use Rattle.textwrap_calls.proofs.{Common.◌∙◌, PlaceLemmas.rows-written, TextLemmas.short-by}
 use Rattle.textwrap_calls.proofs.line_lists.textwrap_shorten_lines.Goals as goal
-use Rattle.textwrap_calls.proofs.Common.{◌∙◌}
-use Rattle.textwrap_calls.proofs.PlaceLemmas.{rows-written}
-use Rattle.textwrap_calls.proofs.TextLemmas.{short-by}
 
 pub returns-in-Ok-place_shortened-clause-short : goal.returns-in-Ok-place_shortened-clause-short
 returns-in-Ok-place_shortened-clause-short c =

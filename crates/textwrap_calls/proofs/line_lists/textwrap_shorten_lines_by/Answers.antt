@@ -1,8 +1,6 @@
-use Rattle.textwrap_calls.proofs.line_lists.textwrap_shorten_lines_by.Goals as goal
-use Rattle.textwrap_calls.proofs.Common.{◌∙◌, ap}
+use Rattle.textwrap_calls.proofs.{Common.{◌∙◌, ap}, PlaceLemmas.rows-written, TextLemmas.short-by}
 use Rattle.textwrap_display.specs.declared.shortening.Shortening.{Shortening}
-use Rattle.textwrap_calls.proofs.PlaceLemmas.{rows-written}
-use Rattle.textwrap_calls.proofs.TextLemmas.{short-by}
+use Rattle.textwrap_calls.proofs.line_lists.textwrap_shorten_lines_by.Goals as goal
 
 pub returns-in-Ok-place_shortened-clause-short : goal.returns-in-Ok-place_shortened-clause-short
 returns-in-Ok-place_shortened-clause-short c =

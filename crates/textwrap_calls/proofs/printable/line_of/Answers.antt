@@ -1,7 +1,6 @@
-use Rattle.textwrap_calls.proofs.printable.line_of.Goals as goal
+use Rattle.std.proofs.Common.{ap, refl, take, ne_eqb}
 use Rattle.textwrap_calls.proofs.PrintableLines.{line-refilled, only-line, only-line-filled}
-use Rattle.textwrap_calls.proofs.Common.{ap, refl, take}
-use Rattle.textwrap_text.proofs.Common.{ne_eqb}
+use Rattle.textwrap_calls.proofs.printable.line_of.Goals as goal
 
 pub returns-then-options-ne0-clause-line : goal.returns-then-options-ne0-clause-line
 returns-then-options-ne0-clause-line c =

@@ -1,10 +1,9 @@
-use Rattle.textwrap_calls.proofs.wrapping.wrap_text.Goals as goal
-use Rattle.textwrap_calls.proofs.Common.{[], arith, length, refl, rules, ◌<◌, ◌^◌}
-use Rattle.textwrap_calls.proofs.Common.{ArePlacedLines}
-use Rattle.textwrap_calls.proofs.Common.{options_settings}
+use Rattle.textwrap_calls.proofs.Common.{[], arith, length, refl, rules, ◌<◌, ◌^◌, ArePlacedLines}
+use Rattle.textwrap_calls.proofs.{Common.options_settings, Lengths.Bounds.lines-bounded}
+use Rattle.textwrap_calls.proofs.{PlaceLemmas.placed-shown, ReadOptions.as-read}
 use Rattle.textwrap_calls.proofs.RoomLemmas.{WritesLines-reported, WritesReported-counts}
-use Rattle.textwrap_calls.proofs.{Lengths.Bounds.lines-bounded, ReadOptions.as-read}
-use Rattle.textwrap_calls.proofs.{PlaceLemmas.placed-shown, RoomLemmas.ShowLines-length}
+use Rattle.textwrap_calls.proofs.RoomLemmas.{ShowLines-length}
+use Rattle.textwrap_calls.proofs.wrapping.wrap_text.Goals as goal
 
 pub returns-in-Ok-place_into-clause-wrapped : goal.returns-in-Ok-place_into-clause-wrapped
 returns-in-Ok-place_into-clause-wrapped c =

@@ -1,12 +1,8 @@
-use Rattle.std.proofs.Common.{ap₂}
-use Rattle.std.specs.Prelude.{None, Some, if◌then◌else◌}
-use Rattle.textwrap_text.proofs.Common.{nil_from_length}
-use Rattle.textwrap_dictionaries.proofs.Common.{[], append-nil, ap, arith, drop, length, length-drop, sym}
-use Rattle.textwrap_dictionaries.proofs.Common.{◌++◌, ◌∙◌, ◌≡◌}
 use Rattle.textwrap_dictionaries.proofs.Said.{made-written}
 use Rattle.textwrap_dictionaries.specs.Entries.{hyphens_past, letters_between}
-use Rattle.textwrap_patterns.specs.Places.{are_places}
-use Rattle.textwrap_patterns.specs.Listed.{exception_text}
+use Rattle.textwrap_patterns.specs.{Listed.exception_text, Places.are_places}
+use Rattle.textwrap_text.proofs.Common.{ap₂, None, Some, if◌then◌else◌, nil_from_length, [], append-nil}
+use Rattle.textwrap_text.proofs.Common.{ap, arith, drop, length, length-drop, sym, ◌++◌, ◌∙◌, ◌≡◌}
 use Rattle.textwrap_dictionaries.proofs.entries.exception_of.Goals as goal
 
 pub returns : goal.returns

@@ -1,4 +1,4 @@
-use Rattle.textwrap_dictionaries.proofs.Common.{drop, length, ◌++◌, ◌≡◌}
+use Rattle.textwrap_text.proofs.Common.{drop, length, ◌++◌, ◌≡◌}
 use Rattle.textwrap_dictionaries.specs.Entries.{hyphens_past, letters_between}
 use Rattle.textwrap_dictionaries.proofs.entries.exception_of.Given as goal
 

@@ -1,12 +1,7 @@
-use Rattle.std.specs.Prelude.{None, Some}
-use Rattle.std.proofs.lemmas.Bool.Decides.{Decides-eqb}
-use Rattle.std.proofs.lemmas.List.{take_rest}
-use Rattle.std.proofs.lemmas.Slice.Eq.{strip_prefix_is}
-use Rattle.textwrap_text.proofs.Common.{drop-drop}
-use Rattle.textwrap_dictionaries.proofs.Common.{ap, arith, drop, length, length-drop, sym, take, ◌-◌, ◌<◌}
-use Rattle.textwrap_dictionaries.proofs.Common.{◌∙◌}
-use Rattle.textwrap_dictionaries.proofs.Said.{mark-here, mark-later}
-use Rattle.textwrap_dictionaries.specs.Parsing.{after_mark}
+use Rattle.std.proofs.Common.{None, Some, drop-drop, ap, arith, drop, length, length-drop, sym, take, ◌-◌}
+use Rattle.std.proofs.Common.{◌<◌, ◌∙◌}
+use Rattle.std.proofs.lemmas.{Bool.Decides.Decides-eqb, List.take_rest, Slice.Eq.strip_prefix_is}
+use Rattle.textwrap_dictionaries.{proofs.Said.mark-here, proofs.Said.mark-later, specs.Parsing.after_mark}
 use Rattle.textwrap_dictionaries.proofs.parsing.after_mark.Goals as goal
 
 pub returns-in-Some : goal.returns-in-Some

@@ -1,5 +1,5 @@
-use Rattle.textwrap_dictionaries.proofs.Common.{◌≡◌, drop}
 use Rattle.textwrap_dictionaries.specs.Parsing.{after_mark}
+use Rattle.textwrap_text.proofs.Common.{drop, ◌≡◌}
 use Rattle.textwrap_dictionaries.proofs.parsing.after_mark.Given as goal
 
 abbrev pub invariant-loop-at : goal.invariant-loop-at

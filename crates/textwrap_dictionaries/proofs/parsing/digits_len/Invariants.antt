@@ -1,6 +1,5 @@
-use Rattle.std.specs.List.{prefix_len}
-use Rattle.textwrap_dictionaries.proofs.Common.{◌≡◌, ◌+◌, drop}
 use Rattle.textwrap_patterns.specs.Written.{is_digit}
+use Rattle.textwrap_text.proofs.Common.{prefix_len, ◌≡◌, ◌+◌, drop}
 use Rattle.textwrap_dictionaries.proofs.parsing.digits_len.Given as goal
 
 abbrev pub invariant-loop-i : goal.invariant-loop-i

@@ -1,6 +1,5 @@
 use Rattle.std.proofs.lemmas.Iterator.Splits.{YieldsList-from_lines}
-use Rattle.textwrap_text.proofs.Common.{YieldsList-end, ap}
-use Rattle.textwrap_dictionaries.proofs.Common.{map, ◌∙◌}
+use Rattle.textwrap_text.proofs.Common.{YieldsList-end, ap, map, ◌∙◌}
 use Rattle.textwrap_dictionaries.proofs.parsing.lines_of.Goals as goal
 
 pub returns : goal.returns

@@ -1,12 +1,8 @@
-use Rattle.std.proofs.Common.{ap₂, Bor}
-use Rattle.textwrap_text.proofs.Common.{drop_all}
-use Rattle.textwrap_dictionaries.proofs.Common.{[], ap, arith, drop, drop_more, get_or, length, List, map, subst, suc, sym, ℕ, ◌+◌, ◌≤◌}
-use Rattle.textwrap_dictionaries.proofs.Common.{◌≡◌, ◌∙◌}
-use Rattle.textwrap_dictionaries.proofs.Said.{lines-refused}
-use Rattle.textwrap_dictionaries.specs.Parsing.{Reads, and_then, end_fault, ended, line_said, parsed, reading_view}
-use Rattle.textwrap_dictionaries.specs.Parsing.{section_after}
-use Rattle.textwrap_dictionaries.specs.Parsing.{with_all, with_lines}
-use Rattle.textwrap_dictionaries.specs.declared.entries.Section.{Section}
+use Rattle.textwrap_dictionaries.{proofs.Said.lines-refused, specs.Parsing.Reads, specs.Parsing.and_then}
+use Rattle.textwrap_dictionaries.specs.Parsing.{end_fault, ended, line_said, parsed, reading_view, section_after}
+use Rattle.textwrap_dictionaries.specs.{Parsing.with_all, Parsing.with_lines, declared.entries.Section.Section}
+use Rattle.textwrap_text.proofs.Common.{ap₂, Bor, drop_all, [], ap, arith, drop, drop_more, get_or, length, List}
+use Rattle.textwrap_text.proofs.Common.{map, subst, suc, sym, ℕ, ◌+◌, ◌≤◌, ◌≡◌, ◌∙◌}
 use Rattle.textwrap_dictionaries.proofs.parsing.read.Goals as goal
 
 pub loop-i-preserved : goal.loop-i-preserved

@@ -1,4 +1,4 @@
-use Rattle.textwrap_dictionaries.proofs.Common.{◌≡◌, drop, map}
+use Rattle.textwrap_text.proofs.Common.{◌≡◌, drop, map}
 use Rattle.textwrap_dictionaries.specs.Parsing.{parsed, reading_view, with_lines}
 use Rattle.textwrap_dictionaries.proofs.parsing.read.Given as goal
 

@@ -1,6 +1,5 @@
 use Rattle.std.specs.Char.{is_whitespace}
-use Rattle.std.specs.List.{position_or_len}
-use Rattle.textwrap_dictionaries.proofs.Common.{◌≡◌, ◌+◌, drop}
+use Rattle.textwrap_text.proofs.Common.{position_or_len, ◌≡◌, ◌+◌, drop}
 use Rattle.textwrap_dictionaries.proofs.parsing.word_len.Given as goal
 
 abbrev pub invariant-loop-i : goal.invariant-loop-i

@@ -1,11 +1,7 @@
-use Rattle.std.proofs.lemmas.List.{take_rest}
-use Rattle.std.proofs.lemmas.List.Splits.{slice_split_first, slice_split_none}
-use Rattle.std.proofs.lemmas.List.Sums.{fails_before_first}
-use Rattle.std.specs.Char.{is_whitespace}
-use Rattle.std.specs.List.{slice_split}
-use Rattle.textwrap_text.proofs.Common.{ap₂, drop-drop}
-use Rattle.textwrap_dictionaries.proofs.Common.{[], append_assoc, ap, arith, drop, map, map-append}
-use Rattle.textwrap_dictionaries.proofs.Common.{sym, take, ◌+◌, ◌++◌, ◌∙◌, ◌∷◌, ◌≡◌}
+use Rattle.std.proofs.lemmas.List.{take_rest, Splits.slice_split_first, Splits.slice_split_none}
+use Rattle.std.{proofs.lemmas.List.Sums.fails_before_first, specs.Char.is_whitespace}
+use Rattle.textwrap_text.proofs.Common.{slice_split, ap₂, drop-drop, [], append_assoc, ap, arith}
+use Rattle.textwrap_text.proofs.Common.{drop, map, map-append, sym, take, ◌+◌, ◌++◌, ◌∙◌, ◌∷◌, ◌≡◌}
 use Rattle.textwrap_dictionaries.proofs.parsing.words_of.Goals as goal
 
 pub loop-len-preserved : goal.loop-len-preserved

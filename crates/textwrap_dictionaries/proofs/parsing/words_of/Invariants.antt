@@ -1,6 +1,5 @@
 use Rattle.std.specs.Char.{is_whitespace}
-use Rattle.std.specs.List.{position_or_len, slice_split}
-use Rattle.textwrap_dictionaries.proofs.Common.{◌≡◌, ◌++◌, length, map}
+use Rattle.textwrap_text.proofs.Common.{position_or_len, slice_split, ◌≡◌, ◌++◌, length, map}
 use Rattle.textwrap_dictionaries.proofs.parsing.words_of.Given as goal
 
 -- the words so far, and those of what is left, are all

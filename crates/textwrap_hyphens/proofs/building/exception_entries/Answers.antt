@@ -1,8 +1,7 @@
 use Rattle.std.proofs.lemmas.List.Elements.{All-push}
 use Rattle.textwrap_hyphens.proofs.Common.{[], All, ap, length, map, map-append, subst, sym, ◌++◌, ◌∙◌, ◌∷◌}
 use Rattle.textwrap_hyphens.specs.Building.{exception_of}
-use Rattle.textwrap_patterns.specs.Listed.{exception_view}
-use Rattle.textwrap_patterns.specs.Places.{AreInnerPlaces}
+use Rattle.textwrap_patterns.specs.{Listed.exception_view, Places.AreInnerPlaces}
 use Rattle.textwrap_patterns.specs.declared.entries.TrieEntry.{TrieEntry}
 use Rattle.textwrap_hyphens.proofs.building.exception_entries.Goals as goal
 

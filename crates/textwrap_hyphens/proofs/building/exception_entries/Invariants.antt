@@ -1,7 +1,5 @@
-use Rattle.textwrap_hyphens.proofs.Common.{All, length, map, ◌≡◌}
-use Rattle.textwrap_hyphens.specs.Building.{exception_of}
-use Rattle.textwrap_patterns.specs.Listed.{exception_view}
-use Rattle.textwrap_patterns.specs.Places.{AreInnerPlaces}
+use Rattle.textwrap_hyphens.{proofs.Common.{All, length, map, ◌≡◌}, specs.Building.exception_of}
+use Rattle.textwrap_patterns.specs.{Listed.exception_view, Places.AreInnerPlaces}
 use Rattle.textwrap_hyphens.proofs.building.exception_entries.Given as goal
 
 abbrev pub invariant-loop-exception : goal.invariant-loop-exception

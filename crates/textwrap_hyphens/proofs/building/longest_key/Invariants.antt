@@ -1,6 +1,5 @@
 use Rattle.textwrap_hyphens.proofs.Common.{drop, map, max, ◌≡◌}
-use Rattle.textwrap_hyphens.specs.Building.{pattern_of}
-use Rattle.textwrap_hyphens.specs.Levels.{longest}
+use Rattle.textwrap_hyphens.specs.{Building.pattern_of, Levels.longest}
 use Rattle.textwrap_hyphens.proofs.building.longest_key.Given as goal
 
 -- the longest key so far, and the longest of those to come, make the longest

@@ -1,5 +1,4 @@
-use Rattle.textwrap_hyphens.proofs.Common.{map, pattern_view, ◌≡◌}
-use Rattle.textwrap_hyphens.specs.Building.{pattern_of}
+use Rattle.textwrap_hyphens.{proofs.Common.{map, pattern_view, ◌≡◌}, specs.Building.pattern_of}
 use Rattle.textwrap_hyphens.proofs.building.pattern_entries.Given as goal
 
 abbrev pub invariant-loop-pattern : goal.invariant-loop-pattern

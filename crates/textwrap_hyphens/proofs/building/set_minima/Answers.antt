@@ -1,5 +1,4 @@
-use Rattle.textwrap_hyphens.proofs.Common.{◌∙◌, ap}
-use Rattle.textwrap_hyphens.proofs.Minima.{minima-sealed, minima-set}
+use Rattle.textwrap_hyphens.proofs.{Common.◌∙◌, Common.ap, Minima.minima-sealed, Minima.minima-set}
 use Rattle.textwrap_hyphens.specs.Seal.{is_sealed}
 use Rattle.textwrap_hyphens.proofs.building.set_minima.Goals as goal
 

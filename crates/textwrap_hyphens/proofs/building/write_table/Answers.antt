@@ -1,13 +1,9 @@
-use Rattle.textwrap_hyphens.proofs.Common.{[], List, append_assoc, ap, arith, length, length-append, map, refl, false, ℕ}
-use Rattle.textwrap_hyphens.proofs.Common.{slice_index, subst, sym, ◌++◌, ◌∙◌, ◌∷◌, ◌≡◌}
-use Rattle.textwrap_hyphens.proofs.Minima.{lists-kept}
+use Rattle.textwrap_hyphens.proofs.Common.{[], List, append_assoc, ap, arith, length, length-append, map, refl}
+use Rattle.textwrap_hyphens.proofs.Common.{false, ℕ, slice_index, subst, sym, ◌++◌, ◌∙◌, ◌∷◌, ◌≡◌}
+use Rattle.textwrap_hyphens.proofs.{Minima.lists-kept, SealLemmas.is-sealed, TableOf.table-says}
+use Rattle.textwrap_hyphens.specs.{Building.entries_view, Building.pattern_of, Levels.longest}
+use Rattle.textwrap_hyphens.specs.{Numbers.KeepsLists, Numbers.held_in, Seal.is_sealed, Seal.sum_of, Seal.version}
 use Rattle.textwrap_patterns.specs.Trie.{level_from, numbers_for}
-use Rattle.textwrap_hyphens.proofs.SealLemmas.{is-sealed}
-use Rattle.textwrap_hyphens.proofs.TableOf.{table-says}
-use Rattle.textwrap_hyphens.specs.Building.{entries_view, pattern_of}
-use Rattle.textwrap_hyphens.specs.Levels.{longest}
-use Rattle.textwrap_hyphens.specs.Seal.{is_sealed, sum_of, version}
-use Rattle.textwrap_hyphens.specs.Numbers.{KeepsLists, held_in}
 use Rattle.textwrap_hyphens.proofs.building.write_table.Goals as goal
 
 pub returns : goal.returns

@@ -1,7 +1,6 @@
-use Rattle.textwrap_text.proofs.Numbers.{both}
-use Rattle.textwrap_hyphens.proofs.Common.{sym, ◌∙◌}
-use Rattle.textwrap_hyphens.proofs.Parts.{joints-by, no-joints}
+use Rattle.textwrap_hyphens.proofs.{Common.sym, Common.◌∙◌, Parts.joints-by, Parts.no-joints}
 use Rattle.textwrap_hyphens.specs.Table.{held, levels_by}
+use Rattle.textwrap_text.proofs.Numbers.{both}
 use Rattle.textwrap_hyphens.proofs.levels.joints.Goals as goal
 
 pub returns-in-Some : goal.returns-in-Some

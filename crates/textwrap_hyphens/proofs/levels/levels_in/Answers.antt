@@ -1,11 +1,8 @@
-use Rattle.textwrap_text.proofs.Common.{take_all, take_at}
-use Rattle.std.proofs.lemmas.List.Elements.{All-replicate}
-use Rattle.std.proofs.lemmas.List.{length-replicate}
-use Rattle.textwrap_hyphens.proofs.Common.{All, ap, arith, drop, length, refl, subst, sym, ◌+◌, ◌∙◌, ◌≡◌, ℕ}
-use Rattle.textwrap_hyphens.proofs.Common.{[], List, length-append, levels_of, ◌∷◌}
-use Rattle.textwrap_hyphens.proofs.Parts.{levels-length}
-use Rattle.textwrap_hyphens.specs.Levels.{dot}
-use Rattle.textwrap_hyphens.specs.Table.{levels_by}
+use Rattle.std.proofs.Common.{take_all, take_at, All, ap, arith, drop, length, refl, subst, sym, ◌+◌, ◌∙◌}
+use Rattle.std.proofs.Common.{◌≡◌, ℕ, [], List, length-append, ◌∷◌}
+use Rattle.std.proofs.lemmas.List.{length-replicate, Elements.All-replicate}
+use Rattle.textwrap_hyphens.proofs.{Common.levels_of, Parts.levels-length}
+use Rattle.textwrap_hyphens.specs.{Levels.dot, Table.levels_by}
 use Rattle.textwrap_hyphens.proofs.levels.levels_in.Goals as goal
 
 pub raise_all-looked_up-requires-clause-zero : goal.raise_all-looked_up-requires-clause-zero
@@ -30,8 +27,6 @@ returns-clause-levels g c =
     ∙ take_all (length old) all (omega (
       arith,
       levels-length (levels_by c.args.patterns.now) letters all refl,
-      size,
-      c.len.ensures,
       ap length c.in_ok-dotted.ensures,
       length-append letters (dot ∷ []),
     ))

@@ -1,8 +1,6 @@
-use Rattle.std.specs.Prelude.{◌%◌, ◌==◌}
+use Rattle.std.proofs.Common.{◌%◌, ◌==◌, ap, arith, get_or, length, ◌+◌, ◌∙◌}
+use Rattle.textwrap_hyphens.{proofs.Parts.levels-length, proofs.Parts.odd-is, specs.Table.levels_by}
 use Rattle.textwrap_text.proofs.Lists.Elements.{points-more}
-use Rattle.textwrap_hyphens.proofs.Common.{ap, arith, get_or, length, ◌+◌, ◌∙◌}
-use Rattle.textwrap_hyphens.proofs.Parts.{levels-length, odd-is}
-use Rattle.textwrap_hyphens.specs.Table.{levels_by}
 use Rattle.textwrap_hyphens.proofs.levels.odd_places.Goals as goal
 
 pub is_odd-requires : goal.is_odd-requires

@@ -1,6 +1,5 @@
 use Rattle.textwrap_hyphens.proofs.Common.{◌≡◌, ◌≤◌, ◌-◌, filter, length, range_with_len}
-use Rattle.textwrap_hyphens.specs.Hyphenation.{is_odd}
-use Rattle.textwrap_hyphens.specs.Table.{levels_by}
+use Rattle.textwrap_hyphens.specs.{Hyphenation.is_odd, Table.levels_by}
 use Rattle.textwrap_hyphens.proofs.levels.odd_places.Given as goal
 
 -- the places so far

@@ -1,25 +1,18 @@
-use Rattle.textwrap_text.proofs.Common.{get_or_append_left}
 use Rattle.std.proofs.lemmas.List.{get_or-append_right, take_rest}
-use Rattle.textwrap_hyphens.proofs.Common.{arith, ap, cases_lt, drop, get_or, get_or-drop}
-use Rattle.textwrap_hyphens.proofs.Common.{get_or-take, length, length-append, length-drop}
-use Rattle.textwrap_hyphens.proofs.Common.{length-take, max, take}
-use Rattle.textwrap_hyphens.proofs.Common.{◌+◌, ◌-◌, ◌<◌, ◌≡◌, ◌≤◌, ◌∙◌, ⊎_elim, ◌++◌}
+use Rattle.textwrap_hyphens.proofs.{Lookups.fewer-times, Lookups.lookups-more, Raised.before-all}
+use Rattle.textwrap_hyphens.proofs.Raised.{before-here, before-past, before-none, level_before}
+use Rattle.textwrap_hyphens.{proofs.Raised.levels-all, specs.Table.levels_by}
+use Rattle.textwrap_text.proofs.Common.{get_or_append_left, arith, ap, cases_lt, drop, get_or}
+use Rattle.textwrap_text.proofs.Common.{get_or-drop, get_or-take, length, length-append}
+use Rattle.textwrap_text.proofs.Common.{length-drop, length-take, max, take, ◌+◌, ◌-◌, ◌<◌, ◌≡◌}
+use Rattle.textwrap_text.proofs.Common.{◌≤◌, ◌∙◌, ⊎_elim, ◌++◌, min}
 use borrow.Rule.Slice.PartMut.{put_mid, post_of}
-use Rattle.textwrap_hyphens.proofs.Raised.{before-all, before-here, before-past, before-none}
-use Rattle.textwrap_hyphens.proofs.Raised.{level_before, levels-all}
-use Rattle.textwrap_hyphens.proofs.Common.{min}
-use Rattle.textwrap_hyphens.proofs.Lookups.{fewer-times, lookups-more}
-use Rattle.textwrap_hyphens.specs.Table.{levels_by}
 use Rattle.textwrap_hyphens.proofs.levels.raise_all.Goals as goal
 
 pub loop-at-init : goal.loop-at-init
 loop-at-init c = record {
   levels = λ k within.
-      omega (
-        arith,
-        before-none
-            (levels_by c.args.patterns.now) c.args.whole.now k,
-      );
+      omega (arith, before-none (levels_by c.args.patterns.now) c.args.whole.now k);
   lookups = omega arith;
 }
 
@@ -40,15 +33,9 @@ loop-at-preserved c =
           let none = length-drop (length old - at) (drop at old) in
           let inside : k < length old = omega (
             arith,
-            within,
             length-append (take at old) (part ++ rest),
             length-append part rest,
             length-drop at old,
-            front,
-            size,
-            none,
-            c.loop-at-test.true,
-            c.loop-at.auto.levels,
           ) in
           let before = c.loop-at.invariant.levels k inside in
           let all = c.loop-at.auto.levels in
@@ -73,14 +60,7 @@ loop-at-preserved c =
           (cases_lt k at);
       lookups =
           let len = ap length (take_rest text c.loop-at.at) ∙ length-drop c.loop-at.at text in
-          omega (
-            arith,
-            len,
-            c.loop-at.invariant.lookups,
-            c.raise_from.ensures.lookups,
-            c.saturating_add-looked_up.ensures,
-            lookups-more c.loop-at.at (length text) most,
-          );
+          omega (arith, lookups-more c.loop-at.at (length text) most);
     }
 
 pub returns-clause-levels : goal.returns-clause-levels
@@ -97,7 +77,6 @@ pub returns-clause-lookups : goal.returns-clause-lookups
 returns-clause-lookups c =
     omega (
       arith,
-      c.loop-at.invariant.lookups,
       fewer-times (min c.loop-at.at (length c.args.whole.now)) (length c.args.whole.now)
           c.args.patterns.now.longest (omega arith),
     )

@@ -1,8 +1,5 @@
-use Rattle.textwrap_hyphens.proofs.Common.{ℕ, ◌≡◌, ◌<◌, get_or, length, max}
-use Rattle.textwrap_hyphens.proofs.Raised.{level_before}
-use Rattle.textwrap_hyphens.proofs.Common.{min, ◌≤◌}
-use Rattle.textwrap_text.proofs.Common.{◌*◌}
-use Rattle.textwrap_hyphens.specs.Table.{levels_by}
+use Rattle.std.proofs.Common.{ℕ, ◌≡◌, ◌<◌, get_or, length, max, min, ◌≤◌, ◌*◌}
+use Rattle.textwrap_hyphens.{proofs.Raised.level_before, specs.Table.levels_by}
 use Rattle.textwrap_hyphens.proofs.levels.raise_all.Given as goal
 
 -- levels are raised to those of the patterns that stand at the places before this one, and at each of

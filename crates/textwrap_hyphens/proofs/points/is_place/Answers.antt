@@ -1,8 +1,6 @@
-use Rattle.std.specs.Prelude.{◌&&◌}
-use Rattle.textwrap_hyphens.proofs.Common.{ap, arith, drop, length-drop, length-take, sym, ◌-◌, ◌∙◌}
+use Rattle.std.proofs.Common.{◌&&◌, ap, arith, drop, length-drop, length-take, sym, ℕ, ◌-◌, ◌∙◌}
 use Rattle.textwrap_hyphens.proofs.Parts.{levels-length, odd-is}
-use Rattle.textwrap_hyphens.specs.Hyphenation.{is_far, part}
-use Rattle.textwrap_hyphens.specs.Table.{held}
+use Rattle.textwrap_hyphens.specs.{Hyphenation.is_far, Hyphenation.part, Table.held}
 use Rattle.textwrap_hyphens.proofs.points.is_place.Goals as goal
 
 pub is_odd-requires : goal.is_odd-requires
@@ -12,15 +10,7 @@ is_odd-requires c =
     let to = c.args.to in
     let size = levels-length (held c.args.patterns.now).level_from (part from to letters) _
     c.requires.levels in
-    omega (
-      arith,
-      size,
-      length-take (to - from) (drop from letters),
-      length-drop from letters,
-      c.requires.before,
-      c.requires.behind,
-      c.requires.inside,
-    )
+    omega (arith, length-take (to - from) (drop from letters), length-drop from letters)
 
 pub returns-then-is_odd : goal.returns-then-is_odd
 returns-then-is_odd c =
@@ -30,13 +20,7 @@ returns-then-is_odd c =
     let to = c.args.to in
     let place = c.args.place in
     let odd = odd-is h.level_from (part from to letters) c.args.levels.now (place - from)
-    c.requires.levels (omega (
-      arith,
-      length-take (to - from) (drop from letters),
-      length-drop from letters,
-      c.requires.behind,
-      c.requires.inside,
-    )) in
+    c.requires.levels (omega (arith, length-take {A = ℕ}, length-drop {A = ℕ})) in
     c.is_far.ensures
     ∙ ap (λ b. b && is_far h letters from to place) (sym c.if-is_odd.true ∙ c.is_odd.ensures ∙ odd)
 
@@ -48,12 +32,6 @@ returns-else-is_odd c =
     let to = c.args.to in
     let place = c.args.place in
     let odd = odd-is h.level_from (part from to letters) c.args.levels.now (place - from)
-    c.requires.levels (omega (
-      arith,
-      length-take (to - from) (drop from letters),
-      length-drop from letters,
-      c.requires.behind,
-      c.requires.inside,
-    )) in
+    c.requires.levels (omega (arith, length-take {A = ℕ}, length-drop {A = ℕ})) in
     c.if-is_odd.false
     ∙ ap (λ b. b && is_far h letters from to place) (sym c.if-is_odd.false ∙ c.is_odd.ensures ∙ odd)

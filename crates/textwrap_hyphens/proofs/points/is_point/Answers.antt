@@ -1,8 +1,6 @@
-use Rattle.std.specs.Prelude.{◌&&◌}
-use Rattle.textwrap_hyphens.proofs.Common.{ap, arith, sym, ◌∙◌}
+use Rattle.std.proofs.Common.{◌&&◌, ap, arith, sym, ◌∙◌}
 use Rattle.textwrap_hyphens.proofs.Parts.{point-is, point-none}
-use Rattle.textwrap_hyphens.specs.Hyphenation.{is_allowed}
-use Rattle.textwrap_hyphens.specs.Table.{held}
+use Rattle.textwrap_hyphens.specs.{Hyphenation.is_allowed, Table.held}
 use Rattle.textwrap_hyphens.proofs.points.is_point.Goals as goal
 
 pub returns-then-is_odd : goal.returns-then-is_odd

@@ -1,8 +1,7 @@
 use Rattle.textwrap_hyphens.proofs.Common.{◌++◌, ◌≡◌, ◌≤◌, drop, length}
-use Rattle.textwrap_hyphens.specs.Hyphenation.{places_from}
-use Rattle.textwrap_hyphens.specs.Table.{held}
-use Rattle.textwrap_words.specs.Cuts.{AreNext}
+use Rattle.textwrap_hyphens.specs.{Hyphenation.places_from, Table.held}
 use Rattle.textwrap_patterns.specs.Places.{IsNextPlace}
+use Rattle.textwrap_words.proofs.Common.{AreNext}
 use Rattle.textwrap_hyphens.proofs.points.places_between.Given as goal
 
 -- the places so far, and those behind the last joint, are all

@@ -1,11 +1,8 @@
-use Rattle.textwrap_text.proofs.Numbers.{both}
 use Rattle.textwrap_hyphens.proofs.Common.{ap, arith, filter, length, nat_tests, subst, sym, ◌+◌, ◌<◌, ◌∙◌}
-use Rattle.textwrap_hyphens.proofs.FewLetters.{no-places}
-use Rattle.textwrap_hyphens.proofs.InnerPoints.{by_patterns-inner, joints-inner}
-use Rattle.textwrap_hyphens.specs.Hyphenation.{joints_of, places_from}
-use Rattle.textwrap_patterns.specs.Letters.{counts}
-use Rattle.textwrap_patterns.specs.Places.{AreInnerPlaces}
-use Rattle.textwrap_hyphens.specs.Table.{held}
+use Rattle.textwrap_hyphens.proofs.{FewLetters.no-places, InnerPoints.{by_patterns-inner, joints-inner}}
+use Rattle.textwrap_hyphens.specs.{Hyphenation.{joints_of, places_from}, Table.held}
+use Rattle.textwrap_patterns.specs.{Letters.counts, Places.AreInnerPlaces}
+use Rattle.textwrap_text.proofs.Numbers.{both}
 use Rattle.textwrap_hyphens.proofs.points.places_by_patterns.Goals as goal
 
 pub returns-then-not-has_letters-clause-places : goal.returns-then-not-has_letters-clause-places
@@ -13,15 +10,7 @@ returns-then-not-has_letters-clause-places g c =
     let h = held c.args.patterns.now in
     let letters = c.args.letters.now in
     let few : length (filter counts letters) < h.left + h.right =
-    grind (
-      arith,
-      nat_tests,
-      c.left.ensures,
-      c.right.ensures,
-      c.saturating_add.ensures,
-      c.has_letters.ensures,
-      c.if-not-has_letters.true,
-    ) in
+    grind (arith, nat_tests) in
     c.new.ensures.items ∙ sym (no-places h letters few 0 (joints_of h letters))
 
 pub places_between-requires : goal.places_between-requires

@@ -1,9 +1,7 @@
+use Rattle.textwrap_hyphens.proofs.{Common.subst, Common.sym, Held.held-inner}
+use Rattle.textwrap_hyphens.{proofs.InnerPoints.points-cuts, specs.Table.held}
 use Rattle.textwrap_text.proofs.Numbers.{both}
-use Rattle.textwrap_hyphens.proofs.Common.{subst, sym}
-use Rattle.textwrap_hyphens.proofs.InnerPoints.{points-cuts}
-use Rattle.textwrap_hyphens.proofs.Held.{held-inner}
-use Rattle.textwrap_words.specs.Cuts.{AreInnerCuts}
-use Rattle.textwrap_hyphens.specs.Table.{held}
+use Rattle.textwrap_words.proofs.Common.{AreInnerCuts}
 use Rattle.textwrap_hyphens.proofs.points.points.Goals as goal
 
 pub returns-clause-cuts : goal.returns-clause-cuts

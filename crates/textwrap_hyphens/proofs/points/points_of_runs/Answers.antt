@@ -1,12 +1,9 @@
-use Rattle.textwrap_text.proofs.Common.{drop-drop}
+use Rattle.std.proofs.Common.{drop-drop, add-zero, ap, append_assoc, arith, drop, get_or}
+use Rattle.std.proofs.Common.{get_or-drop, length-drop, sym, take, true, ◌++◌, ◌+◌, ◌-◌, ◌∙◌, ◌≡◌}
 use Rattle.std.proofs.lemmas.List.{take_rest}
-use Rattle.textwrap_hyphens.proofs.Common.{add-zero, ap, append_assoc, arith, drop, get_or}
-use Rattle.textwrap_hyphens.proofs.Common.{get_or-drop, length-drop, sym, take, true, ◌++◌, ◌+◌}
-use Rattle.textwrap_hyphens.proofs.Common.{◌-◌, ◌∙◌, ◌≡◌}
 use Rattle.textwrap_hyphens.proofs.Runs.{past-letter, run-within}
+use Rattle.textwrap_hyphens.specs.{Points.points_in, Points.points_past, Table.held}
 use Rattle.textwrap_patterns.specs.Letters.{is_letter_or_mark, run_len}
-use Rattle.textwrap_hyphens.specs.Points.{points_in, points_past}
-use Rattle.textwrap_hyphens.specs.Table.{held}
 use Rattle.textwrap_patterns.specs.declared.letters.Letter.{Letter}
 use Rattle.textwrap_hyphens.proofs.points.points_of_runs.Goals as goal
 
@@ -35,11 +32,5 @@ loop-at-preserved-then-is_letter g c =
       points = ap (λ l. l ++ later) pushed ∙ append_assoc so_far run later
           ∙ ap (λ l. so_far ++ l) (ap (λ l. run ++ points_past h 0 l) behind ∙ sym next.0)
           ∙ c.loop-at.invariant.points;
-      inside = omega (
-        arith,
-        size,
-        run-within rest,
-        length-drop at letters,
-        c.loop-at.invariant.inside,
-      );
+      inside = omega (arith, run-within rest, length-drop at letters);
     }

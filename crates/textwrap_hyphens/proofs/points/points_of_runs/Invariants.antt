@@ -1,6 +1,5 @@
 use Rattle.textwrap_hyphens.proofs.Common.{◌++◌, ◌≡◌, ◌-◌, ◌≤◌, drop, length}
-use Rattle.textwrap_hyphens.specs.Points.{points_past}
-use Rattle.textwrap_hyphens.specs.Table.{held}
+use Rattle.textwrap_hyphens.specs.{Points.points_past, Table.held}
 use Rattle.textwrap_hyphens.proofs.points.points_of_runs.Given as goal
 
 -- the points so far, and those of the characters to come, are all

@@ -1,6 +1,5 @@
 use Rattle.textwrap_hyphens.proofs.Common.{ap, arith, get_or, get_or-map, length, length-map, map, slice_index}
-use Rattle.textwrap_hyphens.proofs.Common.{◌∙◌, ◌≡◌}
-use Rattle.textwrap_hyphens.proofs.Parts.{behind-next}
+use Rattle.textwrap_hyphens.proofs.{Common.◌∙◌, Common.◌≡◌, Parts.behind-next}
 use Rattle.textwrap_patterns.specs.declared.letters.Letter.{Letter}
 use Rattle.textwrap_hyphens.proofs.points.push_odd.Goals as goal
 

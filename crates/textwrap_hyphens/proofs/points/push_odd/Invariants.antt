@@ -1,7 +1,5 @@
 use Rattle.textwrap_hyphens.proofs.Common.{◌++◌, ◌≡◌, ◌≤◌, ◌-◌, filter, length, range_with_len}
-use Rattle.textwrap_hyphens.specs.Hyphenation.{is_place}
-use Rattle.textwrap_hyphens.specs.Points.{points_at}
-use Rattle.textwrap_hyphens.specs.Table.{held}
+use Rattle.textwrap_hyphens.specs.{Hyphenation.is_place, Points.points_at, Table.held}
 use Rattle.textwrap_hyphens.proofs.points.push_odd.Given as goal
 
 -- the points so far

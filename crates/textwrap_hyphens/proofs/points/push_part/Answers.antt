@@ -1,5 +1,4 @@
-use Rattle.textwrap_hyphens.proofs.Common.{arith}
-use Rattle.textwrap_hyphens.proofs.Parts.{part-next}
+use Rattle.textwrap_hyphens.proofs.{Common.arith, Parts.part-next}
 use Rattle.textwrap_hyphens.proofs.points.push_part.Goals as goal
 
 pub loop-place-preserved : goal.loop-place-preserved

@@ -1,6 +1,5 @@
 use Rattle.textwrap_hyphens.proofs.Common.{◌++◌, ◌≡◌, ◌≤◌, ◌-◌, ◌+◌, filter, range_with_len}
-use Rattle.textwrap_hyphens.specs.Hyphenation.{is_place}
-use Rattle.textwrap_hyphens.specs.Table.{held}
+use Rattle.textwrap_hyphens.specs.{Hyphenation.is_place, Table.held}
 use Rattle.textwrap_hyphens.proofs.points.push_part.Given as goal
 
 -- the places so far

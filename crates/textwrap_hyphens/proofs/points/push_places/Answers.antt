@@ -1,22 +1,15 @@
-use Rattle.std.specs.Prelude.{IfSome, OnOk}
-use Rattle.textwrap_hyphens.proofs.Common.{[], ap, append-nil, arith, filter, length, length-map, nat_tests}
-use Rattle.textwrap_hyphens.proofs.Common.{List, subst, sym, ℕ, ◌++◌, ◌+◌, ◌<◌, ◌∙◌, ◌≡◌}
-use Rattle.textwrap_hyphens.proofs.FewLetters.{no-places}
-use Rattle.textwrap_hyphens.proofs.Held.{held-inner}
-use Rattle.textwrap_hyphens.proofs.InnerPoints.{places-below}
-use Rattle.textwrap_hyphens.proofs.Parts.{no-joints, run-points}
-use Rattle.textwrap_hyphens.specs.Hyphenation.{joints_of, part_places, places_from}
-use Rattle.textwrap_hyphens.specs.Table.{held}
-use Rattle.textwrap_patterns.specs.Letters.{counts}
-use Rattle.textwrap_patterns.specs.Places.{AreInnerPlaces}
-use Rattle.textwrap_patterns.specs.declared.letters.Letter.{Letter}
+use Rattle.textwrap_hyphens.proofs.{FewLetters.no-places, Held.held-inner, InnerPoints.places-below}
+use Rattle.textwrap_hyphens.{proofs.Parts.no-joints, proofs.Parts.run-points, specs.Hyphenation.joints_of}
+use Rattle.textwrap_hyphens.specs.{Hyphenation.part_places, Hyphenation.places_from, Table.held}
+use Rattle.textwrap_patterns.specs.{Letters.counts, declared.letters.Letter.Letter}
+use Rattle.textwrap_text.proofs.Common.{[], ap, append-nil, arith, filter, length, length-map}
+use Rattle.textwrap_text.proofs.Common.{nat_tests, sym, ◌++◌, ◌+◌, ◌<◌, ◌∙◌}
 use Rattle.textwrap_hyphens.proofs.points.push_places.Goals as goal
 
 pub push_begins-requires : goal.push_begins-requires
 push_begins-requires g c = λ k d within.
     let letters = c.args.letters.now in
-    let inner = subst (λ r. IfSome r (AreInnerPlaces (length letters))) c.in-Some.ensures
-    (held-inner c.args.patterns.now letters) in
+    let inner = rw c.in-Some.ensures at (held-inner c.args.patterns.now letters) in
     let size = ap length c.requires.letters ∙ length-map c.args.run.now (λ (c : Letter). c.ch) in
     omega (arith, places-below (length letters) 0 c.in-Some.places.now inner k d within, size)
 
@@ -26,15 +19,7 @@ returns-then-not-has_letters g c =
     let letters = c.args.letters.now in
     let items = c.args.points.now.items in
     let few : length (filter counts letters) < h.left + h.right =
-    grind (
-      arith,
-      nat_tests,
-      c.left.ensures,
-      c.right.ensures,
-      c.saturating_add.ensures,
-      c.has_letters.ensures,
-      c.if-not-has_letters.true,
-    ) in
+    grind (arith, nat_tests) in
     sym (append-nil items)
     ∙ ap (λ l. items ++ l) (sym (run-points h c.args.run.now letters [] c.requires.letters
     c.in_default.ensures (no-places h letters few 0 (joints_of h letters))))
@@ -43,8 +28,6 @@ pub returns : goal.returns
 returns g c =
     let h = held c.args.patterns.now in
     let letters = c.args.letters.now in
-    subst (λ (l : List ℕ). OnOk c.push_odd.result
-    (c.push_odd.new.points.items ≡ c.args.points.now.items ++ l))
-    (sym (run-points h c.args.run.now letters (part_places h letters 0 (length letters))
+    rw (run-points h c.args.run.now letters (part_places h letters 0 (length letters))
     c.requires.letters c.in_default.ensures
-    (ap (places_from h letters 0) (no-joints h c.requires.joints letters)))) c.push_odd.ensures
+    (ap (places_from h letters 0) (no-joints h c.requires.joints letters))) c.push_odd.ensures

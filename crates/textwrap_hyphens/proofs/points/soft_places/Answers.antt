@@ -1,8 +1,7 @@
-use Rattle.textwrap_text.proofs.Common.{get_or-map}
-use Rattle.textwrap_text.proofs.Lists.Elements.{points-more}
-use Rattle.textwrap_hyphens.proofs.Common.{ap, arith, get_or, map, slice_index, sym, ◌∙◌, ◌≡◌}
-use Rattle.textwrap_hyphens.specs.Points.{is_behind_soft}
+use Rattle.textwrap_hyphens.proofs.Common.{get_or-map, ap, arith, get_or, map, slice_index, sym}
+use Rattle.textwrap_hyphens.{proofs.Common.◌∙◌, proofs.Common.◌≡◌, specs.Points.is_behind_soft}
 use Rattle.textwrap_patterns.specs.declared.letters.Letter.{Letter}
+use Rattle.textwrap_text.proofs.Lists.Elements.{points-more}
 use Rattle.textwrap_hyphens.proofs.points.soft_places.Goals as goal
 
 pub loop-place-preserved : goal.loop-place-preserved

@@ -1,6 +1,5 @@
-use Rattle.textwrap_text.proofs.Common.{get_or}
-use Rattle.textwrap_hyphens.proofs.Common.{All, arith, length, map, subst, sym, ℕ, ◌-◌, ◌<◌, ◌∙◌}
-use Rattle.textwrap_hyphens.proofs.InnerPoints.{places-below, places-filter}
+use Rattle.textwrap_hyphens.proofs.Common.{get_or, All, arith, length, map, subst, sym, ℕ, ◌-◌, ◌<◌}
+use Rattle.textwrap_hyphens.proofs.{Common.◌∙◌, InnerPoints.places-below, InnerPoints.places-filter}
 use Rattle.textwrap_hyphens.specs.Points.{is_behind_soft, soft_places}
 use Rattle.textwrap_patterns.specs.declared.letters.Letter.{Letter}
 use Rattle.textwrap_hyphens.proofs.points.soft_points.Goals as goal

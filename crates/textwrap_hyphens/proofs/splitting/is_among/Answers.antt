@@ -1,7 +1,6 @@
-use Rattle.textwrap_text.proofs.Common.{rules, arith}
-use Rattle.textwrap_hyphens.proofs.splitting.is_among.Goals as goal
 use Rattle.std.proofs.lemmas.List.Sorted.{searched}
-use Rattle.textwrap_text.proofs.Lists.Elements.{increasing-le, among-is}
+use Rattle.textwrap_text.proofs.{Common.{rules, arith}, Lists.Elements.{increasing-le, among-is}}
+use Rattle.textwrap_hyphens.proofs.splitting.is_among.Goals as goal
 
 pub returns : goal.returns
 returns c =

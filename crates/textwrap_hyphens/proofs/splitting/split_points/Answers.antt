@@ -1,17 +1,14 @@
-use Rattle.textwrap_hyphens.proofs.splitting.split_points.Goals as goal
+use Rattle.textwrap_hyphens.proofs.SplitPoints.{among, inner-increasing, own-inner, split-inner, split-more}
+use Rattle.textwrap_hyphens.proofs.SplitPoints.{split-plain}
 use Rattle.textwrap_hyphens.proofs.splitting.split_points.Goals.{else-is_among+else-is_among-2}
 use Rattle.textwrap_hyphens.proofs.splitting.split_points.Goals.{then-is_among+in_ok-push}
 use Rattle.textwrap_hyphens.proofs.splitting.split_points.Goals.{then-is_among-via-then-is_among}
 use Rattle.textwrap_hyphens.proofs.splitting.split_points.Goals.{then-is_among-via-else-is_among+then-is_among-2}
-use Rattle.textwrap_text.proofs.Common.{Bool, List, [], ap, arith, cond, false, filter, length}
-use Rattle.textwrap_text.proofs.Common.{nil_from_length, range_with_len, sym, true, ℕ, ◌+◌, ◌++◌}
-use Rattle.textwrap_text.proofs.Common.{◌-◌, ◌||◌, ◌∙◌, ◌∷◌, ◌≡◌}
-use Rattle.textwrap_words.proofs.Common.{hyphen_points}
-use Rattle.textwrap_words.proofs.Word.Cuts.{inner-cuts}
-use Rattle.textwrap_hyphens.specs.Table.{held}
-use Rattle.textwrap_hyphens.proofs.SplitPoints.{among, inner-increasing, own-inner, split-inner}
-use Rattle.textwrap_hyphens.proofs.SplitPoints.{split-more, split-plain}
-use Rattle.textwrap_hyphens.specs.Splitting.{is_split_point}
+use Rattle.textwrap_hyphens.specs.{Splitting.is_split_point, Table.held}
+use Rattle.textwrap_text.proofs.Common.{Bool, List, [], ap, arith, cond, false, filter, length, nil_from_length}
+use Rattle.textwrap_text.proofs.Common.{range_with_len, sym, true, ℕ, ◌+◌, ◌++◌, ◌-◌, ◌||◌, ◌∙◌, ◌∷◌, ◌≡◌}
+use Rattle.textwrap_words.proofs.{Common.hyphen_points, Word.Cuts.inner-cuts}
+use Rattle.textwrap_hyphens.proofs.splitting.split_points.Goals as goal
 
 pub returns-then-is_empty-clause-points : goal.returns-then-is_empty-clause-points
 returns-then-is_empty-clause-points g c =

@@ -1,7 +1,6 @@
+use Rattle.textwrap_hyphens.proofs.Common.{filter, length, range_with_len, ◌-◌, ◌≡◌, ◌≤◌}
+use Rattle.textwrap_hyphens.specs.{Splitting.is_split_point, Table.held}
 use Rattle.textwrap_hyphens.proofs.splitting.split_points.Given as goal
-use Rattle.textwrap_text.proofs.Common.{filter, length, range_with_len, ◌-◌, ◌≡◌, ◌≤◌}
-use Rattle.textwrap_hyphens.specs.Table.{held}
-use Rattle.textwrap_hyphens.specs.Splitting.{is_split_point}
 
 -- the points before this offset
 abbrev pub invariant-loop-point : goal.invariant-loop-point

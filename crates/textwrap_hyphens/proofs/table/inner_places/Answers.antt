@@ -1,5 +1,4 @@
-use Rattle.textwrap_hyphens.proofs.Common.{refl, sym, ◌∙◌}
-use Rattle.textwrap_hyphens.proofs.Held.{inner-is}
+use Rattle.textwrap_hyphens.proofs.{Common.refl, Common.sym, Common.◌∙◌, Held.inner-is}
 use Rattle.textwrap_hyphens.proofs.table.inner_places.Goals as goal
 
 pub returns-then-are_inner : goal.returns-then-are_inner

@@ -1,5 +1,4 @@
-use Rattle.textwrap_hyphens.proofs.Common.{drop, ◌≡◌}
-use Rattle.textwrap_hyphens.specs.Seal.{sum_of, summed}
+use Rattle.textwrap_hyphens.{proofs.Common.{drop, ◌≡◌}, specs.Seal.{sum_of, summed}}
 use Rattle.textwrap_hyphens.proofs.table.sum_of.Given as goal
 
 -- the sum so far, with what is to come

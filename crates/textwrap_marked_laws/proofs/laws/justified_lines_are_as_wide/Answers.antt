@@ -1,6 +1,5 @@
+use Rattle.textwrap_marked_laws.{proofs.NewParts.{fills-width, new-parts}, specs.Laws.FillsWidth}
 use Rattle.textwrap_marked_laws.proofs.laws.justified_lines_are_as_wide.Goals as goal
-use Rattle.textwrap_marked_laws.proofs.NewParts.{fills-width, new-parts}
-use Rattle.textwrap_marked_laws.specs.Laws.{FillsWidth}
 
 pub returns : goal.returns
 returns c = λ options text reflowed justify is.

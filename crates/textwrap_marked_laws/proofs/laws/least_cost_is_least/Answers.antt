@@ -1,6 +1,5 @@
+use Rattle.textwrap_marked_laws.{proofs.NewParts.{costs-least, new-parts}, specs.Laws.CostsLeast}
 use Rattle.textwrap_marked_laws.proofs.laws.least_cost_is_least.Goals as goal
-use Rattle.textwrap_marked_laws.proofs.NewParts.{costs-least, new-parts}
-use Rattle.textwrap_marked_laws.specs.Laws.{CostsLeast}
 
 pub returns : goal.returns
 returns c = λ options penalties text reflowed least.

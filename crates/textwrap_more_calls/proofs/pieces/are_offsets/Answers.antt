@@ -19,10 +19,8 @@ loop-character-init c =
 pub overflow_add-shown : goal.overflow_add-shown
 overflow_add-shown c = omega (
   arith,
-  c.loop-character.invariant.bytes,
   ap (λ cs. length (shown_text cs)) c.in-Some.ensures.steps,
   rw c.if-character.true at (shown-next c.in-Some.character (characters_left c.next.new.self)),
-  c.len_utf8-shown.ensures.len,
   stripped-short c.args.line.now c.utf8.line,
 )
 

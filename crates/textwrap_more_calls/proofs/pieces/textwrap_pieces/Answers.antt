@@ -1,12 +1,11 @@
-use Rattle.textwrap_more_calls.proofs.pieces.textwrap_pieces.Goals as goal
 use Rattle.textwrap_calls.proofs.Common.{List, Settings, ap, options_settings, separator_of, ℕ, ◌∙◌}
 use Rattle.textwrap_calls.specs.Options.{options_points}
-use Rattle.textwrap_layout.specs.Paragraph.{broken_pieces_of}
-use Rattle.textwrap_more_calls.proofs.Common.{WritesText-answer}
-use Rattle.textwrap_more_calls.specs.Pieces.{piece_places}
+use Rattle.textwrap_layout.proofs.Common.{broken_pieces_of}
+use Rattle.textwrap_more_calls.{proofs.Common.WritesText-answer, specs.Pieces.piece_places}
+use Rattle.textwrap_more_calls.specs.declared.pieces.TextwrapPiece.{TextwrapPiece}
 use Rattle.textwrap_plain.specs.Options.{points_by, split_by_points, words_by}
 use Rattle.textwrap_plain.specs.declared.options.PlainSeparator.{PlainSeparator}
-use Rattle.textwrap_more_calls.specs.declared.pieces.TextwrapPiece.{TextwrapPiece}
+use Rattle.textwrap_more_calls.proofs.pieces.textwrap_pieces.Goals as goal
 
 pub returns-in-Ok-listed_pieces-clause-pieces : goal.returns-in-Ok-listed_pieces-clause-pieces
 returns-in-Ok-listed_pieces-clause-pieces c =

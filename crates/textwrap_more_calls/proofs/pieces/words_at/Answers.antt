@@ -1,9 +1,8 @@
-use Rattle.textwrap_more_calls.proofs.pieces.words_at.Goals as goal
-use Rattle.textwrap_text.proofs.Common.{List, ℕ, [], ◌∷◌, All, All-cons, All-nil, All-from_get_or}
-use Rattle.textwrap_text.proofs.Common.{arith, IsCharBoundary, stripped}
-use Rattle.std.specs.List.Sorted.{IsStrictlyIncreasing}
-use Rattle.textwrap_words.proofs.Word.Cuts.{next-at, next-increasing}
 use Rattle.textwrap_more_calls.specs.Pieces.{AreOffsets, IsNextOffset}
+use Rattle.textwrap_text.proofs.Common.{List, ℕ, [], ◌∷◌, All, All-cons, All-nil, All-from_get_or}
+use Rattle.textwrap_text.proofs.Common.{arith, IsCharBoundary, stripped, IsStrictlyIncreasing}
+use Rattle.textwrap_words.proofs.Word.Cuts.{next-at, next-increasing}
+use Rattle.textwrap_more_calls.proofs.pieces.words_at.Goals as goal
 
 increasing : (text offsets : List ℕ) → AreOffsets text offsets → IsStrictlyIncreasing offsets
 increasing text [] are = λ k within. absurd (omega arith)

@@ -1,19 +1,14 @@
-use Rattle.textwrap_more_calls.proofs.steps.textwrap_ends_at.Goals as goal
-use Rattle.std.specs.Prelude.{IsSomeAnd}
 use Rattle.textwrap_base.proofs.{Common.total_width, Cost.Measures.total_width-same}
-use Rattle.textwrap_calls.proofs.Common.{List, says_yes, sizes_of, widths_of, word_view, WordText}
-use Rattle.textwrap_calls.proofs.Common.{[], ap, false, map, sym, ℕ, ◌∙◌, ◌∷◌, ◌≡◌}
-use Rattle.textwrap_calls.proofs.Common.{options_algorithm, pieces_at, step_settings}
-use Rattle.textwrap_calls.proofs.Common.{settings_view, subst}
-use Rattle.textwrap_layout.proofs.Paragraph.Widths.{sizes-word_view}
+use Rattle.textwrap_calls.proofs.Common.{List, says_yes, sizes_of, widths_of, word_view, WordText, [], ap}
+use Rattle.textwrap_calls.proofs.Common.{false, map, sym, ℕ, ◌∙◌, ◌∷◌, ◌≡◌, options_algorithm, pieces_at}
+use Rattle.textwrap_calls.proofs.Common.{step_settings, settings_view, subst}
+use Rattle.textwrap_layout.{proofs.Paragraph.Widths.sizes-word_view, specs.declared.layout.Layout.Layout}
+use Rattle.textwrap_lines.proofs.Common.{Some, IsDividedBy, algorithm_view}
+use Rattle.textwrap_more_calls.proofs.{Common.ends_of, Common.WritesText-answer, EndLemmas.ends_from-map}
+use Rattle.textwrap_more_calls.proofs.{EndLemmas.OverflowsBy-map, steps.textwrap_ends_at.Goals.After-wrap}
+use Rattle.textwrap_words.{proofs.Word.Divisions.MayDivide-map, specs.WrapAlgorithms.OverflowsBy}
+use Rattle.textwrap_more_calls.proofs.steps.textwrap_ends_at.Goals as goal
 use Rattle.textwrap_layout.proofs.{Common.{Settings, first_width, layout_view}, Paragraph.Pieces.division-as}
-use Rattle.textwrap_layout.specs.declared.layout.Layout.{Layout}
-use Rattle.textwrap_more_calls.proofs.Common.{ends_of, WritesText-answer}
-use Rattle.textwrap_more_calls.proofs.EndLemmas.{ends_from-map, OverflowsBy-map}
-use Rattle.textwrap_more_calls.proofs.steps.textwrap_ends_at.Goals.{After-wrap}
-use Rattle.textwrap_text.proofs.Common.{Some}
-use Rattle.textwrap_words.specs.WrapAlgorithms.{IsDividedBy, OverflowsBy}
-use Rattle.textwrap_words.{proofs.Word.Divisions.MayDivide-map, specs.WrapAlgorithms.algorithm_view}
 
 -- the pieces and the widths by the numbers of C, and the widths as they were found
 abbrev all : After-wrap → List WordText
@@ -67,8 +62,7 @@ pub returns-in-Err-Overflow-clause-overflow : goal.returns-in-Err-Overflow-claus
 returns-in-Err-Overflow-clause-overflow c = λ same.
     let here = (goal.at.returns-in-Err-Overflow-clause-overflow c).After-wrap in
     let overflows = c.in-Err-Overflow.ensures.overflow_only (rw c.in-Err-Overflow.field-0-is tt) in
-    subst (λ P. P) (refuses here) (subst (λ found_is. IsSomeAnd found_is (λ a. OverflowsBy a
-    (λ word. sizes_of (word_view word)) (found here) c.deref.result.now)) (algorithm-is here) overflows)
+    subst (λ P. P) (refuses here) (rw (algorithm-is here) at overflows)
 
 -- their widths are those of the words
 widths-same : (c : After-wrap) → total_width (λ word. sizes_of (word_view word)) c.deref.result.now

@@ -3,7 +3,7 @@ use Rattle.textwrap_calls.proofs.Common.{AreEnds, lines_of, List, refl, says_yes
 use Rattle.textwrap_calls.proofs.Common.{ArePlacesOf, parts_from, pieces_at, Settings, step_settings}
 use Rattle.textwrap_calls.proofs.Common.{[], ℕ}
 use Rattle.textwrap_calls.proofs.Common.{further-cut_lines, HasPlaces, lines_between, settings_view}
-use Rattle.textwrap_more_calls.{proofs.Common.WritesLines-reported, specs.Steps.AreLineSteps}
+use Rattle.textwrap_more_calls.{proofs.Common.WritesLines-reported}
 use Rattle.textwrap_more_calls.{proofs.StepLemmas.steps-shown, specs.Steps.step_cuts}
 
 pub returns-in-Ok-push_step_lines-clause-lines : goal.returns-in-Ok-push_step_lines-clause-lines
@@ -37,10 +37,5 @@ returns-in-Ok-push_step_lines-clause-lines c =
 pub returns-in-Ok-push_step_lines-clause-right_places :
     goal.returns-in-Ok-push_step_lines-clause-right_places
 returns-in-Ok-push_step_lines-clause-right_places c placed enough few known texts =
-    let cuts = c.args.cuts.now in
-    let points = c.args.points.now in
-    let ends = c.args.ends.now in
-    let here = subst (λ text. AreLineSteps (settings_view c.in-Ok.options) cuts points ends text)
-    c.in-Ok-from_utf8.ensures.0 c.in-Ok-push_step_lines.ensures.steps in
-    subst (λ s. AreLineSteps s cuts points ends c.args.paragraph.now)
-    c.in-Ok.ensures.read here
+    rw c.in-Ok.ensures.read at
+    (rw c.in-Ok-from_utf8.ensures.0 at c.in-Ok-push_step_lines.ensures.steps)

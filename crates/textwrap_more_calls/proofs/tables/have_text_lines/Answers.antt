@@ -1,7 +1,6 @@
-use Rattle.textwrap_more_calls.proofs.tables.have_text_lines.Goals as goal
-use Rattle.textwrap_calls.proofs.Common.{refl}
-use Rattle.textwrap_calls.proofs.TextLemmas.{next-holds}
+use Rattle.textwrap_calls.proofs.{Common.refl, TextLemmas.next-holds}
 use Rattle.textwrap_more_calls.specs.Tables.{HasTextLines}
+use Rattle.textwrap_more_calls.proofs.tables.have_text_lines.Goals as goal
 
 pub loop-cell-preserved : goal.loop-cell-preserved
 loop-cell-preserved c =

@@ -1,7 +1,6 @@
-use Rattle.textwrap_more_calls.proofs.tables.have_texts.Goals as goal
-use Rattle.textwrap_calls.proofs.Common.{refl}
-use Rattle.textwrap_calls.proofs.TextLemmas.{next-holds}
+use Rattle.textwrap_calls.proofs.{Common.refl, TextLemmas.next-holds}
 use Rattle.textwrap_more_calls.specs.Tables.{HasTexts}
+use Rattle.textwrap_more_calls.proofs.tables.have_texts.Goals as goal
 
 pub loop-column-preserved : goal.loop-column-preserved
 loop-column-preserved c =

@@ -1,6 +1,5 @@
-use Rattle.textwrap_calls.proofs.Common.{append-nil, arith, length, ◌≤◌}
+use Rattle.textwrap_text.proofs.Common.{append-nil, arith, length, ◌≤◌, drop_all}
 use Rattle.textwrap_more_calls.proofs.tables.place_cells.Goals as goal
-use Rattle.textwrap_text.proofs.Common.{drop_all}
 
 pub returns : goal.returns
 returns c =

@@ -1,7 +1,6 @@
-use Rattle.textwrap_more_calls.proofs.tables.place_table.Goals as goal
-use Rattle.textwrap_calls.proofs.Common.{arith}
+use Rattle.std.proofs.Common.{arith, rules}
 use Rattle.textwrap_plain.proofs.Named.{plain-table}
-use Rattle.textwrap_text.proofs.Common.{rules}
+use Rattle.textwrap_more_calls.proofs.tables.place_table.Goals as goal
 
 pub returns : goal.returns
 returns c =

@@ -1,15 +1,12 @@
 use Rattle.textwrap_more_calls.proofs.text_steps.push_paragraph.Goals as goal
-use Rattle.textwrap_calls.proofs.Common.{HasPlacesMore, settings_view, subst, sym, ◌∙◌}
+use Rattle.textwrap_calls.proofs.Common.{settings_view, sym, ◌∙◌}
 use Rattle.textwrap_more_calls.proofs.TextStepLemmas.{both-ok, divided-begins, further-divided}
-use Rattle.textwrap_text.proofs.Common.{OnOk}
 
 pub returns-clause-placed : goal.returns-clause-placed
 returns-clause-placed g c =
-    subst (λ cuts. OnOk c.push_step_lines.result
-    (HasPlacesMore c.args.lines.now c.push_step_lines.new.lines cuts))
-    (further-divided (settings_view c.args.options.now) c.args.is_later c.args.paragraph.now
+    rw (further-divided (settings_view c.args.options.now) c.args.is_later c.args.paragraph.now
     c.args.steps.now (sym c.is_one_line.ensures ∙ c.if-is_one_line.false) c.args.start)
-    c.push_step_lines.ensures.placed
+    at c.push_step_lines.ensures.placed
 
 pub returns-clause-begins : goal.returns-clause-begins
 returns-clause-begins g c =

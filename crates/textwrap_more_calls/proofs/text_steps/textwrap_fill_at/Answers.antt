@@ -1,6 +1,6 @@
 use Rattle.textwrap_more_calls.proofs.text_steps.textwrap_fill_at.Goals as goal
 use Rattle.textwrap_calls.proofs.Common.{[], ap, Line, lines_of, List, ◌∙◌}
-use Rattle.textwrap_calls.proofs.Common.{append-nil, step_settings, settings_view, ShowLines, subst}
+use Rattle.textwrap_calls.proofs.Common.{append-nil, step_settings, settings_view, ShowLines}
 use Rattle.textwrap_more_calls.proofs.Common.{text_step_cuts, WritesText-answer}
 use Rattle.textwrap_more_calls.proofs.text_steps.textwrap_fill_at.Goals.{After-as_bytes}
 use Rattle.textwrap_more_calls.specs.TextSteps.{filled_at}
@@ -11,9 +11,8 @@ lines c = lines_of (text_step_cuts (settings_view c.in-Ok.options) c.args.steps.
 
 shown : (c : After-as_bytes) → ShowLines c.as_bytes.result.now
     c.in-Ok-place_text.placed.built.items 0 0 (lines c) c.in-Ok-place_text.placed.places.items
-shown c = rw c.as_bytes.ensures.value (subst (λ b. ShowLines c.in-Ok-from_utf8.text.now b 0 0 (lines c)
-    c.in-Ok-place_text.placed.places.items) (append-nil c.in-Ok-place_text.placed.built.items)
-    (c.in-Ok-place_text.ensures.shown []))
+shown c = rw c.as_bytes.ensures.value
+    (rw (append-nil c.in-Ok-place_text.placed.built.items) at (c.in-Ok-place_text.ensures.shown []))
 
 pub join_lines-requires : goal.join_lines-requires
 join_lines-requires c =

@@ -1,5 +1,4 @@
-use Rattle.std.specs.Prelude.{string_bytes}
-use Rattle.textwrap_text.proofs.Common.{drop, ◌++◌, ◌≡◌}
+use Rattle.std.proofs.Common.{string_bytes, drop, ◌++◌, ◌≡◌}
 use Rattle.textwrap_patterns.specs.Charsets.{decoded}
 use Rattle.textwrap_patterns.proofs.charsets.decoded.Given as goal
 

@@ -1,6 +1,5 @@
-use Rattle.textwrap_text.proofs.Common.{drop, ◌+◌, ◌≡◌}
-use Rattle.std.specs.List.{position_or_len}
 use Rattle.textwrap_patterns.specs.Charsets.{is_line_feed_byte}
+use Rattle.textwrap_text.proofs.Common.{drop, ◌+◌, ◌≡◌, position_or_len}
 use Rattle.textwrap_patterns.proofs.charsets.line_len.Given as goal
 
 abbrev pub invariant-loop-i : goal.invariant-loop-i

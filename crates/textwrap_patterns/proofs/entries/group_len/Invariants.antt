@@ -1,6 +1,5 @@
 use Rattle.std.proofs.Common.{◌≡◌, ◌<◌, ℕ, get_or}
-use Rattle.textwrap_patterns.specs.Entries.{letter_at}
-use Rattle.textwrap_patterns.specs.declared.entries.TrieEntry.{TrieEntry}
+use Rattle.textwrap_patterns.specs.{Entries.letter_at, declared.entries.TrieEntry.TrieEntry}
 use Rattle.textwrap_patterns.proofs.entries.group_len.Given as goal
 
 -- each entry so far has the letter

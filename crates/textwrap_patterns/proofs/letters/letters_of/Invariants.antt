@@ -1,6 +1,5 @@
-use Rattle.textwrap_text.proofs.Common.{characters_left}
-use Rattle.textwrap_text.proofs.Common.{◌++◌, ◌≡◌}
 use Rattle.textwrap_patterns.specs.Letters.{letters_among, letters_of}
+use Rattle.textwrap_text.proofs.Common.{characters_left, ◌++◌, ◌≡◌}
 use Rattle.textwrap_patterns.proofs.letters.letters_of.Given as goal
 
 -- the letters so far, and those to come, are all

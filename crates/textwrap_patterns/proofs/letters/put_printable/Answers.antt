@@ -1,14 +1,10 @@
-use Rattle.std.proofs.lemmas.List.{take_more_set}
-use Rattle.std.specs.Char.{to_ascii_lowercase}
-use Rattle.textwrap_text.proofs.Common.{chars-IsAscii, drop_all, encode_ascii, ne_eqb}
-use Rattle.textwrap_text.proofs.Units.Reading.{printable-ascii, printable-no_escape}
-use Rattle.textwrap_text.specs.Characters.{characters_from}
-use Rattle.textwrap_text.specs.Units.{IsPrintableByte}
-use Rattle.textwrap_text.specs.declared.escapes.State.TheVariants.{Text}
-use Rattle.textwrap_patterns.proofs.Ascii.{lowered-ascii}
+use Rattle.std.{proofs.lemmas.List.take_more_set, specs.Char.to_ascii_lowercase}
+use Rattle.textwrap_patterns.{proofs.Ascii.lowered-ascii, specs.Letters.letters_among}
+use Rattle.textwrap_text.proofs.Common.{chars-IsAscii, drop_all, encode_ascii, ne_eqb, IsPrintableByte}
 use Rattle.textwrap_text.proofs.Common.{List, append-nil, append_assoc, arith, drop, drop_more, get_or}
 use Rattle.textwrap_text.proofs.Common.{length, refl, ℕ, ◌+◌, ◌∷◌, ◌≡◌}
-use Rattle.textwrap_patterns.specs.Letters.{letters_among}
+use Rattle.textwrap_text.proofs.Units.Reading.{printable-ascii, printable-no_escape}
+use Rattle.textwrap_text.specs.{Characters.characters_from, declared.escapes.State.TheVariants.Text}
 use Rattle.textwrap_patterns.proofs.letters.put_printable.Goals as goal
 
 printable-next : (at c : ℕ) (cs : List ℕ) → IsPrintableByte c

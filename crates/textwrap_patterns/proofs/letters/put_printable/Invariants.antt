@@ -1,7 +1,6 @@
-use Rattle.textwrap_text.specs.Characters.{characters_from}
-use Rattle.textwrap_text.specs.declared.escapes.State.TheVariants.{Text}
-use Rattle.textwrap_text.proofs.Common.{◌++◌, ◌≡◌, drop, take}
+use Rattle.std.proofs.Common.{◌++◌, ◌≡◌, drop, take}
 use Rattle.textwrap_patterns.specs.Letters.{letters_among}
+use Rattle.textwrap_text.specs.{Characters.characters_from, declared.escapes.State.TheVariants.Text}
 use Rattle.textwrap_patterns.proofs.letters.put_printable.Given as goal
 
 -- the letters so far, and those of the bytes to come, are all

@@ -1,5 +1,4 @@
-use Rattle.std.proofs.Common.{sym, ◌∙◌}
-use Rattle.std.proofs.lemmas.Slice.Eq.{bytes_eq-Decides}
+use Rattle.std.proofs.{Common.sym, Common.◌∙◌, lemmas.Slice.Eq.bytes_eq-Decides}
 use Rattle.textwrap_patterns.proofs.ListsWithin.{list-stays}
 use Rattle.textwrap_patterns.proofs.lists.is_list.Goals as goal
 

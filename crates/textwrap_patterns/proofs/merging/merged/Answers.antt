@@ -1,13 +1,12 @@
-use Rattle.std.proofs.Common.{All, List, map, [], ◌++◌, ◌≡◌, ◌∷◌}
-use Rattle.textwrap_text.proofs.Common.{ap, ap₂, arith, get_or, subst, sym, ◌∙◌}
+use Rattle.std.proofs.Common.{All, List, map, [], ◌++◌, ◌≡◌, ◌∷◌, ap, ap₂, arith, get_or, subst}
+use Rattle.std.proofs.Common.{sym, ◌∙◌}
 use Rattle.textwrap_patterns.proofs.MergedEntries.{before-first, before-more, first-before}
 use Rattle.textwrap_patterns.proofs.MergedEntries.{first-more, first_key-take, first_numbers-take}
 use Rattle.textwrap_patterns.proofs.MergedEntries.{greatest_number-more, ordered-drop, sorted-more}
 use Rattle.textwrap_patterns.proofs.MergedEntries.{StandsBefore}
 use Rattle.textwrap_patterns.specs.Entries.{AreSortedFrom, entry_for}
 use Rattle.textwrap_patterns.specs.Merging.{AreInOrder, first_key, first_numbers, greatest}
-use Rattle.textwrap_patterns.specs.Merging.{greatest_number}
-use Rattle.textwrap_patterns.specs.declared.entries.TrieEntry.{TrieEntry}
+use Rattle.textwrap_patterns.specs.{Merging.greatest_number, declared.entries.TrieEntry.TrieEntry}
 use Rattle.textwrap_patterns.proofs.merging.merged.Goals as goal
 
 pub loop-left-preserved : goal.loop-left-preserved

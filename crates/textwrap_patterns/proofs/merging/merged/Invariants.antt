@@ -1,8 +1,6 @@
-use Rattle.std.proofs.Common.{ℕ, ◌≡◌, List, All, length}
-use Rattle.textwrap_text.proofs.Common.{◌++◌}
-use Rattle.textwrap_patterns.proofs.MergedEntries.{StandsBefore}
-use Rattle.textwrap_patterns.specs.Entries.{AreSortedFrom, entry_for}
-use Rattle.textwrap_patterns.specs.Merging.{AreInOrder, greatest_number}
+use Rattle.std.proofs.Common.{ℕ, ◌≡◌, List, All, length, ◌++◌}
+use Rattle.textwrap_patterns.{proofs.MergedEntries.StandsBefore, specs.Entries.AreSortedFrom}
+use Rattle.textwrap_patterns.specs.{Entries.entry_for, Merging.AreInOrder, Merging.greatest_number}
 use Rattle.textwrap_patterns.specs.declared.merging.Rule.TheVariants.{First, Greatest}
 use Rattle.textwrap_patterns.proofs.merging.merged.Given as goal
 

@@ -1,10 +1,8 @@
-use Rattle.std.proofs.Common.{arith, List, get_or, map}
-use Rattle.textwrap_text.proofs.Common.{ap, false≢true, sym, take_all, ◌∙◌}
 use Rattle.textwrap_patterns.proofs.GreatestNumbers.{greatest-first, greatest-more}
-use Rattle.textwrap_patterns.specs.Merging.{greatest}
-use Rattle.textwrap_patterns.specs.declared.entries.TrieEntry.{TrieEntry}
-use Rattle.textwrap_patterns.proofs.merging.merged_group.Goals as goal
 use Rattle.textwrap_patterns.proofs.merging.merged_group.Goals.{then-eq+else-loop-entry-test, else-eq}
+use Rattle.textwrap_patterns.specs.{Merging.greatest, declared.entries.TrieEntry.TrieEntry}
+use Rattle.textwrap_text.proofs.Common.{arith, List, get_or, map, ap, false≢true, sym, take_all, ◌∙◌}
+use Rattle.textwrap_patterns.proofs.merging.merged_group.Goals as goal
 
 pub loop-entry-preserved : goal.loop-entry-preserved
 loop-entry-preserved g c = λ place.

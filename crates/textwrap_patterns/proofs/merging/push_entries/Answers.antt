@@ -1,17 +1,13 @@
-use Rattle.std.proofs.Common.{arith, get_or, length, List, ℕ, ◌≡◌, ◌++◌}
-use Rattle.std.proofs.lemmas.Cmp.{nat_list_cmp_total}
-use Rattle.std.proofs.lemmas.List.Sorted.{answers_always, ranks_by, sorted_far}
-use Rattle.std.proofs.lemmas.Result.{IfOk-weaker}
-use Rattle.textwrap_text.proofs.Common.{ap, rules, subst, sym, ◌∙◌}
+use Rattle.std.proofs.Common.{arith, get_or, length, List, ℕ, ◌≡◌, ◌++◌, ap, rules, subst, sym, ◌∙◌}
+use Rattle.std.proofs.lemmas.{Cmp.nat_list_cmp_total, List.Sorted.answers_always}
+use Rattle.std.proofs.lemmas.{List.Sorted.ranks_by, List.Sorted.sorted_far, Result.IfOk-weaker}
 use Rattle.textwrap_patterns.proofs.FirstEntries.{first-stable, stands_before}
 use Rattle.textwrap_patterns.proofs.GreatestNumbers.{greatest-permutation}
-use Rattle.textwrap_patterns.proofs.LevelsOfKeys.{levels-entries}
-use Rattle.textwrap_patterns.proofs.PutNodes.{no-parents}
+use Rattle.textwrap_patterns.proofs.{LevelsOfKeys.levels-entries, PutNodes.no-parents}
 use Rattle.textwrap_patterns.proofs.WrittenLists.{whole-keys}
 use Rattle.textwrap_patterns.specs.Entries.{AreSortedFrom, entry_for}
 use Rattle.textwrap_patterns.specs.Merging.{AreInOrder, greatest_number, number_in}
-use Rattle.textwrap_patterns.specs.Writing.{HaveParents}
-use Rattle.textwrap_patterns.specs.declared.entries.TrieEntry.{TrieEntry}
+use Rattle.textwrap_patterns.specs.{Writing.HaveParents, declared.entries.TrieEntry.TrieEntry}
 use Rattle.textwrap_patterns.proofs.merging.push_entries.Goals as goal
 
 pub merged-requires : goal.merged-requires

@@ -1,6 +1,5 @@
 use Rattle.std.proofs.Common.{◌≡◌, ◌<◌, ℕ, get_or}
-use Rattle.textwrap_patterns.specs.Merging.{first_key}
-use Rattle.textwrap_patterns.specs.declared.entries.TrieEntry.{TrieEntry}
+use Rattle.textwrap_patterns.specs.{Merging.first_key, declared.entries.TrieEntry.TrieEntry}
 use Rattle.textwrap_patterns.proofs.merging.same_len.Given as goal
 
 -- each entry so far has the key of the first one

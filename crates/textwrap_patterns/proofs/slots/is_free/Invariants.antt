@@ -1,6 +1,5 @@
 use Rattle.std.proofs.Common.{suc, ℕ, ◌+◌, ◌<◌, ◌≡◌, get_or}
-use Rattle.textwrap_patterns.specs.Trie.{empty_slot, slot_at}
-use Rattle.textwrap_patterns.specs.declared.slots.Child.{Child}
+use Rattle.textwrap_patterns.specs.{Trie.empty_slot, Trie.slot_at, declared.slots.Child.Child}
 use Rattle.textwrap_patterns.proofs.slots.is_free.Given as goal
 
 -- the slots of the children so far are empty

@@ -1,8 +1,6 @@
-use Rattle.std.proofs.Common.{arith, get_or, suc, ◌+◌, ◌≡◌}
-use Rattle.std.proofs.lemmas.List.{get_or_default}
 use Rattle.textwrap_patterns.proofs.PutNodes.{codes-more, put-more}
-use Rattle.textwrap_patterns.specs.Trie.{slot_at}
-use Rattle.textwrap_patterns.specs.declared.slots.Child.{Child}
+use Rattle.textwrap_patterns.specs.{Trie.slot_at, declared.slots.Child.Child}
+use Rattle.textwrap_text.proofs.Common.{arith, get_or, suc, ◌+◌, ◌≡◌, get_or_default}
 use Rattle.textwrap_patterns.proofs.slots.put_children.Goals as goal
 
 pub loop-child-preserved : goal.loop-child-preserved

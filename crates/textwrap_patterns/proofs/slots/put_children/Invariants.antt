@@ -1,6 +1,5 @@
 use Rattle.std.proofs.Common.{All, take, ℕ, ◌≡◌, ◌<◌}
-use Rattle.textwrap_patterns.specs.Trie.{slot_at}
-use Rattle.textwrap_patterns.specs.Writing.{slot_for}
+use Rattle.textwrap_patterns.specs.{Trie.slot_at, Writing.slot_for}
 use Rattle.textwrap_patterns.proofs.slots.put_children.Given as goal
 
 -- the children so far are in their slots, and their letters are letters

@@ -1,7 +1,5 @@
 use Rattle.std.proofs.Common.{ap, arith, cond, eqb, ◌*◌, ◌≡◌, ◌∙◌}
-use Rattle.textwrap_patterns.proofs.PutNodes.{put-node}
-use Rattle.textwrap_patterns.specs.Trie.{slot_at}
-use Rattle.textwrap_patterns.specs.Writing.{slot_for}
+use Rattle.textwrap_patterns.{proofs.PutNodes.put-node, specs.Trie.slot_at, specs.Writing.slot_for}
 use Rattle.textwrap_patterns.proofs.slots.put_node.Goals as goal
 
 pub returns : goal.returns

@@ -1,11 +1,9 @@
-use Rattle.std.proofs.Common.{arith, length, sym, ◌+◌, ◌-◌, ◌<◌, ◌∙◌, ◌≤◌}
-use Rattle.std.proofs.lemmas.List.{nil_from_length, take_rest}
-use Rattle.std.proofs.lemmas.List.Elements.{All-take}
-use Rattle.std.proofs.lemmas.Result.{IfOk-weaker}
-use Rattle.std.proofs.lemmas.Bool.{eqb-true}
+use Rattle.std.proofs.lemmas.{List.take_rest, Result.IfOk-weaker}
 use Rattle.textwrap_patterns.proofs.PutNodes.{later-later}
-use Rattle.textwrap_patterns.proofs.TrieSoFar.{group-sorted, left-height, letter-first}
-use Rattle.textwrap_patterns.proofs.TrieSoFar.{written-end, written-next, written-start}
+use Rattle.textwrap_patterns.proofs.TrieSoFar.{group-sorted, left-height, letter-first, written-end}
+use Rattle.textwrap_patterns.proofs.TrieSoFar.{written-next, written-start}
+use Rattle.textwrap_text.proofs.Common.{arith, length, sym, ◌+◌, ◌-◌, ◌<◌, ◌∙◌, ◌≤◌}
+use Rattle.textwrap_text.proofs.Common.{nil_from_length, All-take, eqb-true}
 use Rattle.textwrap_patterns.proofs.writing.+push_trie.Goals as goal
 
 pub loop-left-init : goal.loop-left-init

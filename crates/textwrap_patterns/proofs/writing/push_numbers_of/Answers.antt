@@ -1,5 +1,4 @@
-use Rattle.textwrap_patterns.proofs.Keys.{entry_for-longer, longer-all}
-use Rattle.textwrap_patterns.proofs.WrittenLists.{list-none}
+use Rattle.textwrap_patterns.proofs.{Keys.entry_for-longer, Keys.longer-all, WrittenLists.list-none}
 use Rattle.textwrap_patterns.proofs.writing.push_numbers_of.Goals as goal
 
 pub returns-in_default-2 : goal.returns-in_default-2

@@ -1,7 +1,6 @@
-use Rattle.std.specs.Prelude.{◌↔◌}
-use Rattle.textwrap_text.proofs.Common.{drop}
+use Rattle.std.proofs.Common.{◌↔◌, drop}
 use Rattle.textwrap_patterns.specs.Places.{AreInnerPlaces, IsNextPlace}
-use Rattle.textwrap_words.specs.Cuts.{AreNext}
+use Rattle.textwrap_words.proofs.Common.{AreNext}
 use Rattle.textwrap_patterns.proofs.written.are_inner.Given as goal
 
 -- all are inner just where those that are left are, behind the last

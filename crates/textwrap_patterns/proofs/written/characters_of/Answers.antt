@@ -1,5 +1,4 @@
-use Rattle.textwrap_text.proofs.Common.{YieldsList-end, YieldsList-from_chars, map-id}
-use Rattle.textwrap_text.proofs.Common.{sym, ◌∙◌}
+use Rattle.textwrap_text.proofs.Common.{YieldsList-end, YieldsList-from_chars, map-id, sym, ◌∙◌}
 use Rattle.textwrap_patterns.proofs.written.characters_of.Goals as goal
 
 pub returns : goal.returns

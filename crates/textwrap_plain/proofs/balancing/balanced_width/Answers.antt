@@ -25,16 +25,9 @@ returns-then-indent-width-clause-balanced g c =
     balanced-none settings words splitter c.args.text.now (λ room.
     let least = room-least settings words splitter c.args.text.now settings.width room in
     elim c.then-indent-width.branch [
-      | then-indent-width-via-then-indent-width w ↦ omega (
-        arith,
-        least,
-        indent,
-        w.if-indent-width.true,
-      )
+      | then-indent-width-via-then-indent-width w ↦ omega (arith, w.if-indent-width.true)
       | then-indent-width-via-else-indent-width+then-widest-width w ↦ omega (
         arith,
-        least,
-        indent,
         c.in_ok-widest.ensures.widest,
         w.if-indent-width.false,
         w.if-widest-width.true,
@@ -59,6 +52,5 @@ search-requires-clause-least g c = λ other room.
       arith,
       room-least (layout_view c.args.layout) (g.W.PrintableCuts.words c.args.parts.now.words)
           (points_by c.args.parts.now.splitter) c.args.text.now other room,
-      indent,
       c.in_ok-widest.ensures.widest,
     )

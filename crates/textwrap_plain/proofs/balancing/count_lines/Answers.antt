@@ -1,9 +1,7 @@
-use Rattle.textwrap_plain.proofs.balancing.count_lines.Goals as goal
-use Rattle.textwrap_layout.proofs.Common.{layout_view}
-use Rattle.textwrap_lines.proofs.Common.{lines_of, places_of}
+use Rattle.textwrap_lines.proofs.Common.{layout_view, lines_of, places_of, ap, arith, rules, ◌∙◌}
 use Rattle.textwrap_plain.proofs.Balance.{Counted.counted, Counts.points_by-inside}
 use Rattle.textwrap_plain.specs.{CutSides.points_by-cuts, Options.points_by}
-use Rattle.textwrap_text.proofs.Common.{ap, arith, rules, ◌∙◌}
+use Rattle.textwrap_plain.proofs.balancing.count_lines.Goals as goal
 
 pub returns-clause-counted : goal.returns-clause-counted
 returns-clause-counted g c =

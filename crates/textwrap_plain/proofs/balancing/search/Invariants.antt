@@ -1,7 +1,6 @@
-use Rattle.textwrap_plain.proofs.balancing.search.Given as goal
-use Rattle.textwrap_layout.proofs.Common.{layout_view}
+use Rattle.textwrap.proofs.Common.{layout_view, ◌-◌, ◌<◌, ◌^◌, ◌≤◌}
 use Rattle.textwrap_plain.{proofs.Balance.Search.IsBetween, specs.Options.points_by}
-use Rattle.textwrap_text.proofs.Common.{◌-◌, ◌<◌, ◌^◌, ◌≤◌}
+use Rattle.textwrap_plain.proofs.balancing.search.Given as goal
 
 -- the balanced width is between the two, and at most half of the widths are left after each filling
 abbrev pub invariant-loop-low : goal.invariant-loop-low

@@ -13,12 +13,7 @@ loop-piece-init c =
 
 pub loop-piece-preserved : goal.loop-piece-preserved
 loop-piece-preserved c =
-    omega (
-      arith,
-      ap widest_place c.in-Some.ensures.steps,
-      c.wider-widest.ensures,
-      c.loop-piece.invariant,
-    )
+    omega (arith, ap widest_place c.in-Some.ensures.steps)
 
 pub returns : goal.returns
 returns c = omega (arith, ap widest_place c.in-None.ensures.steps.0, c.loop-piece.invariant)

@@ -1,16 +1,14 @@
-use Rattle.textwrap_plain.proofs.balancing.widest_in.Goals as goal
-use Rattle.std.specs.Option.{option_map}
-use Rattle.textwrap_layout.proofs.Common.{Settings, broken_pieces_of, layout_view, pieces_of_words}
-use Rattle.textwrap_layout.proofs.Common.{word_view, words_cut}
+use Rattle.textwrap.proofs.Common.{option_map}
+use Rattle.textwrap_layout.proofs.Common.{broken_pieces_of}
 use Rattle.textwrap_layout.proofs.Paragraph.Pieces.{AreWordsCut-texts, split_words-no_penalty}
-use Rattle.textwrap_layout.specs.Frame.{frame_settings}
+use Rattle.textwrap_lines.proofs.Common.{Settings, layout_view, pieces_of_words, word_view}
+use Rattle.textwrap_lines.proofs.Common.{words_cut, frame_settings, ap, arith, false, map, rules}
+use Rattle.textwrap_lines.proofs.Common.{subst, sym, ◌∙◌, ◌≡◌, as_splitter, split_words, AreTexts}
+use Rattle.textwrap_lines.proofs.Common.{stand_from}
 use Rattle.textwrap_plain.proofs.{Balance.Room.places-widest, Pieces.hyphenated-wide}
-use Rattle.textwrap_plain.proofs.Split.{pieces-from}
-use Rattle.textwrap_plain.specs.Options.{points_by, split_by_points}
+use Rattle.textwrap_plain.{proofs.Split.pieces-from, specs.Options.{points_by, split_by_points}}
 use Rattle.textwrap_plain.specs.Widest.{widest_of_words, widest_place}
-use Rattle.textwrap_text.proofs.Common.{ap, arith, false, map, rules, subst, sym, ◌∙◌, ◌≡◌}
-use Rattle.textwrap_words.proofs.{Common.as_splitter, Common.split_words, Word.Pieces.AreTexts}
-use Rattle.textwrap_words.specs.Pieces.{stand_from}
+use Rattle.textwrap_plain.proofs.balancing.widest_in.Goals as goal
 
 pub widest_of_list-requires : goal.widest_of_list-requires
 widest_of_list-requires g c =

@@ -1,9 +1,7 @@
-use Rattle.textwrap_plain.proofs.balancing.widest_of_list.Given as goal
+use Rattle.textwrap.proofs.Common.{word_view, drop, map, max, ◌≡◌, sizes_of}
 use Rattle.textwrap_base.{proofs.Common.total_width, specs.Errors.Fits64Bits}
-use Rattle.textwrap_layout.proofs.Common.{word_view}
 use Rattle.textwrap_plain.specs.Widest.{widest_of_words}
-use Rattle.textwrap_text.proofs.Common.{drop, map, max, ◌≡◌}
-use Rattle.textwrap_words.proofs.Common.{sizes_of}
+use Rattle.textwrap_plain.proofs.balancing.widest_of_list.Given as goal
 
 -- the widest so far, and that of the pieces that are left, are the widest of all, and these fit a number
 abbrev pub invariant-loop-piece : goal.invariant-loop-piece

@@ -1,9 +1,8 @@
-use Rattle.textwrap_plain.proofs.balancing.widest_piece.Given as goal
-use Rattle.textwrap_layout.proofs.Common.{layout_view}
-use Rattle.textwrap_layout.proofs.Text.Lines.{bytes_left, paragraphs_left}
+use Rattle.textwrap.proofs.Common.{layout_view, flat_map, max, ◌≡◌}
+use Rattle.textwrap_display.proofs.Common.{bytes_left, paragraphs_left}
 use Rattle.textwrap_plain.specs.{Balance.whole_pieces, Options.points_by, Options.split_by_points}
 use Rattle.textwrap_plain.specs.Widest.{widest_of_words}
-use Rattle.textwrap_text.proofs.Common.{flat_map, max, ◌≡◌}
+use Rattle.textwrap_plain.proofs.balancing.widest_piece.Given as goal
 
 -- the widest so far, and that of the pieces of the paragraphs that are left, are the widest of all
 abbrev pub invariant-loop-rest : goal.invariant-loop-rest

@@ -1,8 +1,6 @@
-use Rattle.textwrap_plain.proofs.balancing.wrap_balanced.Goals as goal
-use Rattle.std.proofs.lemmas.Result.{IfOk-weaker}
-use Rattle.textwrap_layout.proofs.Common.{layout_view}
+use Rattle.textwrap.proofs.Common.{IfOk-weaker, layout_view, length-map, sym, ◌∙◌}
 use Rattle.textwrap_plain.{proofs.Balance.Search.balanced-many, specs.Options.points_by}
-use Rattle.textwrap_text.proofs.Common.{length-map, sym, ◌∙◌}
+use Rattle.textwrap_plain.proofs.balancing.wrap_balanced.Goals as goal
 
 pub returns-clause-lines : goal.returns-clause-lines
 returns-clause-lines g c = IfOk-weaker c.wrap_by.result _ _

@@ -1,9 +1,7 @@
-use Rattle.textwrap_plain.proofs.placed.paragraph_pieces.Goals as goal
-use Rattle.std.proofs.lemmas.Result.{IfOk-weaker}
-use Rattle.textwrap_layout.proofs.Common.{word_view}
+use Rattle.textwrap.proofs.Common.{IfOk-weaker, word_view, map, ◌≡◌}
 use Rattle.textwrap_plain.proofs.Split.{pieces-from}
 use Rattle.textwrap_plain.specs.Options.{plain_settings, points_by, words_by}
-use Rattle.textwrap_text.proofs.Common.{map, ◌≡◌}
+use Rattle.textwrap_plain.proofs.placed.paragraph_pieces.Goals as goal
 
 pub returns-clause-pieces : goal.returns-clause-pieces
 returns-clause-pieces c =

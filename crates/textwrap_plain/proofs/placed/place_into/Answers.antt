@@ -1,8 +1,7 @@
-use Rattle.textwrap_plain.proofs.placed.place_into.Goals as goal
-use Rattle.textwrap_layout.proofs.Common.{built_text}
-use Rattle.textwrap_layout.specs.LentPlaces.{reported_line}
+use Rattle.textwrap_layout.proofs.Common.{built_text, reported_line}
 use Rattle.textwrap_lines.proofs.Common.{ap, lines_of, map, places_of, rules, ◌∙◌}
 use Rattle.textwrap_text.specs.LentText.{written_over}
+use Rattle.textwrap_plain.proofs.placed.place_into.Goals as goal
 
 pub returns-then-are_direct-clause-lines : goal.returns-then-are_direct-clause-lines
 returns-then-are_direct-clause-lines c =

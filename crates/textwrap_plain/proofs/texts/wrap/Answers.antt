@@ -1,13 +1,12 @@
-use Rattle.textwrap_plain.proofs.texts.wrap.Goals as goal
-use Rattle.std.{proofs.lemmas.Result.IfOk-weaker, specs.Prelude.IfOk}
-use Rattle.textwrap_layout.proofs.Common.{AreTextLines, later_width, line_view}
+use Rattle.std.proofs.Common.{IfOk}
+use Rattle.textwrap_lines.proofs.Common.{IfOk-weaker, AreTextLines, later_width, line_view, None}
+use Rattle.textwrap_lines.proofs.Common.{arith, map, refl, ◌<◌, ◌≡◌}
 use Rattle.textwrap_plain.proofs.Words.{AddOnlyHyphens-at, ArePrintedWithin-at, AreTheText-at}
 use Rattle.textwrap_plain.proofs.Words.{IsWrapped-at, LinesKeepButHyphens-at, LinesKeepToWidth-at}
-use Rattle.textwrap_plain.proofs.texts.wrap.Goals.{After-wrap_by}
-use Rattle.textwrap_plain.specs.Options.{DividesPlainly, HasRoomForHyphen, plain_algorithm}
-use Rattle.textwrap_plain.specs.{Options.plain_settings, Options.plain_splitter}
-use Rattle.textwrap_plain.specs.declared.options.PlainOptions.{PlainOptions}
-use Rattle.textwrap_text.proofs.Common.{None, arith, map, refl, ◌<◌, ◌≡◌}
+use Rattle.textwrap_plain.{proofs.texts.wrap.Goals.After-wrap_by, specs.Options.DividesPlainly}
+use Rattle.textwrap_plain.specs.Options.{HasRoomForHyphen, plain_algorithm, plain_settings}
+use Rattle.textwrap_plain.specs.{Options.plain_splitter, declared.options.PlainOptions.PlainOptions}
+use Rattle.textwrap_plain.proofs.texts.wrap.Goals as goal
 
 lines : (c : After-wrap_by) → IfOk c.wrap_by.result (λ lines.
     AreTextLines (plain_settings c.args.options.now)

@@ -1,8 +1,6 @@
-use Rattle.std.proofs.Common.{◌+◌, arith, map}
-use Rattle.std.proofs.lemmas.List.{length-map}
+use Rattle.textwrap_text.proofs.Common.{◌+◌, arith, map, length-map}
+use Rattle.unified_diff.proofs.{DiffNearest.nearest-next, DiffRuns.same-within}
 use Rattle.unified_diff.specs.Differences.{IsNearestBefore, place_in}
-use Rattle.unified_diff.proofs.DiffNearest.{nearest-next}
-use Rattle.unified_diff.proofs.DiffRuns.{same-within}
 use Rattle.unified_diff.proofs.differences.change_lens.Goals as goal
 
 pub loop-at-preserved : goal.loop-at-preserved

@@ -1,5 +1,4 @@
-use Rattle.std.proofs.Common.{◌≡◌, drop}
-use Rattle.std.specs.List.{list_any}
+use Rattle.textwrap_text.proofs.Common.{◌≡◌, drop, list_any}
 use Rattle.unified_diff.specs.Differences.{is_escaped}
 use Rattle.unified_diff.proofs.differences.has_escaped.Given as goal
 

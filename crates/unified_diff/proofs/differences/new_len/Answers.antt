@@ -1,7 +1,5 @@
-use Rattle.std.proofs.Common.{◌≡◌, ◌∙◌, rules}
-use Rattle.std.specs.Prelude.{count_by}
-use Rattle.unified_diff.specs.Differences.{is_new}
-use Rattle.unified_diff.proofs.DiffLines.{count_news}
+use Rattle.std.proofs.Common.{◌≡◌, ◌∙◌, rules, count_by}
+use Rattle.unified_diff.{proofs.DiffLines.count_news, specs.Differences.is_new}
 use Rattle.unified_diff.proofs.differences.new_len.Goals as goal
 
 pub returns : goal.returns

@@ -1,7 +1,5 @@
-use Rattle.std.proofs.Common.{below_more}
-use Rattle.unified_diff.specs.Differences.{signed_view}
-use Rattle.std.proofs.Common.{map}
-use Rattle.unified_diff.proofs.DiffLines.{IsNearIf-other}
+use Rattle.std.proofs.Common.{below_more, map}
+use Rattle.unified_diff.{proofs.DiffLines.IsNearIf-other, specs.Differences.signed_view}
 use Rattle.unified_diff.proofs.differences.next_place.Goals as goal
 
 pub loop-at-preserved : goal.loop-at-preserved

@@ -1,7 +1,5 @@
-use Rattle.std.proofs.Common.{◌≡◌, ◌∙◌, rules}
-use Rattle.std.specs.Prelude.{count_by}
-use Rattle.unified_diff.specs.Differences.{is_old}
-use Rattle.unified_diff.proofs.DiffLines.{count_olds}
+use Rattle.std.proofs.Common.{◌≡◌, ◌∙◌, rules, count_by}
+use Rattle.unified_diff.{proofs.DiffLines.count_olds, specs.Differences.is_old}
 use Rattle.unified_diff.proofs.differences.old_len.Goals as goal
 
 pub returns : goal.returns

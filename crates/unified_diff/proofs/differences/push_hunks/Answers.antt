@@ -1,12 +1,10 @@
-use Rattle.std.proofs.Common.{◌≡◌, ◌∙◌, ◌-◌, ◌<◌, ◌≤◌, ap, arith, drop, length, map, subst, sym}
-use Rattle.std.proofs.Common.{take, ℕ, List}
-use Rattle.std.proofs.lemmas.List.{length-map}
-use Rattle.unified_diff.specs.Differences.{IsNear, SignedText, news, olds, signed_view}
-use Rattle.unified_diff.proofs.DiffRuns.{lean-part}
+use Rattle.textwrap_text.proofs.Common.{◌≡◌, ◌∙◌, ◌-◌, ◌<◌, ◌≤◌, ap, arith, drop, length, map}
+use Rattle.textwrap_text.proofs.Common.{subst, sym, take, ℕ, List, length-map}
 use Rattle.unified_diff.proofs.DiffHunks.{HasPushed-all, HasPushed-next, hunk-found, lens-part}
-use Rattle.unified_diff.proofs.DiffHunks.{not_below, view-part}
-use Rattle.unified_diff.proofs.differences.push_hunks.Goals as goal
+use Rattle.unified_diff.proofs.{DiffHunks.not_below, DiffHunks.view-part, DiffRuns.lean-part}
+use Rattle.unified_diff.specs.Differences.{IsNear, SignedText, news, olds, signed_view}
 use Rattle.unified_diff.specs.declared.differences.SignedLine.{SignedLine}
+use Rattle.unified_diff.proofs.differences.push_hunks.Goals as goal
 
 length-lines : (lines : List SignedLine) → length (map signed_view lines) ≡ length lines
 length-lines lines = length-map lines signed_view
@@ -19,10 +17,8 @@ lens-view : (lines : List SignedLine) (first last old_len new_len : ℕ) → fir
 lens-view lines first last old_len new_len order within old_is new_is =
     let len = length-lines lines in
     let most = lens-part (map signed_view lines) first last order (omega arith) in (
-      subst (λ n. n ≤ last - first)
-          (ap (λ ls. length (olds ls)) (sym (view-part lines first last)) ∙ sym old_is) most.0,
-      subst (λ n. n ≤ last - first)
-          (ap (λ ls. length (news ls)) (sym (view-part lines first last)) ∙ sym new_is) most.1,
+      rw (ap (λ ls. length (olds ls)) (sym (view-part lines first last)) ∙ sym old_is) at most.0,
+      rw (ap (λ ls. length (news ls)) (sym (view-part lines first last)) ∙ sym new_is) at most.1,
     )
 
 -- a line near a change is followed by one that is not, or by none

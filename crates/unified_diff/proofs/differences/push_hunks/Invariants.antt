@@ -1,6 +1,5 @@
 use Rattle.std.proofs.Common.{◌-◌, ◌<◌, ◌≤◌, length, map}
-use Rattle.unified_diff.specs.Differences.{IsNear, signed_view}
-use Rattle.unified_diff.proofs.DiffHunks.{HasPushed}
+use Rattle.unified_diff.{proofs.DiffHunks.HasPushed, specs.Differences.{IsNear, signed_view}}
 use Rattle.unified_diff.proofs.differences.push_hunks.Given as goal
 
 -- the hunks before this place were pushed, and the last one ends there

@@ -1,5 +1,4 @@
-use Rattle.std.proofs.Common.{◌≡◌, ◌++◌, map, take}
-use Rattle.std.specs.List.{flat_map}
+use Rattle.textwrap_text.proofs.Common.{◌≡◌, ◌++◌, map, take, flat_map}
 use Rattle.unified_diff.specs.Differences.{line_text, signed_view}
 use Rattle.unified_diff.proofs.differences.push_lines.Given as goal
 

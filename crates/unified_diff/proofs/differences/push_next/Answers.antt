@@ -1,9 +1,8 @@
 use Rattle.std.proofs.Common.{◌≡◌, ◌∙◌, ◌++◌, ap, map, List, ℕ, Bor, drop, length, length-take, arith}
-use Rattle.std.proofs.Common.{⊎_elim, inl, inr, subst}
-use Rattle.std.proofs.lemmas.List.{drop-map, length-map}
-use Rattle.unified_diff.specs.Differences.{IsNearest, news, olds, signed_view}
-use Rattle.unified_diff.proofs.DiffRuns.{kept-some, lean-grown, moves, same-or-further}
+use Rattle.std.proofs.{Common.{⊎_elim, inl, inr}, lemmas.List.{drop-map, length-map}}
 use Rattle.unified_diff.proofs.DiffLines.{news-grown, olds-grown, taken-lines, taken-same}
+use Rattle.unified_diff.proofs.DiffRuns.{kept-some, lean-grown, moves, same-or-further}
+use Rattle.unified_diff.specs.Differences.{IsNearest, news, olds, signed_view}
 use Rattle.unified_diff.proofs.differences.push_next.Goals as goal
 
 -- what is the nearest behind the lines that are kept, so of the texts without them
@@ -14,8 +13,7 @@ nearest-of : (old new old_behind new_behind : List (Bor (List ℕ))) (kept remov
     added
 nearest-of old new old_behind new_behind kept removed added a b is =
     rw (drop-map (λ line. line.now) kept old, drop-map (λ line. line.now) kept new)
-    (subst (λ ls. IsNearest (map (λ line. line.now) (drop kept old)) (map (λ line. line.now) ls) removed added) b
-    (subst (λ ls. IsNearest (map (λ line. line.now) ls) (map (λ line. line.now) new_behind) removed added) a is))
+    (rw b at (rw a at is))
 
 pub returns-clause-some : goal.returns-clause-some
 returns-clause-some g c some =

@@ -1,5 +1,4 @@
-use Rattle.std.proofs.Common.{◌≡◌, ◌++◌, take}
-use Rattle.std.specs.List.{flat_map}
+use Rattle.textwrap_text.proofs.Common.{◌≡◌, ◌++◌, take, flat_map}
 use Rattle.unified_diff.specs.Differences.{quoted_byte}
 use Rattle.unified_diff.proofs.differences.push_quoted.Given as goal
 

@@ -1,7 +1,5 @@
-use Rattle.std.proofs.Common.{arith, inl, inr, ⊎_elim}
-use Rattle.std.proofs.lemmas.List.{length-map}
-use Rattle.unified_diff.proofs.DiffRuns.{begins-same, goes-on}
-use Rattle.unified_diff.proofs.DiffLines.{taken-further}
+use Rattle.textwrap_text.proofs.Common.{arith, inl, inr, ⊎_elim, length-map}
+use Rattle.unified_diff.proofs.{DiffLines.taken-further, DiffRuns.begins-same, DiffRuns.goes-on}
 use Rattle.unified_diff.proofs.differences.signed_lines.Goals as goal
 
 pub loop-old_at-preserved : goal.loop-old_at-preserved

@@ -1,8 +1,7 @@
-use Rattle.filter_programs.proofs.fill.filling.fill_text.Goals as goal
-use Rattle.std.proofs.Common.{rules}
-use Rattle.textwrap_layout.specs.Options.{settings_at}
+use Rattle.textwrap.proofs.Common.{rules, settings_at}
 use Rattle.textwrap_program.specs.Arguments.{asked_algorithm}
-use Rattle.textwrap_words.specs.WordSplitters.{AtHyphens}
+use Rattle.textwrap_words.proofs.Common.{AtHyphens}
+use Rattle.filter_programs.proofs.fill.filling.fill_text.Goals as goal
 
 pub returns-in-Ok : goal.returns-in-Ok
 returns-in-Ok c =

@@ -1,12 +1,10 @@
-use Rattle.filter_programs.proofs.hyphenate.texts.filled.Goals as goal
 use Rattle.filter_programs.specs.HyphenateTexts.{algorithm_by, separator_by}
-use Rattle.std.proofs.Common.{string_bytes, subst}
-use Rattle.textwrap_layout.specs.{Filling.IsFilled, Options.Settings}
+use Rattle.textwrap.proofs.Common.{string_bytes, subst, IsFilled, Settings, Algorithm}
 use Rattle.textwrap_plain.specs.Options.{DividesFrom, plain_algorithm, plain_settings, points_by}
 use Rattle.textwrap_plain.specs.{Options.words_by, declared.options.PlainSeparator.PlainSeparator}
 use Rattle.textwrap_plain.specs.declared.options.PlainSplitter.{PlainSplitter}
 use Rattle.textwrap_plain.specs.declared.options.PlainSplitter.TheVariants.{Dictionary}
-use Rattle.textwrap_words.specs.WrapAlgorithms.{Algorithm}
+use Rattle.filter_programs.proofs.hyphenate.texts.filled.Goals as goal
 
 pub returns-in-Ok : goal.returns-in-Ok
 returns-in-Ok c =

@@ -1,8 +1,7 @@
-use Rattle.filter_programs.proofs.hyphenate.texts.hyphenated_words.Given as goal
 use Rattle.filter_programs.specs.HyphenateTexts.{hyphenated_word}
-use Rattle.std.specs.{List.flat_map, Prelude.string_bytes}
+use Rattle.textwrap.proofs.Common.{flat_map, string_bytes, map, ◌≡◌}
 use Rattle.textwrap_hyphens.specs.Table.{held}
-use Rattle.textwrap_text.proofs.Common.{map, ◌≡◌}
+use Rattle.filter_programs.proofs.hyphenate.texts.hyphenated_words.Given as goal
 
 -- what is made so far are the lines so far, each as a word
 abbrev pub invariant-loop-word : goal.invariant-loop-word

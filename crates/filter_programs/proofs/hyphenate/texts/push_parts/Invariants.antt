@@ -1,9 +1,8 @@
-use Rattle.filter_programs.proofs.hyphenate.texts.push_parts.Given as goal
 use Rattle.filter_programs.specs.HyphenateTexts.{hyphenated_at}
-use Rattle.std.specs.{List.join_with_byte, Prelude.string_bytes}
-use Rattle.textwrap_text.proofs.Common.{IsCharBoundary, drop, ◌++◌, ◌<◌, ◌≡◌}
-use Rattle.textwrap_words.{proofs.Common.AreNext, proofs.Common.parts_onward, specs.Cuts.IsNextCut}
-use Rattle.textwrap_words.specs.WordSplitters.{hyphen}
+use Rattle.textwrap_text.proofs.Common.{join_with_byte, string_bytes, IsCharBoundary, drop, ◌++◌}
+use Rattle.textwrap_text.proofs.Common.{◌<◌, ◌≡◌}
+use Rattle.textwrap_words.proofs.Common.{AreNext, parts_onward, IsNextCut, hyphen}
+use Rattle.filter_programs.proofs.hyphenate.texts.push_parts.Given as goal
 
 -- what is made so far, and the parts behind the last point, are the parts of the word
 abbrev pub invariant-loop-point : goal.invariant-loop-point

@@ -1,10 +1,8 @@
-use Rattle.std.specs.Prelude.{Ok, if◌then◌else◌}
 use Rattle.std.specs.Str.{trim}
-use Rattle.textwrap_dictionaries.proofs.Common.{ap, sym, true, ⊤, ◌∙◌, ◌≡◌}
-use Rattle.textwrap_dictionaries.proofs.Said.{lines-refused, then-read}
-use Rattle.textwrap_dictionaries.specs.Entries.{is_list}
+use Rattle.textwrap_dictionaries.{proofs.Said.lines-refused, proofs.Said.then-read, specs.Entries.is_list}
 use Rattle.textwrap_dictionaries.specs.Parsing.{header_said, listed_said, reading_view, said_in, with_all}
 use Rattle.textwrap_dictionaries.specs.declared.entries.Section.{Section}
+use Rattle.textwrap_text.proofs.Common.{Ok, if◌then◌else◌, ap, sym, true, ⊤, ◌∙◌, ◌≡◌}
 use Rattle.textwrap_dictionaries.proofs.parsing.Reading.read_entered.Goals as goal
 
 pub returns-then-is_list-clause-said : goal.returns-then-is_list-clause-said

@@ -1,5 +1,4 @@
-use Rattle.textwrap_dictionaries.proofs.Common.{◌≡◌, drop, filter, map}
-use Rattle.std.specs.Prelude.{not}
+use Rattle.std.proofs.Common.{◌≡◌, drop, filter, map, not}
 use Rattle.textwrap_dictionaries.specs.Entries.{item_said}
 use Rattle.textwrap_dictionaries.specs.Parsing.{is_empty, reading_view, text_said, with_all}
 use Rattle.textwrap_dictionaries.proofs.parsing.Reading.read_words.Given as goal

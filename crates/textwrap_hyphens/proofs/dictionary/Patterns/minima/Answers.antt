@@ -1,9 +1,7 @@
-use Rattle.std.proofs.lemmas.List.{with_items_is}
-use Rattle.std.specs.Vec.{with_items}
+use Rattle.std.{proofs.lemmas.List.with_items_is, specs.Vec.with_items}
 use Rattle.textwrap_hyphens.proofs.Common.{ap, length, subst, sym, ◌∙◌, ◌≡◌}
 use Rattle.textwrap_hyphens.proofs.Minima.{minima-held, minima-length, minima-sealed, still-kept}
-use Rattle.textwrap_hyphens.specs.Numbers.{KeepsLists, held_in}
-use Rattle.textwrap_hyphens.specs.Seal.{is_sealed, with_minima}
+use Rattle.textwrap_hyphens.specs.{Numbers.{KeepsLists, held_in}, Seal.{is_sealed, with_minima}}
 use Rattle.textwrap_hyphens.proofs.dictionary.Patterns.minima.Goals as goal
 
 pub invariant_of-self : goal.invariant_of-self

@@ -1,8 +1,7 @@
 use Rattle.std.proofs.Common.{◌≡◌, ◌∙◌, ap, subst, sym, false, List, ℕ, Ok, Err}
-use Rattle.textwrap_hyphens.specs.Hyphenation.{Hyphenation}
-use Rattle.textwrap_hyphens.specs.Parsed.{Holds}
-use Rattle.textwrap_hyphens.specs.Table.{held_in, patterns_view}
 use Rattle.textwrap_dictionaries.specs.Parsing.{Outcome, parsed}
+use Rattle.textwrap_hyphens.specs.{Hyphenation.Hyphenation, Parsed.Holds}
+use Rattle.textwrap_hyphens.specs.Table.{held_in, patterns_view}
 use Rattle.textwrap_more_calls.specs.Dictionaries.{AreNumbersOf}
 use Rattle.textwrap_more_calls.proofs.hyphens.reading.textwrap_patterns_read.Goals as goal
 

@@ -1,8 +1,7 @@
-use Rattle.textwrap_plain.proofs.parts.HyphenatedParts.has_points.Goals as goal
+use Rattle.std.proofs.Common.{refl}
 use Rattle.textwrap_hyphens.proofs.SplitPieces.{held-inner}
-use Rattle.textwrap_hyphens.specs.Splitting.{split_points}
-use Rattle.textwrap_hyphens.specs.Table.{held}
-use Rattle.textwrap_text.proofs.Common.{refl}
+use Rattle.textwrap_hyphens.specs.{Splitting.split_points, Table.held}
+use Rattle.textwrap_plain.proofs.parts.HyphenatedParts.has_points.Goals as goal
 
 pub returns : goal.returns
 returns g c = λ _ word utf8.

@@ -1,7 +1,6 @@
-use Rattle.textwrap_plain.proofs.parts.PlainPartsParts.divide.Goals as goal
-use Rattle.textwrap_layout.proofs.Common.{word_view}
+use Rattle.textwrap.proofs.Common.{word_view, map}
 use Rattle.textwrap_plain.proofs.Pieces.{plain-fits}
-use Rattle.textwrap_text.proofs.Common.{map}
+use Rattle.textwrap_plain.proofs.parts.PlainPartsParts.divide.Goals as goal
 
 pub returns-clause-only_memory : goal.returns-clause-only_memory
 returns-clause-only_memory g c = λ settings paragraph utf8 short are tiles never.

@@ -1,12 +1,11 @@
-use Rattle.textwrap_plain.proofs.parts.PlainPartsParts.has_points.Goals as goal
+use Rattle.textwrap.proofs.Common.{ap, false≢true, refl, true, ◌≡◌}
 use Rattle.textwrap_hyphens.proofs.SplitPieces.{held-inner}
-use Rattle.textwrap_hyphens.specs.Splitting.{split_points}
-use Rattle.textwrap_hyphens.specs.Table.{held}
+use Rattle.textwrap_hyphens.specs.{Splitting.split_points, Table.held}
 use Rattle.textwrap_layout.specs.Direct.{HasInnerPoints}
 use Rattle.textwrap_plain.specs.Options.{is_dictionary, points_by}
 use Rattle.textwrap_plain.specs.declared.options.PlainSplitter.{PlainSplitter}
 use Rattle.textwrap_plain.specs.declared.options.PlainSplitter.TheVariants.{BuiltIn, Dictionary}
-use Rattle.textwrap_text.proofs.Common.{ap, false≢true, refl, true, ◌≡◌}
+use Rattle.textwrap_plain.proofs.parts.PlainPartsParts.has_points.Goals as goal
 
 dictionary-points : (splitter : PlainSplitter) → is_dictionary splitter ≡ true
     → HasInnerPoints (λ word points. points ≡ points_by splitter word)

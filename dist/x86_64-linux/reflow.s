@@ -3,8 +3,8 @@
 # Made by tools/dist; what it asks of the machine, bindings/programs has.
 # proved and compiled with: rattle-kit-13f logic dac8208d650f15bf
 # proved for: x86_64-unknown-linux-gnu
-# crates: textwrap_text textwrap_base textwrap_words textwrap_layout textwrap_lines textwrap textwrap_unicode textwrap_styles textwrap_display textwrap_trie textwrap_patterns textwrap_hyphens textwrap_marks textwrap_marked_lines textwrap_marked textwrap_plain textwrap_program unified_diff text_files text_filters filter_programs reflow
-# sum of their sources: 74071c4ae8e528bac90f7e6de19646f82b556c2040572590c1488f0ae822ed4d
+# crates: textwrap_text textwrap_base textwrap_words textwrap_layout textwrap_lines textwrap textwrap_unicode textwrap_styles textwrap_display textwrap_patterns textwrap_dictionaries textwrap_hyphens textwrap_marks textwrap_marked_lines textwrap_marked textwrap_plain textwrap_program unified_diff text_files text_filters filter_programs reflow
+# sum of their sources: 4c32e2dd600f6f2725b84d1566888117dd4dd33497a5d1edb3f9b75dc7c14ba4
 # sum of the lines below: 07ecd66864e2158e113d9f7e783019e8ca0c8787a589978bbc86a447ebb7c9b2
 	.section	.rodata.cst16,"aM",@progbits,16
 	.p2align	4, 0x0

@@ -17,6 +17,8 @@ const BOLD: &str = "\u{1b}[1m";
 const RED: &str = "\u{1b}[31m";
 const RESET: &str = "\u{1b}[0m";
 const LINK: &str = "\u{1b}]8;;http://example.com\u{1b}\\";
+// The same, as the first link of a text is set anew.
+const LINK_AGAIN: &str = "\u{1b}]8;id=w1;http://example.com\u{1b}\\";
 const LINK_END: &str = "\u{1b}]8;;\u{1b}\\";
 
 fn first_fit<'a>(width: usize) -> Options<'a> {
@@ -148,12 +150,15 @@ fn styles_are_carried() {
     );
     assert_eq!(
         carried([format!("{LINK}a"), format!("b{LINK_END} c")]),
-        [format!("{LINK}a{LINK_END}"), format!("{LINK}b{LINK_END} c")]
+        [format!("{LINK}a{LINK_END}"), format!("{LINK_AGAIN}b{LINK_END} c")]
     );
     // The link is set before the styles, and taken back after them.
     assert_eq!(
         carried([format!("{BOLD}{LINK}a"), "b".into()]),
-        [format!("{BOLD}{LINK}a{RESET}{LINK_END}"), format!("{LINK}{BOLD}b{RESET}{LINK_END}")]
+        [
+            format!("{BOLD}{LINK}a{RESET}{LINK_END}"),
+            format!("{LINK_AGAIN}{BOLD}b{RESET}{LINK_END}"),
+        ]
     );
 }
 
@@ -194,7 +199,7 @@ fn settings_are_carried() {
     let lines = [format!("{LINK}{RED}{BOLD}foo"), String::from("> bar")];
     assert_eq!(
         carry_attributes(&lines, &options)[1],
-        format!("> {LINK}{RED}{BOLD}bar{RESET}{LINK_END}")
+        format!("> {LINK_AGAIN}{RED}{BOLD}bar{RESET}{LINK_END}")
     );
     // More than the room that is made at first.
     let attributes = "\u{1b}[1;3;4;5;7;8;9;31;41;51;53m";

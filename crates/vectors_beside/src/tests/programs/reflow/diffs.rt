@@ -1,6 +1,6 @@
 //! What would change, as a unified diff. What is expected is what GNU `diff -u` writes, with the
 //! length of each range.
-use super::super::plain::assert_holds;
+use super::super::super::plain::assert_holds;
 use super::folder::{FileFault, Given};
 use super::plain::{
     Start, assert_bytes, assert_number, assert_reflowed, assert_spans, assert_whole_run, repeated,

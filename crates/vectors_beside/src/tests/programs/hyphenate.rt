@@ -1,6 +1,6 @@
 //! The program `hyphenate`.
-use super::program::folder::{FileFault, Given};
-use super::program::plain::{
+use super::reflow::folder::{FileFault, Given};
+use super::reflow::plain::{
     Program, assert_no_request, assert_rendered, assert_run, repeated, sound_start,
 };
 use filter_programs::hyphenate::arguments::{HELP, VERSION};

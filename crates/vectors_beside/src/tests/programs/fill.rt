@@ -1,6 +1,6 @@
 //! The program that is installed as `textwrap`.
-use super::program::folder::{FileFault, Given};
-use super::program::plain::{
+use super::reflow::folder::{FileFault, Given};
+use super::reflow::plain::{
     Program, Start, assert_bytes, assert_ending, assert_no_request, assert_rendered, assert_run,
     repeated, run_of, sound_start,
 };

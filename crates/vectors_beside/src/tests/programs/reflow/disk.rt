@@ -1,5 +1,5 @@
 //! Files of the file system, in a folder of their own.
-use super::super::plain::{assert_found, assert_holds};
+use super::super::super::plain::{assert_found, assert_holds};
 use super::folder::WRITTEN_AT_ONCE;
 use super::plain::{SOUND, strings};
 use filter_programs::reflow::program::Reflow;

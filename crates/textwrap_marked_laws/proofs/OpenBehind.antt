@@ -12,10 +12,12 @@ use Rattle.textwrap_marked_laws.proofs.Common.{told-apart, true≢false, FenceTe
 use Rattle.textwrap_marked_laws.proofs.Common.{true, ◌&&◌, ◌==◌, ◌||◌, sym, ◌∙◌, ◌∷◌, ◌≡◌, [], ap, ℕ}
 use Rattle.textwrap_marked_laws.proofs.LineKinds.{has_opening_in, hanging_of, line_by, Kinds}
 use Rattle.textwrap_marked_lines.specs.Lines.{is_in_block, is_prompted, new_before, is_before, new_by}
-use Rattle.textwrap_marked_lines.specs.Fences.{opens_formula, has_pre_end, opened_by, opened, run_of}
+use Rattle.textwrap_marked_lines.specs.Fences.{opens_attribute, opens_formula, has_pre_end, opened_by, opened}
+use Rattle.textwrap_marked_lines.specs.Fences.{run_of}
 use Rattle.textwrap_marks.specs.Signs.{is_comment_behind, opens_session, any_contains, is_directive}
 use Rattle.textwrap_marks.specs.Signs.{is_for_tools, is_sign_byte, opens_code, is_sign, is_gap}
-use Rattle.textwrap_marked_lines.specs.declared.fences.FenceKind.TheVariants.{Formula, Code, Pre}
+use Rattle.textwrap_marked_lines.specs.declared.fences.FenceKind.{FenceKind}
+use Rattle.textwrap_marked_lines.specs.declared.fences.FenceKind.TheVariants.{Attribute, Formula, Code, Pre}
 use Rattle.textwrap_marks.proofs.Letterless.{no-session}
 use Rattle.textwrap_marked_lines.specs.Columns.{depth_of}
 use Rattle.textwrap_text.proofs.Common.{slice_index, and_parts}
@@ -77,6 +79,15 @@ no-formula (w ∷ ws) none =
     ap (λ b. cond b (not (contains (codes "$$") (drop 2 w.word)) && not (any_contains (codes "$$") ws))
     false) (no-code w.word none).0
 
+-- nor an attribute
+hash : (word : List ℕ) → is_sign word ≡ false → starts_with nat_eq word (codes "#[") ≡ false
+hash [] none = refl
+hash (c ∷ word) none = grind (arith, nat_tests, cases_Bool)
+
+no-attribute : (words : List SpacedText) → is_sign (first_word words) ≡ false
+    → opens_attribute words ≡ false
+no-attribute words none = ap (λ b. b && any_contains (codes "\"```") words) (hash (first_word words) none)
+
 run-none : (word : List ℕ) → is_sign word ≡ false → run_of word ≡ None
 run-none word none =
     let mark = slice_index word 0 in
@@ -115,6 +126,11 @@ column-none word none =
 pub no-return : (word : List ℕ) → is_column_word word ≡ false → has_byte 13 word ≡ false
 no-return word none = (column-none word none).0
 
+-- the fence of words that neither have `<pre` nor open code
+abbrev other_fence : List SpacedText → Option FenceKind
+other_fence words =
+    cond (opens_formula words) (Some Formula) (cond (opens_attribute words) (Some Attribute) None)
+
 pub opened-none : (starred : Bool) (words : List SpacedText)
     → begins_text starred (first_word words) ≡ true
     → All (λ w. is_column_word w.word ≡ false) words → opened words ≡ None
@@ -122,13 +138,14 @@ opened-none starred words begins none =
     let no_sign = text-no-sign starred (first_word words) begins in
     ap (λ r. opened_by r words) (run-none (first_word words) no_sign)
     ∙ ap (λ b. cond (b && not (has_pre_end words)) (Some Pre)
-    (cond (opens_code (first_word words)) (Some Code) (cond (opens_formula words) (Some Formula) None)))
+    (cond (opens_code (first_word words)) (Some Code) (other_fence words)))
     (none-any (λ w. contains (codes "<pre") w.word) words
     (All-weaker (λ w. is_column_word w.word ≡ false) (λ w. contains (codes "<pre") w.word ≡ false)
     (λ w no. (column-none w.word no).1) words none))
-    ∙ ap (λ b. cond b (Some Code) (cond (opens_formula words) (Some Formula) None))
-    (no-code (first_word words) no_sign).1
-    ∙ ap (λ b. cond b (Some Formula) None) (no-formula words no_sign)
+    ∙ ap (λ b. cond b (Some Code) (other_fence words)) (no-code (first_word words) no_sign).1
+    ∙ ap (λ b. cond b (Some Formula) (cond (opens_attribute words) (Some Attribute) None))
+    (no-formula words no_sign)
+    ∙ ap (λ b. cond b (Some Attribute) None) (no-attribute words no_sign)
 
 -- ---- the state behind it
 

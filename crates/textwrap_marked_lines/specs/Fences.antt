@@ -9,7 +9,8 @@ use Rattle.textwrap_marks.specs.Signs.{any_contains, ends_code, first_word, open
 use Rattle.textwrap_marks.specs.Words.{contains, has_byte, is_made_of, SpacedText}
 use Rattle.textwrap_marked_lines.specs.declared.fences.Fence.{Fence}
 use Rattle.textwrap_marked_lines.specs.declared.fences.FenceKind.{FenceKind}
-use Rattle.textwrap_marked_lines.specs.declared.fences.FenceKind.TheVariants.{Code, Formula, Pre, Run}
+use Rattle.textwrap_marked_lines.specs.declared.fences.FenceKind.TheVariants.{Attribute, Code}
+use Rattle.textwrap_marked_lines.specs.declared.fences.FenceKind.TheVariants.{Formula, Pre, Run}
 use Rattle.textwrap_marked_lines.specs.declared.fences.FenceRun.{FenceRun}
 
 -- three or more backticks or tildes, which a word begins with
@@ -39,6 +40,11 @@ opens_formula (w ∷ ws) =
     if starts_with nat_eq w.word (codes "$$")
     then not (contains (codes "$$") (drop 2 w.word)) && not (any_contains (codes "$$") ws) else false
 
+-- an attribute of Rust with a text of three backticks or more, as `#[cfg_attr(unix, doc = "```")]`
+abbrev pub opens_attribute : List SpacedText → Bool
+opens_attribute words =
+    starts_with nat_eq (first_word words) (codes "#[") && any_contains (codes "\"```") words
+
 -- the fence that these words open: behind backticks stands no other one
 abbrev pub opened_by : Option FenceRun → List SpacedText → Option FenceKind
 opened_by (Some run) words =
@@ -46,7 +52,8 @@ opened_by (Some run) words =
 opened_by None words =
     if has_pre words && not (has_pre_end words) then Some Pre
     else if opens_code (first_word words) then Some Code
-    else if opens_formula words then Some Formula else None
+    else if opens_formula words then Some Formula
+    else if opens_attribute words then Some Attribute else None
 
 abbrev pub opened : List SpacedText → Option FenceKind
 opened words = opened_by (run_of (first_word words)) words
@@ -72,6 +79,7 @@ is_closed_by fence hanging words = closes fence.kind
     closes Pre = has_pre_end words
     closes Code = ends_code (first_word words)
     closes Formula = any_contains (codes "$$") words
+    closes Attribute = is_long_run (record { mark = 96; len = 3 }) words
     closes (Run run) = bytes_eq (marks_of hanging) fence.marks && is_long_run run words
 
 -- a line without the marks of a fence ends it

@@ -3,7 +3,8 @@ ghost use Rattle.std.specs.Prelude.{◌≡◌, ◌==◌, true};
 ghost use Rattle.std.specs.List.{prefix_len};
 ghost use Rattle.textwrap_marked_lines.specs.Fences.{fence_view, has_backtick_behind, has_pre};
 ghost use Rattle.textwrap_marked_lines.specs.Fences.{has_pre_end, is_closed_by, is_left_by, is_long_run};
-ghost use Rattle.textwrap_marked_lines.specs.Fences.{opened, opened_by, opens_formula, run_of};
+ghost use Rattle.textwrap_marked_lines.specs.Fences.{opened, opened_by, opens_attribute, opens_formula};
+ghost use Rattle.textwrap_marked_lines.specs.Fences.{run_of};
 ghost use Rattle.textwrap_marks.specs.Signs.{ArePlain};
 ghost use Rattle.textwrap_marks.specs.Words.{has_byte, spaced_words};
 
@@ -21,6 +22,9 @@ pub struct FenceRun {
     pub len: usize,
 }
 
+/// The least that closes what an attribute opens.
+const BACKTICKS: FenceRun = FenceRun { mark: b'`', len: 3 };
+
 /// What a fence is opened by.
 #[derive(Clone, Copy, Debug)]
 pub enum FenceKind {
@@ -32,6 +36,9 @@ pub enum FenceKind {
     Code,
     /// `$$` of Markdown and TeX.
     Formula,
+    /// An attribute of Rust that has a line of backticks for rustdoc, whatever marks that line would
+    /// stand behind.
+    Attribute,
 }
 
 /// A fence that is open, and the marks that it stands behind.
@@ -101,6 +108,13 @@ fn opens_formula(text: &str) -> bool
     }
 }
 
+/// Whether a text is an attribute of Rust that has a text of backticks.
+fn opens_attribute(text: &str) -> bool
+    ensures { result ≡ opens_attribute (spaced_words text.now) }
+{
+    starts_with(first_word(text), "#[") && any_contains(text, "\"```")
+}
+
 /// The fence that a text opens, whose words may be known to be plain, if it does.
 pub fn opened(plain: bool, text: &str) -> Option<FenceKind>
     requires { plain ≡ true → ArePlain (spaced_words text.now) }
@@ -128,6 +142,8 @@ fn opened_by(run: Option<FenceRun>, plain: bool, text: &str) -> Option<FenceKind
                 Some(FenceKind::Code)
             } else if opens_formula(text) {
                 Some(FenceKind::Formula)
+            } else if opens_attribute(text) {
+                Some(FenceKind::Attribute)
             } else {
                 None
             }
@@ -154,6 +170,7 @@ pub fn is_closed_by(fence: &Fence, hanging: &str, text: &str) -> bool
         FenceKind::Pre => has_pre_end(text),
         FenceKind::Code => ends_code(first_word(text)),
         FenceKind::Formula => any_contains(text, "$$"),
+        FenceKind::Attribute => is_long_run(BACKTICKS, text),
         FenceKind::Run(run) => {
             (marks_of(hanging) == fence.marks.as_str()) & is_long_run(run, text)
         }

@@ -12,6 +12,7 @@ use Rattle.std.specs.List.{after_first, concat}
 use Rattle.std.specs.Str.{IsAscii}
 use Rattle.std.proofs.lemmas.List.Elements.{filter_passes}
 use Rattle.textwrap_styles.proofs.Common.{All-filter, chars, is_link, is_style, open_link}
+use Rattle.textwrap_styles.proofs.LinkParameters.{id-begins}
 use Rattle.textwrap_styles.proofs.Sequences.{IsAround, around-bell, around-terminator, bell, link_start}
 use Rattle.textwrap_styles.proofs.Sequences.{link-among, link-no_style, not_link, terminator}
 use Rattle.textwrap_styles.proofs.SequenceTexts.{IsSequence, unit-sequence}
@@ -143,7 +144,7 @@ anew-by n s fields ending around fits shape is =
     let made : IsAround (take 4 s ++ id ++ drop 4 s) (id ++ fields) =
     subst (λ l. IsAround (take 4 l ++ id ++ drop 4 l) (id ++ fields)) (sym shape)
     (subst (λ l. IsAround (link_start ++ l) (id ++ fields)) (append_assoc id fields ending) (around (id ++ fields))) in
-    let both = cond_both (names_id true (drop 4 s)) s (take 4 s ++ id ++ drop 4 s)
+    let both = cond_both (names_id (drop 4 s)) s (take 4 s ++ id ++ drop 4 s)
     (λ l. (is_link l ≡ true) × (link_target l ≡ link_target s)) (λ has. (is, refl)) (λ none. (
       made.is ∙ list_any-append semicolon id fields
           ∙ ap (λ b. list_any semicolon id || b) (sym own.is ∙ is) ∙ or-true (list_any semicolon id),
@@ -251,7 +252,7 @@ id-sequence n s fits is own =
     ap chars shape ∙ chars-append link_start rest link_start-utf8 ∙ ap (λ l. l ++ cs) link_start-chars in
     let (body, body_is, ended, before) = own.whole in
     let same : body ≡ 93 ∷ 56 ∷ 59 ∷ cs = ap (drop 1) (sym body_is ∙ are) in
-    cond_both (names_id true rest) s (take 4 s ++ id ++ rest) IsSequence (λ has. own) (λ none.
+    cond_both (names_id rest) s (take 4 s ++ id ++ rest) IsSequence (λ has. own) (λ none.
     subst (λ l. IsSequence (l ++ id ++ rest)) (sym (ap (take 4) shape))
     (unit-sequence (link_start ++ id ++ rest) (link_start ++ (id ++ cs))
     (IsUtf8-append link_start (id ++ rest) link_start-utf8
@@ -331,7 +332,7 @@ reopened-len before =
   where
     one : (n : ℕ) (s : List ℕ) → n < 2 ^ 64 → length (with_id n s) ≤ length s + 25
     one n s fits =
-        cond_both (names_id true (drop 4 s)) s (take 4 s ++ id_before n (drop 4 s) ++ drop 4 s)
+        cond_both (names_id (drop 4 s)) s (take 4 s ++ id_before n (drop 4 s) ++ drop 4 s)
         (λ l. length l ≤ length s + 25) (λ has. omega arith) (λ none.
         subst (λ l. length (take 4 s ++ id_before n (drop 4 s) ++ drop 4 s) ≤ length l + 25) (take-append-drop 4 s)
         (inserted-len (take 4 s) (id_before n (drop 4 s)) (drop 4 s) (id-len n (drop 4 s) fits)))
@@ -345,25 +346,25 @@ reopened-len before =
     more n (s ∷ t ∷ ls) fits few = absurd (omega (arith, few))
 
 -- each has an id
-named-anew : (n : ℕ) (s : List ℕ) → is_link s ≡ true → names_id true (drop 4 (with_id n s)) ≡ true
+named-anew : (n : ℕ) (s : List ℕ) → is_link s ≡ true → names_id (drop 4 (with_id n s)) ≡ true
 unfolding with_id
 named-anew n s is =
     let id = id_before n (drop 4 s) in
     let shape : s ≡ link_start ++ drop 4 s =
     starts_with-rest link_start s (grind (arith, cases_Bool, is)) in
     let anew : Bool → List ℕ = λ b. cond b s (take 4 s ++ id ++ drop 4 s) in
-    elim (cases_Bool (names_id true (drop 4 s))) [
-      | inl has ↦ ap (λ b. names_id true (drop 4 (anew b))) has ∙ has
+    elim (cases_Bool (names_id (drop 4 s))) [
+      | inl has ↦ ap (λ b. names_id (drop 4 (anew b))) has ∙ has
       | inr none ↦
-          ap (λ b. names_id true (drop 4 (anew b))) none
-          ∙ ap (λ l. names_id true (drop 4 (take 4 l ++ id ++ drop 4 s))) shape
+          ap (λ b. names_id (drop 4 (anew b))) none
+          ∙ ap (λ l. names_id (drop 4 (take 4 l ++ id ++ drop 4 s))) shape ∙ id-begins (id ++ drop 4 s)
     ]
 
 pub ids-kept : (before more : List (List ℕ))
-    → All (λ s. names_id true (drop 4 s) ≡ true) (reopened_link before)
+    → All (λ s. names_id (drop 4 s) ≡ true) (reopened_link before)
     × (filter is_link more ≡ [] → reopened_link (before ++ more) ≡ reopened_link before)
 ids-kept before more = (
-  reopened-all (λ s. is_link s ≡ true) (λ s. names_id true (drop 4 s) ≡ true) before (links before)
+  reopened-all (λ s. is_link s ≡ true) (λ s. names_id (drop 4 s) ≡ true) before (links before)
       (λ n s fits is same. named-anew n s is),
   λ none.
       ap (λ links. map (with_id (as_len (length links))) (filter has_target (drop (length links - 1) links)))
@@ -374,14 +375,14 @@ ids-kept before more = (
 -- ---- what is written
 
 pub with-own : (n : ℕ) (link fields : List ℕ) → link ≡ link_start ++ fields
-    → names_id true fields ≡ true → with_id n link ≡ link
+    → names_id fields ≡ true → with_id n link ≡ link
 unfolding with_id
 with-own n link fields is has =
     subst (λ l. with_id n l ≡ l) (sym is)
     (ap (λ b. cond b (link_start ++ fields) (link_start ++ id_before n fields ++ fields)) has)
 
 pub with-new : (n : ℕ) (link fields : List ℕ) → link ≡ link_start ++ fields
-    → names_id true fields ≡ false → with_id n link ≡ link_start ++ id_before n fields ++ fields
+    → names_id fields ≡ false → with_id n link ≡ link_start ++ id_before n fields ++ fields
 unfolding with_id
 with-new n link fields is none =
     subst (λ l. with_id n l ≡ link_start ++ id_before n fields ++ fields) (sym is)

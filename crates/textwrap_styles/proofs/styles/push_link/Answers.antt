@@ -10,8 +10,8 @@ pub returns-then-names_id : goal.returns-then-names_id
 returns-then-names_id g c = λ is.
     let link = c.args.link.now in
     let fields = c.in-Some.fields.now in
-    let has : names_id true fields ≡ true =
-    sym (ap (names_id true) c.as_bytes.ensures.value) ∙ sym c.names_id.ensures ∙ c.if-names_id.true in
+    let has : names_id fields ≡ true =
+    sym (ap names_id c.as_bytes.ensures.value) ∙ sym c.names_id.ensures ∙ c.if-names_id.true in
     let own = with-own c.args.number link fields (stripped_prefix link_start link fields c.in-Some.ensures.cases) has in
     rw own (search (rules, arith))
 
@@ -19,8 +19,8 @@ pub returns : goal.returns
 returns g c = λ is.
     let link = c.args.link.now in
     let fields = c.in-Some.fields.now in
-    let none : names_id true fields ≡ false =
-    sym (ap (names_id true) c.as_bytes.ensures.value) ∙ sym c.names_id.ensures ∙ c.if-names_id.false in
+    let none : names_id fields ≡ false =
+    sym (ap names_id c.as_bytes.ensures.value) ∙ sym c.names_id.ensures ∙ c.if-names_id.false in
     let new = with-new c.args.number link fields (stripped_prefix link_start link fields c.in-Some.ensures.cases) none in
     let same : string_bytes c.push_id.new.text ++ fields
     ≡ string_bytes c.args.text.now ++ with_id c.args.number link =

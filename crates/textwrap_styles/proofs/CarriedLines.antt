@@ -1,30 +1,26 @@
 -- Lines whose styles are carried: their bytes, what they show, and whole lines under indents.
-use Rattle.std.proofs.lemmas.List.Folds.{concat-append, flat_map-map}
-use Rattle.std.specs.{Cow.cow_str_bytes, declared.borrow.CowStr.CowStr}
+use Rattle.std.{proofs.lemmas.List.Folds.{concat-append, flat_map-map}, specs.Cow.cow_str_bytes}
+use Rattle.std.specs.declared.borrow.CowStr.{CowStr}
 use Rattle.textwrap_layout.proofs.Text.Lines.{line_bytes-line_view}
-use Rattle.textwrap_layout.specs.Paragraph.{Built, Line, Slice, line_bytes, line_view}
-use Rattle.textwrap_styles.proofs.Common.{IsWhole, Rendition, carried_lines, chars}
-use Rattle.textwrap_styles.proofs.Common.{closing, concat, fold-append, link_end}
-use Rattle.textwrap_styles.proofs.Common.{open_styles, penned_lines, penned_text, plain_rendition}
-use Rattle.textwrap_styles.proofs.Common.{rendition_of, sequence_of, sequences, style_end}
-use Rattle.textwrap_styles.proofs.{Common.with_sequence, PenStyles.ended, PenStyles.styles-pen}
-use Rattle.textwrap_styles.proofs.SequenceTexts.{IsSequence, closing-is, closing-sequences}
-use Rattle.textwrap_styles.proofs.SequenceTexts.{closing_sequences, nil-whole, parts-penned}
-use Rattle.textwrap_styles.proofs.SequenceTexts.{parts-sequences, parts-visible, penned-append}
-use Rattle.textwrap_styles.proofs.SequenceTexts.{text-sequences, text_units-append}
-use Rattle.textwrap_styles.proofs.{LinkIds.reopened-sequences, WrittenSettings.styles-sequences}
-use Rattle.textwrap_styles.specs.Indents.{after_indent, before_text, indent_end}
-use Rattle.textwrap_styles.specs.Penned.{penned_units}
+use Rattle.textwrap_layout.specs.Paragraph.{Built, Line, line_bytes, line_view, Slice}
+use Rattle.textwrap_styles.proofs.Common.{carried_lines, chars, closing, concat, fold-append, IsWhole}
+use Rattle.textwrap_styles.proofs.Common.{link_end, open_styles, penned_lines, penned_text, plain_rendition}
+use Rattle.textwrap_styles.proofs.Common.{Rendition, rendition_of, sequence_of, sequences, style_end}
+use Rattle.textwrap_styles.proofs.{Common.with_sequence, LinkIds.reopened-sequences}
+use Rattle.textwrap_styles.proofs.{PenStyles.{ended, styles-pen}, WrittenSettings.styles-sequences}
+use Rattle.textwrap_styles.proofs.SequenceTexts.{closing-is, closing-sequences, closing_sequences, IsSequence}
+use Rattle.textwrap_styles.proofs.SequenceTexts.{nil-whole, parts-penned, parts-sequences, parts-visible}
+use Rattle.textwrap_styles.proofs.SequenceTexts.{penned-append, text-sequences, text_units-append}
+use Rattle.textwrap_styles.specs.{Indents.{after_indent, before_text, indent_end}, Penned.penned_units}
 use Rattle.textwrap_styles.specs.Styled.{EachWithIndent, EndsPlain, IsWholeText, MayCarry}
 use Rattle.textwrap_styles.specs.Styles.{carried_line, opening, reopened_link, texts_of}
-use Rattle.textwrap_text.proofs.Common.{All, All-append, All-cons, All-drop, All-head, All-nil}
-use Rattle.textwrap_text.proofs.Common.{All-tail, All-weaker, IsUtf8, IsUtf8-drop, List, [], ap}
-use Rattle.textwrap_text.proofs.Common.{append-nil, append_assoc, arith, cases_Bool, chars-nil}
-use Rattle.textwrap_text.proofs.Common.{cond, drop, drop_at, drop_more, flat_map, fold, get_or, inl}
-use Rattle.textwrap_text.proofs.Common.{inr, length, length-append, map, map-append, nat_eq}
-use Rattle.textwrap_text.proofs.Common.{nat_tests, nil_from_length, refl, rules, starts_with, subst}
-use Rattle.textwrap_text.proofs.Common.{sym, take, take-append-drop, take_at, text_width, units, ℕ}
-use Rattle.textwrap_text.proofs.Common.{◌++◌, ◌+◌, ◌<◌, ◌==◌, ◌∙◌, ◌∷◌, ◌≡◌, ◌≤◌}
+use Rattle.textwrap_text.proofs.Common.{◌+◌, ◌++◌, ◌<◌, ◌==◌, [], All, All-append, All-cons, All-drop}
+use Rattle.textwrap_text.proofs.Common.{All-head, All-nil, All-tail, All-weaker, ap, append-nil, append_assoc}
+use Rattle.textwrap_text.proofs.Common.{arith, cases_Bool, chars-nil, cond, drop, drop_at, drop_more}
+use Rattle.textwrap_text.proofs.Common.{flat_map, fold, get_or, inl, inr, IsUtf8, IsUtf8-drop, length}
+use Rattle.textwrap_text.proofs.Common.{length-append, List, map, map-append, nat_eq, nat_tests}
+use Rattle.textwrap_text.proofs.Common.{nil_from_length, refl, rules, starts_with, subst, sym, take}
+use Rattle.textwrap_text.proofs.Common.{take-append-drop, take_at, text_width, units, ℕ, ◌∙◌, ◌∷◌, ◌≡◌, ◌≤◌}
 use Rattle.textwrap_text.proofs.{Lists.Parts.starts_with-rest, Texts.StartsWith-boundary}
 
 -- ---- one line more that sets anew what is open, and ends plain

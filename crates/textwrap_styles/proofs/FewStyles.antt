@@ -2,24 +2,21 @@
 use Rattle.std.proofs.{Math.Nat.mul-le-mul_left, lemmas.Map.Steps.length-le_from_distinct_below}
 use Rattle.std.specs.List.{AllByRecursion, IsDistinct}
 use Rattle.textwrap_layout.specs.Paragraph.{line_bytes}
-use Rattle.textwrap_styles.proofs.{CarriedLines.carried-len, Common.All-filter, Common.concat}
-use Rattle.textwrap_styles.proofs.Common.{has_target, is_link, is_style, kind_of, latest, link_end}
-use Rattle.textwrap_styles.proofs.Common.{open_link, open_settings, open_styles, settings}
+use Rattle.textwrap_styles.proofs.{CarriedLines.carried-len, LinkIds.reopened-len, SettingTexts.first-len}
+use Rattle.textwrap_styles.proofs.Common.{All-filter, concat, has_target, is_link, is_style, kind_of, latest}
+use Rattle.textwrap_styles.proofs.Common.{link_end, open_link, open_settings, open_styles, settings}
 use Rattle.textwrap_styles.proofs.Common.{settings_of, style_end, style_parameters, written}
-use Rattle.textwrap_styles.proofs.OpenSettings.{Sets, all-latest, all-open, all-set, known-below}
-use Rattle.textwrap_styles.proofs.OpenSettings.{latest-in_effect, none-latest, resets}
-use Rattle.textwrap_styles.proofs.{LinkIds.reopened-len, SettingTexts.first-len}
+use Rattle.textwrap_styles.proofs.OpenSettings.{all-latest, all-open, all-set, known-below, latest-in_effect}
+use Rattle.textwrap_styles.{proofs.OpenSettings.{none-latest, resets, Sets}, specs.Settings.takes_back}
 use Rattle.textwrap_styles.specs.Laws.{known_settings, unknown_settings}
-use Rattle.textwrap_styles.specs.Settings.{first_setting, is_unknown, number, replaces}
-use Rattle.textwrap_styles.specs.{Settings.settings_past, Settings.takes_back}
+use Rattle.textwrap_styles.specs.Settings.{first_setting, is_unknown, number, replaces, settings_past}
 use Rattle.textwrap_styles.specs.Styles.{carried_line, reopened_link}
-use Rattle.textwrap_text.proofs.Common.{All, All-append, All-cons, All-head, All-nil, All-tail}
-use Rattle.textwrap_text.proofs.Common.{All-weaker, Bool, List, [], after_last, arith, cases_Bool}
-use Rattle.textwrap_text.proofs.Common.{codes, cond_both, drop, eqb, false, false_from_ne_true}
-use Rattle.textwrap_text.proofs.Common.{filter, flat_map, length, length-append, length-map}
-use Rattle.textwrap_text.proofs.Common.{length-take, list_any, map, nat_tests, not, refl, rules}
-use Rattle.textwrap_text.proofs.Common.{subst, suc, sym, true, true≢false, zero, ℕ, ◌*◌, ◌+◌, ◌-◌}
-use Rattle.textwrap_text.proofs.Common.{◌<◌, ◌==◌, ◌∙◌, ◌∷◌, ◌≡◌, ◌≤◌}
+use Rattle.textwrap_text.proofs.Common.{◌*◌, ◌+◌, ◌-◌, ◌<◌, ◌==◌, [], after_last, All, All-append, All-cons}
+use Rattle.textwrap_text.proofs.Common.{All-head, All-nil, All-tail, All-weaker, arith, Bool, cases_Bool}
+use Rattle.textwrap_text.proofs.Common.{codes, cond_both, drop, eqb, false, false_from_ne_true, filter}
+use Rattle.textwrap_text.proofs.Common.{flat_map, length, length-append, length-map, length-take, List}
+use Rattle.textwrap_text.proofs.Common.{list_any, map, nat_tests, not, refl, rules, subst, suc, sym, true}
+use Rattle.textwrap_text.proofs.Common.{true≢false, zero, ℕ, ◌∙◌, ◌∷◌, ◌≡◌, ◌≤◌}
 
 -- ---- no two that the table knows are of one kind
 

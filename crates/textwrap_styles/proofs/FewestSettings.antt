@@ -3,25 +3,21 @@
 use Rattle.std.proofs.lemmas.{Bool.true_from_ne_false, Cmp.nat_eq_equiv}
 use Rattle.std.proofs.lemmas.Map.Made.{IsDistinct-from_count, length-le_from_is_member}
 use Rattle.std.specs.Set.{is_member, unique_keys}
-use Rattle.textwrap_styles.proofs.Common.{Pen, Rendition, apply, in_effect, kind_of, latest}
-use Rattle.textwrap_styles.proofs.Common.{open_settings, plain_pen, plain_rendition, settings_of}
-use Rattle.textwrap_styles.proofs.Common.{with_sequence}
-use Rattle.textwrap_styles.proofs.OpenSettings.{Sets, all-open, all-set, known-below}
-use Rattle.textwrap_styles.proofs.OpenSettings.{latest-in_effect, resets, unknown-number}
+use Rattle.textwrap_styles.proofs.Common.{apply, in_effect, kind_of, latest, open_settings, Pen, plain_pen}
+use Rattle.textwrap_styles.proofs.Common.{plain_rendition, Rendition, settings_of, with_sequence}
+use Rattle.textwrap_styles.proofs.OpenSettings.{all-open, all-set, known-below, latest-in_effect, resets}
+use Rattle.textwrap_styles.proofs.{OpenSettings.{Sets, unknown-number}, PenOpen.run-append}
 use Rattle.textwrap_styles.proofs.PenCodes.{differs_at, mix-differs, plain-differs, sets}
-use Rattle.textwrap_styles.proofs.PenOpen.{AreLatest, are-latest, open-pen, parameters-pen, pen_by}
-use Rattle.textwrap_styles.proofs.PenOpen.{run-append}
-use Rattle.textwrap_styles.proofs.PenSettings.{all-known, many-end}
-use Rattle.textwrap_styles.proofs.SettingTexts.{IsSetting}
-use Rattle.textwrap_styles.proofs.WrittenSettings.{all-settings}
-use Rattle.textwrap_styles.specs.Laws.{NothingIfUnknown, NothingShorterGivesThePen}
-use Rattle.textwrap_styles.specs.{Laws.OpenStylesAreSetters, Penned.with_style}
+use Rattle.textwrap_styles.proofs.PenOpen.{are-latest, AreLatest, open-pen, parameters-pen, pen_by}
+use Rattle.textwrap_styles.proofs.{PenSettings.{all-known, many-end}, PenStyles.all-given}
+use Rattle.textwrap_styles.proofs.{SettingTexts.IsSetting, WrittenSettings.all-settings}
+use Rattle.textwrap_styles.specs.Laws.{NothingIfUnknown, NothingShorterGivesThePen, OpenStylesAreSetters}
+use Rattle.textwrap_styles.specs.Penned.{with_style}
 use Rattle.textwrap_styles.specs.Settings.{is_end, is_unknown, number, replaces, takes_back}
-use Rattle.textwrap_text.proofs.Common.{All, All-head, All-tail, List, [], after_last, ap, arith}
-use Rattle.textwrap_text.proofs.Common.{cases_Bool, cond, eqb, eqb-true, false}
-use Rattle.textwrap_text.proofs.Common.{filter, flat_map, fold, inl, inr, length, length-map}
-use Rattle.textwrap_text.proofs.Common.{list_any, map, nat_tests, not, refl, rules, subst, sym}
-use Rattle.textwrap_text.proofs.Common.{true, true≢false, ℕ, ◌&&◌, ◌==◌, ◌||◌, ◌∙◌, ◌∷◌, ◌≡◌}
+use Rattle.textwrap_text.proofs.Common.{◌&&◌, ◌==◌, [], after_last, All, All-head, All-tail, ap, arith}
+use Rattle.textwrap_text.proofs.Common.{cases_Bool, cond, eqb, eqb-true, false, filter, flat_map, fold, inl}
+use Rattle.textwrap_text.proofs.Common.{inr, length, length-map, List, list_any, map, nat_tests, not, refl}
+use Rattle.textwrap_text.proofs.Common.{rules, subst, sym, true, true≢false, ◌||◌, ℕ, ◌∙◌, ◌∷◌, ◌≡◌}
 
 -- ---- the fields of a pen that are not plain
 
@@ -122,16 +118,6 @@ kinds-once (s ∷ ss) are (none, latest) =
     let stays = λ (known : is_unknown (kind_of s) ≡ false).
     run-stays s ss plain_pen known rest none ∙ plain-differs kind in
     grind (arith, cases_Bool, other, stays, kinds-once ss rest latest)
-
--- ---- the pen of sequences is that of their settings
-
-given : (s : List ℕ) (p : Pen) → with_style p s ≡ pen_by p (settings_of s)
-given s p = search (rules, arith, pen_by, parameters-pen)
-
-all-given : (ss : List (List ℕ)) (now : Rendition)
-    → (fold with_sequence now ss).pen ≡ pen_by now.pen (flat_map settings_of ss)
-all-given [] now = refl
-all-given (s ∷ ss) now = grind (arith, given, all-given ss (with_sequence now s), run-append)
 
 -- ---- the laws
 

@@ -1,10 +1,10 @@
 -- The parameters of a link, as they are read from the left, and whether one of them is an id.
 use Rattle.std.specs.{List.before_first, Prelude.slice_index_or}
 use Rattle.textwrap_styles.specs.Styles.{names_id}
-use Rattle.textwrap_text.proofs.Common.{Bool, List, [], arith, cases_Bool, codes, cond, drop, false}
-use Rattle.textwrap_text.proofs.Common.{get_or, length, list_any, nat_eq, nat_tests, onto_first, refl}
-use Rattle.textwrap_text.proofs.Common.{slice_split, starts_with, take, take_all, true, ℕ}
-use Rattle.textwrap_text.proofs.Common.{◌&&◌, ◌-◌, ◌<◌, ◌==◌, ◌||◌, ◌∷◌, ◌≡◌}
+use Rattle.textwrap_text.proofs.Common.{◌&&◌, ◌-◌, ◌<◌, ◌==◌, [], arith, Bool, cases_Bool, codes, cond, drop}
+use Rattle.textwrap_text.proofs.Common.{false, get_or, length, List, list_any, nat_eq, nat_tests, onto_first}
+use Rattle.textwrap_text.proofs.Common.{refl, slice_split, starts_with, take, take_all, true, ◌||◌, ℕ, ◌∷◌}
+use Rattle.textwrap_text.proofs.Common.{◌≡◌}
 
 abbrev pub parameters : List ℕ → List (List ℕ)
 parameters fields = slice_split (λ c. c == 0x3A) (before_first (λ c. c == 0x3B) fields)

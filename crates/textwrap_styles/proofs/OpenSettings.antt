@@ -2,15 +2,13 @@
 -- once more, and what holds of each of them.
 use Rattle.std.proofs.lemmas.{List.Folds.list_any-append, Slice.Eq.bytes_eq-Decides}
 use Rattle.std.specs.Str.{bytes_eq}
-use Rattle.textwrap_styles.proofs.Common.{All-filter, Kind, Reset, in_effect, kind_of, latest}
-use Rattle.textwrap_styles.proofs.Common.{open_settings}
+use Rattle.textwrap_styles.proofs.Common.{All-filter, in_effect, Kind, kind_of, latest, open_settings, Reset}
 use Rattle.textwrap_styles.specs.Settings.{is_unknown, number, replaces, takes_back}
-use Rattle.textwrap_text.proofs.Common.{All, All-append, All-cons, All-drop, All-head, All-nil}
-use Rattle.textwrap_text.proofs.Common.{All-tail, Bool, Bor, List, [], ap, append-nil, append_assoc}
-use Rattle.textwrap_text.proofs.Common.{arith, cases_Bool, cond, cond_both, false, filter, fold}
-use Rattle.textwrap_text.proofs.Common.{list_any, map, nat_tests, not, refl, rules, subst, sym}
-use Rattle.textwrap_text.proofs.Common.{true, ℕ, ◌&&◌, ◌++◌, ◌<◌, ◌==◌, ◌||◌, ◌∙◌, ◌∷◌, ◌≡◌}
-use Rattle.textwrap_text.proofs.Lists.Parts.{after_last-push}
+use Rattle.textwrap_text.proofs.Common.{◌&&◌, ◌++◌, ◌<◌, ◌==◌, [], All, All-append, All-cons, All-drop}
+use Rattle.textwrap_text.proofs.Common.{All-head, All-nil, All-tail, ap, append-nil, append_assoc, arith}
+use Rattle.textwrap_text.proofs.Common.{Bool, Bor, cases_Bool, cond, cond_both, false, filter, fold, List}
+use Rattle.textwrap_text.proofs.Common.{list_any, map, nat_tests, not, refl, rules, subst, sym, true, ◌||◌, ℕ}
+use Rattle.textwrap_text.proofs.{Common.{◌∙◌, ◌∷◌, ◌≡◌}, Lists.Parts.after_last-push}
 
 pub unknown-number : (k : Kind) → is_unknown k ≡ (number k == 16)
 unfolding is_unknown number

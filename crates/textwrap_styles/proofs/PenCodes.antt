@@ -1,14 +1,13 @@
 -- What parameters do to a pen: they set some fields to values of their own and leave the others. So
 -- which numbers the table has to know, and which of them end something.
-use Rattle.textwrap_styles.proofs.Common.{Color, Pen, apply, between, first_of, numbers_of}
-use Rattle.textwrap_styles.proofs.Common.{plain_pen}
-use Rattle.textwrap_styles.specs.Pen.{Own, Reading, color_of, is_whole_color, with_code, with_color}
-use Rattle.textwrap_styles.specs.{Pen.with_field, Pen.with_parts, Settings.is_color_code}
-use Rattle.textwrap_styles.specs.Settings.{is_ending_code, is_unknown, kind_of_code, number}
-use Rattle.textwrap_text.proofs.Common.{Bool, List, [], ap, arith, cases_Bool, cases_lt, cond, drop}
-use Rattle.textwrap_text.proofs.Common.{eqb-true, false, fold, inl, inr, length, map, nat_tests}
-use Rattle.textwrap_text.proofs.Common.{not, refl, subst, suc, sym, true, true≢false, zero, ℕ, ⊤}
-use Rattle.textwrap_text.proofs.Common.{◌&&◌, ◌++◌, ◌+◌, ◌<◌, ◌==◌, ◌||◌, ◌∙◌, ◌∷◌, ◌≡◌, ◌≢◌, ◌≤◌}
+use Rattle.textwrap_styles.proofs.Common.{apply, between, Color, first_of, numbers_of, Pen, plain_pen}
+use Rattle.textwrap_styles.specs.Pen.{color_of, is_whole_color, Own, Reading, with_code, with_color}
+use Rattle.textwrap_styles.specs.Pen.{with_field, with_parts}
+use Rattle.textwrap_styles.specs.Settings.{is_color_code, is_ending_code, is_unknown, kind_of_code, number}
+use Rattle.textwrap_text.proofs.Common.{◌&&◌, ◌+◌, ◌++◌, ◌<◌, ◌==◌, [], ap, arith, Bool, cases_Bool, cases_lt}
+use Rattle.textwrap_text.proofs.Common.{cond, drop, eqb-true, false, fold, inl, inr, length, List, map}
+use Rattle.textwrap_text.proofs.Common.{nat_tests, not, refl, subst, suc, sym, true, true≢false, zero, ◌||◌}
+use Rattle.textwrap_text.proofs.Common.{ℕ, ◌∙◌, ◌∷◌, ◌≡◌, ◌≢◌, ◌≤◌, ⊤}
 
 -- ---- a pen that takes some of its fields from one pen and the others from another
 

@@ -1,26 +1,22 @@
 -- Pens after parameters are pens after their settings, one after another, and the settings that are
 -- open give the pen that all of them gave.
 use Rattle.std.proofs.lemmas.Slice.Eq.{bytes_eq-Decides}
-use Rattle.textwrap_styles.proofs.Common.{Kind, Pen, Reset, apply, fields, fold-append, in_effect}
-use Rattle.textwrap_styles.proofs.Common.{latest, open_settings, plain_pen, settings}
-use Rattle.textwrap_styles.proofs.OpenSettings.{Sets, after-more, all-latest, known-below}
-use Rattle.textwrap_styles.proofs.OpenSettings.{none-latest, resets, unknown-number}
-use Rattle.textwrap_styles.proofs.PenCodes.{Changes, apply-changes, changes-then, mix, mix-again}
-use Rattle.textwrap_styles.proofs.PenCodes.{mix-swap, mix-within, nothing, sets}
-use Rattle.textwrap_styles.proofs.PenSettings.{all-known, among, kind-code, many-end}
-use Rattle.textwrap_styles.proofs.SettingTexts.{InRange, IsSetting, are-settings, between-append}
-use Rattle.textwrap_styles.proofs.SettingTexts.{drop-all, fields-split, first-take, settings-next}
-use Rattle.textwrap_styles.proofs.SettingTexts.{settings-one, taken-again}
-use Rattle.textwrap_styles.specs.Pen.{read}
-use Rattle.textwrap_styles.specs.Settings.{code, first_setting, is_color_code, is_end}
-use Rattle.textwrap_styles.specs.Settings.{is_ending_code, is_unknown, kind_of, kind_of_code}
-use Rattle.textwrap_styles.specs.Settings.{number, replaces, taken_fields, takes_back}
-use Rattle.textwrap_text.proofs.Common.{All, All-append, All-cons, All-head, All-nil, All-tail}
-use Rattle.textwrap_text.proofs.Common.{All-weaker, List, [], after_last, ap, arith, cases_Bool}
-use Rattle.textwrap_text.proofs.Common.{cond, cond_both, drop, eqb-true, false, fold, inl, inr}
-use Rattle.textwrap_text.proofs.Common.{length, length-drop, list_any, map-append, nat_tests, refl}
-use Rattle.textwrap_text.proofs.Common.{rules, subst, suc, sym, take_all, true, true≢false, zero, ℕ}
-use Rattle.textwrap_text.proofs.Common.{⊤, ◌&&◌, ◌++◌, ◌+◌, ◌<◌, ◌==◌, ◌||◌, ◌∙◌, ◌∷◌, ◌≡◌, ◌≤◌}
+use Rattle.textwrap_styles.proofs.Common.{apply, fields, fold-append, in_effect, Kind, latest, open_settings}
+use Rattle.textwrap_styles.proofs.{Common.{Pen, plain_pen, Reset, settings}, SettingTexts.taken-again}
+use Rattle.textwrap_styles.proofs.OpenSettings.{after-more, all-latest, known-below, none-latest, resets}
+use Rattle.textwrap_styles.proofs.{OpenSettings.{Sets, unknown-number}, PenCodes.{mix-within, nothing, sets}}
+use Rattle.textwrap_styles.proofs.PenCodes.{apply-changes, Changes, changes-then, mix, mix-again, mix-swap}
+use Rattle.textwrap_styles.{proofs.PenSettings.{all-known, among, kind-code, many-end}, specs.Pen.read}
+use Rattle.textwrap_styles.proofs.SettingTexts.{are-settings, between-append, drop-all, fields-split}
+use Rattle.textwrap_styles.proofs.SettingTexts.{first-take, InRange, IsSetting, settings-next, settings-one}
+use Rattle.textwrap_styles.specs.Settings.{code, first_setting, is_color_code, is_end, is_ending_code}
+use Rattle.textwrap_styles.specs.Settings.{is_unknown, kind_of, kind_of_code, number, replaces, taken_fields}
+use Rattle.textwrap_styles.specs.Settings.{takes_back}
+use Rattle.textwrap_text.proofs.Common.{◌&&◌, ◌+◌, ◌++◌, ◌<◌, ◌==◌, [], after_last, All, All-append, All-cons}
+use Rattle.textwrap_text.proofs.Common.{All-head, All-nil, All-tail, All-weaker, ap, arith, cases_Bool, cond}
+use Rattle.textwrap_text.proofs.Common.{cond_both, drop, eqb-true, false, fold, inl, inr, length, length-drop}
+use Rattle.textwrap_text.proofs.Common.{List, list_any, map-append, nat_tests, refl, rules, subst, suc, sym}
+use Rattle.textwrap_text.proofs.Common.{take_all, true, true≢false, zero, ◌||◌, ℕ, ◌∙◌, ◌∷◌, ◌≡◌, ◌≤◌, ⊤}
 use Rattle.textwrap_text.proofs.Lists.Parts.{after_last-push}
 
 -- ---- settings one after another, of which each sets its own fields

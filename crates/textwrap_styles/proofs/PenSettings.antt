@@ -1,24 +1,20 @@
 -- What a setting that the table knows does to a pen: it sets the fields of its kind, one that ends
 -- something as in the plain pen, and any other unlike it.
-use Rattle.textwrap_styles.proofs.Common.{Color, Pen, apply, between, digits_value, fields}
-use Rattle.textwrap_styles.proofs.Common.{first_of, is_ascii_digit, is_in_range, numbers_of}
-use Rattle.textwrap_styles.proofs.{Common.plain_pen, PenCodes.differs_at, PenCodes.is_own}
-use Rattle.textwrap_styles.proofs.PenCodes.{mix, row, sets}
-use Rattle.textwrap_styles.proofs.SettingTexts.{InRange, IsSetting, between-rest, between-some}
-use Rattle.textwrap_styles.proofs.SettingTexts.{code-first, colon-first, details-cons, details-nil}
-use Rattle.textwrap_styles.proofs.SettingTexts.{drop-all, fields-few, fields-many, first_field}
-use Rattle.textwrap_styles.proofs.SettingTexts.{first_number, first_text, first_text-first}
-use Rattle.textwrap_styles.proofs.SettingTexts.{has_colon}
-use Rattle.textwrap_styles.specs.Pen.{Reading, color_of, direct_color, is_whole_color, read}
-use Rattle.textwrap_styles.specs.Pen.{with_code, with_color, with_field, with_first, with_parts}
-use Rattle.textwrap_styles.specs.Settings.{code, color_fields, details, first_setting}
-use Rattle.textwrap_styles.specs.Settings.{is_color_code, is_end, is_ending_code, is_unknown}
-use Rattle.textwrap_styles.specs.Settings.{kind_of, kind_of_code, number, taken_fields}
-use Rattle.textwrap_text.proofs.Common.{List, [], ap, arith, cases_Bool, drop, eqb-true}
-use Rattle.textwrap_text.proofs.Common.{false, fold, inl, inr, length, length-map, map}
-use Rattle.textwrap_text.proofs.Common.{min, nat_tests, prefix_len, refl, rules, sym, true}
-use Rattle.textwrap_text.proofs.Common.{true≢false, ℕ, ◌+◌, ◌<◌, ◌==◌, ◌||◌, ◌∙◌, ◌∷◌, ◌≡◌, ◌≢◌}
-use Rattle.textwrap_text.proofs.Common.{◌≤◌, ◌⊎◌}
+use Rattle.textwrap_styles.proofs.Common.{apply, between, Color, digits_value, fields, first_of}
+use Rattle.textwrap_styles.proofs.Common.{is_ascii_digit, is_in_range, numbers_of, Pen, plain_pen}
+use Rattle.textwrap_styles.{proofs.PenCodes.{differs_at, is_own, mix, row, sets}, specs.Settings.taken_fields}
+use Rattle.textwrap_styles.proofs.SettingTexts.{between-rest, between-some, code-first, colon-first}
+use Rattle.textwrap_styles.proofs.SettingTexts.{details-cons, details-nil, drop-all, fields-few, fields-many}
+use Rattle.textwrap_styles.proofs.SettingTexts.{first_field, first_number, first_text, first_text-first}
+use Rattle.textwrap_styles.proofs.SettingTexts.{has_colon, InRange, IsSetting}
+use Rattle.textwrap_styles.specs.Pen.{color_of, direct_color, is_whole_color, read, Reading, with_code}
+use Rattle.textwrap_styles.specs.Pen.{with_color, with_field, with_first, with_parts}
+use Rattle.textwrap_styles.specs.Settings.{code, color_fields, details, first_setting, is_color_code, is_end}
+use Rattle.textwrap_styles.specs.Settings.{is_ending_code, is_unknown, kind_of, kind_of_code, number}
+use Rattle.textwrap_text.proofs.Common.{◌+◌, ◌<◌, ◌==◌, [], ap, arith, cases_Bool, drop, eqb-true, false}
+use Rattle.textwrap_text.proofs.Common.{fold, inl, inr, length, length-map, List, map, min, nat_tests}
+use Rattle.textwrap_text.proofs.Common.{prefix_len, refl, rules, sym, true, true≢false, ◌||◌, ℕ, ◌∙◌, ◌∷◌}
+use Rattle.textwrap_text.proofs.Common.{◌≡◌, ◌≢◌, ◌≤◌, ◌⊎◌}
 
 -- ---- one field
 

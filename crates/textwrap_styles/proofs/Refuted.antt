@@ -1,10 +1,10 @@
 -- What the wrong bodies of must-fail/ answer on worked rows, and that no pen allows it: each theorem
 -- bears the name of its edit.
 use Rattle.std.specs.Str.{chars}
-use Rattle.textwrap_styles.proofs.Common.{Pen, penned_lines, penned_text, plain_pen}
-use Rattle.textwrap_styles.proofs.{Common.plain_rendition, PenCodes.is_own}
-use Rattle.textwrap_styles.specs.{Pen.with_code, Pen.with_field, Penned.PennedCharacter}
-use Rattle.textwrap_text.proofs.Common.{List, [], ap, codes, map, true≢false, ℕ, ◌∷◌, ◌≡◌}
+use Rattle.textwrap_styles.proofs.Common.{Pen, penned_lines, penned_text, plain_pen, plain_rendition}
+use Rattle.textwrap_styles.{proofs.PenCodes.is_own, specs.Pen.{with_code, with_field}}
+use Rattle.textwrap_styles.specs.Penned.{PennedCharacter}
+use Rattle.textwrap_text.proofs.Common.{[], ap, codes, List, map, true≢false, ℕ, ◌∷◌, ◌≡◌}
 use lib.Utf8.{encode}
 
 abbrev first_pen : List PennedCharacter → Pen

@@ -1,20 +1,18 @@
 -- Texts of whole sequences and texts between them: their units, and what they show.
 use Rattle.std.{proofs.lemmas.Bool.agree_below_at, specs.Str.chars}
 use Rattle.textwrap_layout.proofs.Text.Paragraphs.{units-append}
-use Rattle.textwrap_styles.proofs.Common.{IsWhole, Rendition, closing, concat, link_end, open_link}
-use Rattle.textwrap_styles.proofs.Common.{open_styles, penned_text, plain_rendition, rendition_of}
-use Rattle.textwrap_styles.proofs.Common.{sequence_of, sequences, style_end, with_sequence}
-use Rattle.textwrap_styles.specs.{Penned.penned_units, Styled.IsWholeText}
-use Rattle.textwrap_text.proofs.Common.{All, All-append, All-cons, All-head, All-nil, All-tail}
-use Rattle.textwrap_text.proofs.Common.{Bool, IsUtf8, IsUtf8-append, IsUtf8-nil, List, Sequence}
-use Rattle.textwrap_text.proofs.Common.{TextUnit, Visible, [], ap, append-nil, arith, cases_Bool}
-use Rattle.textwrap_text.proofs.Common.{characters, chars-append, chars-nil, chars_from_encodes}
-use Rattle.textwrap_text.proofs.Common.{codes, cond, encode_utf8_all, encodes-chars, false}
-use Rattle.textwrap_text.proofs.Common.{flat_map, flat_map-append, fold, inl, length, map, refl}
-use Rattle.textwrap_text.proofs.Common.{rules, subst, sym, take, true, units, visible_of, ℕ, ◌++◌}
-use Rattle.textwrap_text.proofs.{Common.◌==◌, Common.◌∙◌, Common.◌∷◌, Common.◌≡◌, Texts.utf8-back}
-use Rattle.textwrap_text.proofs.{Texts.utf8-front, Units.Texts.units-tile, Units.Texts.units_unique}
-use Rattle.textwrap_text.specs.Units.{ends, visible}
+use Rattle.textwrap_styles.proofs.Common.{closing, concat, IsWhole, link_end, open_link, open_styles}
+use Rattle.textwrap_styles.proofs.Common.{penned_text, plain_rendition, Rendition, rendition_of, sequence_of}
+use Rattle.textwrap_styles.{proofs.Common.{sequences, style_end, with_sequence}, specs.Penned.penned_units}
+use Rattle.textwrap_styles.specs.Styled.{IsWholeText}
+use Rattle.textwrap_text.proofs.Common.{◌++◌, ◌==◌, [], All, All-append, All-cons, All-head, All-nil}
+use Rattle.textwrap_text.proofs.Common.{All-tail, ap, append-nil, arith, Bool, cases_Bool, characters}
+use Rattle.textwrap_text.proofs.Common.{chars-append, chars-nil, chars_from_encodes, codes, cond}
+use Rattle.textwrap_text.proofs.Common.{encode_utf8_all, encodes-chars, false, flat_map, flat_map-append}
+use Rattle.textwrap_text.proofs.Common.{fold, inl, IsUtf8, IsUtf8-append, IsUtf8-nil, length, List, map, refl}
+use Rattle.textwrap_text.proofs.Common.{rules, Sequence, subst, sym, take, TextUnit, true, units, Visible}
+use Rattle.textwrap_text.proofs.{Common.{visible_of, ℕ, ◌∙◌, ◌∷◌, ◌≡◌}, Texts.{utf8-back, utf8-front}}
+use Rattle.textwrap_text.{proofs.Units.Texts.{units-tile, units_unique}, specs.Units.{ends, visible}}
 use lib.Utf8.{encode}
 
 -- ---- the units of texts of whole sequences that are put together

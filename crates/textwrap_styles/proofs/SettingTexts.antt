@@ -1,18 +1,17 @@
 -- The fields of parameters, as the table of the settings and as a pen read them, and settings, each
 -- of which is its own first one.
-use Rattle.std.proofs.lemmas.List.Sums.{AllPass-from_list_all, list_all-from_AllPass}
-use Rattle.std.{proofs.lemmas.List.Sums.take_while-cons, specs.Prelude.nat_le}
+use Rattle.std.proofs.lemmas.List.Sums.{AllPass-from_list_all, list_all-from_AllPass, take_while-cons}
+use Rattle.std.specs.Prelude.{nat_le}
 use Rattle.textwrap_styles.proofs.Common.{between, digits_value, fields, first_of, is_ascii_digit}
-use Rattle.textwrap_styles.proofs.Common.{is_in_range, numbers_of, settings}
-use Rattle.textwrap_styles.specs.{Pen.with_first, Settings.code, Settings.color_fields}
-use Rattle.textwrap_styles.specs.Settings.{details, first_setting, settings_past, taken_fields}
-use Rattle.textwrap_text.proofs.Common.{All, All-cons, All-drop, All-nil, All-take, Bool, List, []}
-use Rattle.textwrap_text.proofs.Common.{and_parts, ap, arith, cases_Bool, codes, cond, cond_both}
-use Rattle.textwrap_text.proofs.Common.{drop, drop_all, drop_more, false, length, length-take}
-use Rattle.textwrap_text.proofs.Common.{list_all, map, min, nat_eq, nat_tests, not, refl, rules}
-use Rattle.textwrap_text.proofs.Common.{starts_with, subst, suc, sym, take, take_all, take_while}
-use Rattle.textwrap_text.proofs.Common.{true, zero, ℕ, ◌++◌, ◌+◌, ◌-◌, ◌<◌, ◌==◌, ◌∙◌, ◌∷◌, ◌≡◌}
-use Rattle.textwrap_text.proofs.Common.{◌≢◌, ◌≤◌}
+use Rattle.textwrap_styles.{proofs.Common.{is_in_range, numbers_of, settings}, specs.Pen.with_first}
+use Rattle.textwrap_styles.specs.Settings.{code, color_fields, details, first_setting, settings_past}
+use Rattle.textwrap_styles.specs.Settings.{taken_fields}
+use Rattle.textwrap_text.proofs.Common.{◌+◌, ◌++◌, ◌-◌, ◌<◌, ◌==◌, [], All, All-cons, All-drop, All-nil}
+use Rattle.textwrap_text.proofs.Common.{All-take, and_parts, ap, arith, Bool, cases_Bool, codes, cond}
+use Rattle.textwrap_text.proofs.Common.{cond_both, drop, drop_all, drop_more, false, length, length-take}
+use Rattle.textwrap_text.proofs.Common.{List, list_all, map, min, nat_eq, nat_tests, not, refl, rules}
+use Rattle.textwrap_text.proofs.Common.{starts_with, subst, suc, sym, take, take_all, take_while, true, zero}
+use Rattle.textwrap_text.proofs.Common.{ℕ, ◌∙◌, ◌∷◌, ◌≡◌, ◌≢◌, ◌≤◌}
 
 -- ---- the first fields of parameters
 

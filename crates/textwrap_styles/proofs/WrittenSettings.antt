@@ -1,22 +1,18 @@
 -- Settings that are open, each written as a sequence: what the sequences set, and that each is a text
 -- by itself.
 use Rattle.std.proofs.lemmas.{List.Sums.AllPass-from_list_all, Str.Ascii.IsAscii-from_all}
-use Rattle.textwrap_styles.proofs.Common.{is_in_range, is_link, is_style}
-use Rattle.textwrap_styles.proofs.Common.{open_settings, open_styles, settings, settings_of}
-use Rattle.textwrap_styles.proofs.Common.{style_parameters, written}
+use Rattle.textwrap_styles.proofs.Common.{is_in_range, is_link, is_style, open_settings, open_styles}
+use Rattle.textwrap_styles.proofs.Common.{settings, settings_of, style_parameters, written}
 use Rattle.textwrap_styles.proofs.OpenSettings.{all-open, settings-again}
 use Rattle.textwrap_styles.proofs.SequenceTexts.{IsSequence, unit-sequence}
 use Rattle.textwrap_styles.proofs.Sequences.{style-is, style-no_link, style_parameters-is}
-use Rattle.textwrap_styles.proofs.SettingTexts.{IsSetting, are-settings, settings-one, take-all}
-use Rattle.textwrap_text.proofs.Common.{All, All-append, All-cons, All-head, All-map, All-nil}
-use Rattle.textwrap_text.proofs.Common.{All-tail, All-weaker, IsUtf8-from_ascii, List}
-use Rattle.textwrap_text.proofs.Common.{[], ap, arith, cases_Bool}
-use Rattle.textwrap_text.proofs.Common.{chars-IsAscii, cond_both, false, flat_map, length}
-use Rattle.textwrap_text.proofs.Common.{length-append, list_all, map, nat_tests, refl, rules}
-use Rattle.textwrap_text.proofs.Common.{take, take-append-le, true, ℕ, ◌++◌, ◌<◌, ◌∙◌}
-use Rattle.textwrap_text.proofs.{Common.◌∷◌, Common.◌≡◌, Lists.Parts.last-append}
-use Rattle.textwrap_text.{specs.Lists.last, specs.Units.ends}
-use Rattle.textwrap_text.specs.Units.{is_control_end}
+use Rattle.textwrap_styles.proofs.SettingTexts.{are-settings, IsSetting, settings-one, take-all}
+use Rattle.textwrap_text.proofs.Common.{◌++◌, ◌<◌, [], All, All-append, All-cons, All-head, All-map, All-nil}
+use Rattle.textwrap_text.proofs.Common.{All-tail, All-weaker, ap, arith, cases_Bool, chars-IsAscii, cond_both}
+use Rattle.textwrap_text.proofs.Common.{false, flat_map, IsUtf8-from_ascii, length, length-append, List}
+use Rattle.textwrap_text.proofs.Common.{list_all, map, nat_tests, refl, rules, take, take-append-le, true, ℕ}
+use Rattle.textwrap_text.{proofs.Common.{◌∙◌, ◌∷◌, ◌≡◌}, proofs.Lists.Parts.last-append, specs.Lists.last}
+use Rattle.textwrap_text.specs.Units.{ends, is_control_end}
 
 -- ---- a setting that is written as a sequence
 

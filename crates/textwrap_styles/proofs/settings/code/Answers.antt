@@ -1,10 +1,9 @@
 use Rattle.textwrap_styles.proofs.settings.code.Goals as goal
-use Rattle.std.proofs.lemmas.{Int.Digits.digits_value_more, List.Sums.prefix_len-le-length}
-use Rattle.std.{proofs.lemmas.List.Sums.prefix_len_passes, specs.Char.digit_value}
+use Rattle.std.{proofs.lemmas.Int.Digits.digits_value_more, specs.Char.digit_value}
+use Rattle.std.proofs.lemmas.List.Sums.{prefix_len-le-length, prefix_len_passes}
 use Rattle.textwrap_styles.proofs.Common.{is_ascii_digit}
-use Rattle.textwrap_text.proofs.Common.{List, arith, get_or, get_or-take, length, length-take-le}
-use Rattle.textwrap_text.proofs.Common.{nat_tests, prefix_len, rules, take, true, ℕ, ◌-◌, ◌<◌, ◌≡◌}
-use Rattle.textwrap_text.proofs.Common.{◌≤◌}
+use Rattle.textwrap_text.proofs.Common.{◌-◌, ◌<◌, arith, get_or, get_or-take, length, length-take-le, List}
+use Rattle.textwrap_text.proofs.Common.{nat_tests, prefix_len, rules, take, true, ℕ, ◌≡◌, ◌≤◌}
 
 -- an ASCII digit and its value
 record IsDigit (c : ℕ) : Type 0 where

@@ -1,10 +1,9 @@
 use Rattle.textwrap_styles.proofs.styles.next_sequence.Goals as goal
 use Rattle.std.{proofs.lemmas.Str.Pattern.split_parts, specs.Str.NoCharPasses}
-use Rattle.textwrap_styles.proofs.Common.{sequences}
+use Rattle.textwrap_styles.proofs.{Common.sequences, styles.next_sequence.Goals.In_ok-before}
 use Rattle.textwrap_styles.proofs.Sequences.{end-boundary, no_sequences, sequences-next, tail_len}
-use Rattle.textwrap_styles.proofs.styles.next_sequence.Goals.{In_ok-before}
-use Rattle.textwrap_text.proofs.Common.{IsCharBoundary, arith, drop, eqb, length, slice_range}
-use Rattle.textwrap_text.proofs.Common.{subst, sym, ℕ, ◌++◌, ◌+◌, ◌∷◌, ◌≡◌}
+use Rattle.textwrap_text.proofs.Common.{◌+◌, ◌++◌, arith, drop, eqb, IsCharBoundary, length, slice_range}
+use Rattle.textwrap_text.proofs.Common.{subst, sym, ℕ, ◌∷◌, ◌≡◌}
 
 pub returns-in_err-before-clause-sequences : goal.returns-in_err-before-clause-sequences
 returns-in_err-before-clause-sequences c =

@@ -1,7 +1,6 @@
 use Rattle.textwrap_styles.proofs.styles.push_link.Goals as goal
 use Rattle.textwrap_styles.proofs.{LinkIds.with_id-is, Sequences.link_start}
-use Rattle.textwrap_text.proofs.Common.{append_assoc, arith, cases_Bool, rules}
-use Rattle.textwrap_text.proofs.Lists.Parts.{stripped_prefix}
+use Rattle.textwrap_text.proofs.{Common.{append_assoc, arith, cases_Bool, rules}, Lists.Parts.stripped_prefix}
 
 pub returns-then-names_id : goal.returns-then-names_id
 returns-then-names_id g c = λ is.

@@ -1,6 +1,5 @@
 use Rattle.textwrap_styles.proofs.styles.style_parameters.Goals as goal
-use Rattle.textwrap_styles.proofs.Common.{is_in_range, is_style}
-use Rattle.textwrap_styles.proofs.Sequences.{not_style, style-is}
+use Rattle.textwrap_styles.proofs.{Common.{is_in_range, is_style}, Sequences.{not_style, style-is}}
 use Rattle.textwrap_styles.proofs.styles.style_parameters.Goals.{In_ok-parameters}
 use Rattle.textwrap_text.proofs.Common.{ap, arith, codes, list_all, sym, ◌∙◌, ◌≡◌}
 use Rattle.textwrap_text.proofs.Lists.Parts.{stripped_prefix, stripped_suffix}

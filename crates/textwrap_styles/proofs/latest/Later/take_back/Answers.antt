@@ -1,6 +1,5 @@
 use Rattle.textwrap_styles.proofs.latest.Later.take_back.Goals as goal
-use Rattle.textwrap_styles.proofs.OpenSettings.{any-known, known-below}
-use Rattle.textwrap_styles.specs.Settings.{number}
+use Rattle.textwrap_styles.{proofs.OpenSettings.{any-known, known-below}, specs.Settings.number}
 use Rattle.textwrap_text.proofs.Common.{arith, cases_Bool}
 
 pub returns-then-self-number : goal.returns-then-self-number

@@ -1,9 +1,8 @@
 use Rattle.textwrap_styles.proofs.styles.OpenStyles.read_setting.Goals as goal
-use Rattle.textwrap_styles.proofs.Common.{Reset, in_effect, latest, open_settings}
-use Rattle.textwrap_styles.proofs.OpenSettings.{effect-push, open_settings-push, resets, texts}
-use Rattle.textwrap_styles.{proofs.OpenSettings.with_setting, specs.Settings.number}
-use Rattle.textwrap_text.proofs.Common.{Bor, List, [], ap, cond, false, map-append, sym, ℕ, ◌++◌}
-use Rattle.textwrap_text.proofs.Common.{◌==◌, ◌∙◌, ◌∷◌, ◌≡◌}
+use Rattle.textwrap_styles.{proofs.Common.{in_effect, latest, open_settings, Reset}, specs.Settings.number}
+use Rattle.textwrap_styles.proofs.OpenSettings.{effect-push, open_settings-push, resets, texts, with_setting}
+use Rattle.textwrap_text.proofs.Common.{◌++◌, ◌==◌, [], ap, Bor, cond, false, List, map-append, sym, ℕ, ◌∙◌}
+use Rattle.textwrap_text.proofs.Common.{◌∷◌, ◌≡◌}
 
 pub returns-in_ok-push-clause-settings : goal.returns-in_ok-push-clause-settings
 returns-in_ok-push-clause-settings g c = λ before state.

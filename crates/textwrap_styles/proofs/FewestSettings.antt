@@ -5,12 +5,12 @@ use Rattle.std.proofs.lemmas.Map.Made.{IsDistinct-from_count, length-le_from_is_
 use Rattle.std.specs.Set.{is_member, unique_keys}
 use Rattle.textwrap_styles.proofs.Common.{apply, in_effect, kind_of, latest, open_settings, Pen, plain_pen}
 use Rattle.textwrap_styles.proofs.Common.{plain_rendition, Rendition, settings_of, with_sequence}
+use Rattle.textwrap_styles.proofs.{FewStyles.{kinds, kinds-distinct, known}, PenOpen.run-append}
 use Rattle.textwrap_styles.proofs.OpenSettings.{all-open, all-set, known-below, latest-in_effect, resets}
-use Rattle.textwrap_styles.proofs.{OpenSettings.{Sets, unknown-number}, PenOpen.run-append}
+use Rattle.textwrap_styles.proofs.{OpenSettings.{Sets, unknown-number}, PenSettings.{all-known, many-end}}
 use Rattle.textwrap_styles.proofs.PenCodes.{differs_at, mix-differs, plain-differs, sets}
-use Rattle.textwrap_styles.proofs.PenOpen.{are-latest, AreLatest, open-pen, parameters-pen, pen_by}
-use Rattle.textwrap_styles.proofs.{PenSettings.{all-known, many-end}, PenStyles.all-given}
-use Rattle.textwrap_styles.proofs.{SettingTexts.IsSetting, WrittenSettings.all-settings}
+use Rattle.textwrap_styles.proofs.PenOpen.{AreLatest, open-latest, open-pen, parameters-pen, pen_by}
+use Rattle.textwrap_styles.proofs.{PenStyles.all-given, SettingTexts.IsSetting, WrittenSettings.all-settings}
 use Rattle.textwrap_styles.specs.Laws.{NothingIfUnknown, NothingShorterGivesThePen, OpenStylesAreSetters}
 use Rattle.textwrap_styles.specs.Penned.{with_style}
 use Rattle.textwrap_styles.specs.Settings.{is_end, is_unknown, number, replaces, takes_back}
@@ -53,10 +53,6 @@ module _ (t : List ℕ) (told : Told t) (p : Pen) (i : ℕ) where
       (all-known t told.setting known).ends in
       grind (arith, cases_Bool, changed, end, many-end t told.setting, sets-other, plain-differs i)
 
--- the kinds of some settings
-abbrev kinds : List (List ℕ) → List ℕ
-kinds ss = map (λ s. number (kind_of s)) ss
-
 -- so settings of other kinds do
 run-plain : (ss : List (List ℕ)) (p : Pen) (i : ℕ) → All Told ss
     → is_member eqb (kinds ss) i ≡ false → differs_at p i ≡ false
@@ -74,7 +70,7 @@ record Open (t : List ℕ) : Type 0 where
   sets : Sets t
 
 abbrev setters_of : List (List ℕ) → List (List ℕ)
-setters_of ss = filter (λ s. not (is_end s)) (filter (λ s. not (is_unknown (kind_of s))) ss)
+setters_of ss = filter (λ s. not (is_end s)) (filter known ss)
 
 -- what does not take back a setting leaves its field
 apart : (t s : List ℕ) → Sets t → is_unknown (kind_of s) ≡ false → replaces t s ≡ false
@@ -107,18 +103,6 @@ each-differs (s ∷ ss) p i are (none, latest) is =
     ∙ (all-known s own.setting known).differs stays in
     grind (arith, cases_Bool, nat_tests, others, differs, eqb-true)
 
--- so no two are of one kind
-kinds-once : (ss : List (List ℕ)) → All Open ss → AreLatest ss
-    → unique_keys eqb (kinds (setters_of ss)) ≡ kinds (setters_of ss)
-kinds-once [] are latest = refl
-kinds-once (s ∷ ss) are (none, latest) =
-    let kind = number (kind_of s) in
-    let rest = All-tail Open s ss are in
-    let other = each-differs ss plain_pen kind rest latest in
-    let stays = λ (known : is_unknown (kind_of s) ≡ false).
-    run-stays s ss plain_pen known rest none ∙ plain-differs kind in
-    grind (arith, cases_Bool, other, stays, kinds-once ss rest latest)
-
 -- ---- the laws
 
 all-set_something : (ss : List (List ℕ)) → filter (λ s. is_unknown (kind_of s)) (in_effect ss) ≡ []
@@ -144,12 +128,11 @@ fewest before others nothing more same =
     } in
     let told : All Told rest =
     λ k d within. record { setting = all-settings others k d within; nothing = more k d within } in
-    let latest = subst AreLatest (latest-in_effect (after_last resets all)) (are-latest now) in
+    let latest = open-latest all in
     let pens : pen_by plain_pen now ≡ pen_by plain_pen rest =
     open-pen all is ∙ sym (all-given before plain_rendition) ∙ sym same
     ∙ all-given others plain_rendition in
-    let once = IsDistinct-from_count nat_eq_equiv (kinds (setters_of now))
-    (ap length (kinds-once now are latest)) in
+    let once = kinds-distinct (λ s. not (is_end s)) now latest in
     let most = length-le_from_is_member nat_eq_equiv (kinds (setters_of now)) (kinds rest) once
     (λ i set. true_from_ne_false (is_member eqb (kinds rest) i) (λ none.
     true≢false (sym (each-differs now plain_pen i are latest set) ∙ ap (λ p. differs_at p i) pens

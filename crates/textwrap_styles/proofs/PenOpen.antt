@@ -3,15 +3,15 @@
 use Rattle.std.proofs.lemmas.Slice.Eq.{bytes_eq-Decides}
 use Rattle.textwrap_styles.proofs.Common.{apply, fields, fold-append, in_effect, Kind, latest, open_settings}
 use Rattle.textwrap_styles.proofs.{Common.{Pen, plain_pen, Reset, settings}, SettingTexts.taken-again}
-use Rattle.textwrap_styles.proofs.OpenSettings.{after-more, all-latest, known-below, none-latest, resets}
-use Rattle.textwrap_styles.proofs.{OpenSettings.{Sets, unknown-number}, PenCodes.{mix-within, nothing, sets}}
+use Rattle.textwrap_styles.proofs.OpenSettings.{after-more, all-latest, known-below, latest-in_effect}
+use Rattle.textwrap_styles.{proofs.OpenSettings.{none-latest, resets, Sets, unknown-number}, specs.Pen.read}
 use Rattle.textwrap_styles.proofs.PenCodes.{apply-changes, Changes, changes-then, mix, mix-again, mix-swap}
-use Rattle.textwrap_styles.{proofs.PenSettings.{all-known, among, kind-code, many-end}, specs.Pen.read}
+use Rattle.textwrap_styles.{proofs.PenCodes.{mix-within, nothing, sets}, specs.Settings.takes_back}
+use Rattle.textwrap_styles.proofs.PenSettings.{all-known, among, kind-code, many-end}
 use Rattle.textwrap_styles.proofs.SettingTexts.{are-settings, between-append, drop-all, fields-split}
 use Rattle.textwrap_styles.proofs.SettingTexts.{first-take, InRange, IsSetting, settings-next, settings-one}
 use Rattle.textwrap_styles.specs.Settings.{code, first_setting, is_color_code, is_end, is_ending_code}
 use Rattle.textwrap_styles.specs.Settings.{is_unknown, kind_of, kind_of_code, number, replaces, taken_fields}
-use Rattle.textwrap_styles.specs.Settings.{takes_back}
 use Rattle.textwrap_text.proofs.Common.{◌&&◌, ◌+◌, ◌++◌, ◌<◌, ◌==◌, [], after_last, All, All-append, All-cons}
 use Rattle.textwrap_text.proofs.Common.{All-head, All-nil, All-tail, All-weaker, ap, arith, cases_Bool, cond}
 use Rattle.textwrap_text.proofs.Common.{cond_both, drop, eqb-true, false, fold, inl, inr, length, length-drop}
@@ -128,9 +128,13 @@ abbrev pub AreLatest : List (List ℕ) → Type 0
 AreLatest [] = ⊤
 AreLatest (s ∷ ss) = (list_any (λ t. replaces t s) ss ≡ false) × AreLatest ss
 
-pub are-latest : (ss : List (List ℕ)) → AreLatest (latest ss)
+are-latest : (ss : List (List ℕ)) → AreLatest (latest ss)
 are-latest [] = tt
 are-latest (s ∷ ss) = grind (arith, cases_Bool, nat_tests, are-latest ss, none-latest)
+
+pub open-latest : (before : List (List ℕ)) → AreLatest (open_settings before)
+open-latest before =
+    subst AreLatest (latest-in_effect (after_last resets before)) (are-latest (open_settings before))
 
 -- what ends something ends nothing of this pen
 abbrev IsQuiet : Pen → List ℕ → Type 0

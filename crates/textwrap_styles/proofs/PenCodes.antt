@@ -185,10 +185,10 @@ changes-then act later one two = record {
       ∙ mix-both two.fields one.fields two.values one.values p;
 }
 
-pub changes-if : (b : Bool) (act other : Pen → Pen) → Changes act → Changes other
+pub changes-if : (b : Bool) {act other : Pen → Pen} → Changes act → Changes other
     → Changes (λ p. cond b (act p) (other p))
-changes-if true act other one two = one
-changes-if false act other one two = two
+changes-if true one two = one
+changes-if false one two = two
 
 -- ---- fields of parameters
 
@@ -207,15 +207,13 @@ color-changes c color = record {
 parts-changes : (c : ℕ) (parts : List ℕ) → Changes (with_parts c parts)
 unfolding with_parts
 parts-changes c parts =
-    changes-if (c == 4) (λ p. record p { underline = first_of parts })
-    (λ p. cond ((c == 38) || (c == 48) || (c == 58)) (with_color c (color_of parts) p) p)
-    (record {
+    let underline : Changes (λ p. record p { underline = first_of parts }) = record {
       fields = λ i. 5 == i;
       values = record plain_pen { underline = first_of parts };
       is = λ p. refl;
-    })
-    (changes-if ((c == 38) || (c == 48) || (c == 58)) (with_color c (color_of parts)) (λ p. p)
-    (color-changes c (color_of parts)) nothing)
+    } in
+    changes-if (c == 4) underline
+    (changes-if ((c == 38) || (c == 48) || (c == 58)) (color-changes c (color_of parts)) nothing)
 
 -- with a field more: the colour that has begun does not hang on the pen
 pub record Steps (act : Pen → Reading) : Type 0 where
@@ -224,43 +222,32 @@ pub record Steps (act : Pen → Reading) : Type 0 where
   pub changes : Changes pen
   pub is : (p : Pen) → act p ≡ record { pen = pen p; color = color }
 
-steps-if : (b : Bool) (act other : Pen → Reading) → Steps act → Steps other
+steps-if : (b : Bool) {act other : Pen → Reading} → Steps act → Steps other
     → Steps (λ p. cond b (act p) (other p))
-steps-if true act other one two = one
-steps-if false act other one two = two
+steps-if true one two = one
+steps-if false one two = two
 
 abbrev at : List ℕ → Pen → Reading
 at color p = record { pen = p; color = color }
 
-steps-by : (color : List ℕ) (act : Pen → Pen) → Changes act
-    → Steps (λ p. at color (act p))
-steps-by color act changes =
-    record { color = color; pen = act; changes = changes; is = λ p. refl }
+steps-by : (color : List ℕ) {act : Pen → Pen} → Changes act → Steps (λ p. at color (act p))
+steps-by color {act} changes = record { color = color; pen = act; changes = changes; is = λ p. refl }
 
 field-steps : (color field : List ℕ) → Steps (λ p. with_field (at color p) field)
 unfolding with_field
 field-steps color field =
     let code = first_of field in
     let numbers = color ++ code ∷ [] in
-    let whole = with_color (first_of numbers) (color_of (drop 1 numbers)) in
-    let parts = with_parts code (drop 1 field) in
-    let is_color = (code == 38) || (code == 48) || (code == 58) in
+    let whole = color-changes (first_of numbers) (color_of (drop 1 numbers)) in
     steps-if (not (length color == 0))
-    (λ p. cond (is_whole_color (drop 1 numbers)) (at [] (whole p)) (at numbers p))
-    (λ p. cond (not (length field == 1)) (at [] (parts p))
-    (cond is_color (at numbers p) (at [] (with_code code p))))
-    (steps-if (is_whole_color (drop 1 numbers)) (λ p. at [] (whole p)) (at numbers)
-    (steps-by [] whole (color-changes (first_of numbers) (color_of (drop 1 numbers))))
-    (steps-by numbers (λ p. p) nothing))
-    (steps-if (not (length field == 1)) (λ p. at [] (parts p))
-    (λ p. cond is_color (at numbers p) (at [] (with_code code p)))
-    (steps-by [] parts (parts-changes code (drop 1 field)))
-    (steps-if is_color (at numbers) (λ p. at [] (with_code code p))
-    (steps-by numbers (λ p. p) nothing) (steps-by [] (with_code code) (code-changes code))))
+    (steps-if (is_whole_color (drop 1 numbers)) (steps-by [] whole) (steps-by numbers nothing))
+    (steps-if (not (length field == 1)) (steps-by [] (parts-changes code (drop 1 field)))
+    (steps-if ((code == 38) || (code == 48) || (code == 58)) (steps-by numbers nothing)
+    (steps-by [] (code-changes code))))
 
 fields-steps : (fs : List (List ℕ)) (color : List ℕ)
     → Steps (λ p. fold with_field (at color p) fs)
-fields-steps [] color = steps-by color (λ p. p) nothing
+fields-steps [] color = steps-by color nothing
 fields-steps (f ∷ fs) color =
     let one = field-steps color f in
     let others = fields-steps fs one.color in

@@ -7,7 +7,7 @@ use Rattle.textwrap_styles.{proofs.Common.{sequences, style_end, with_sequence},
 use Rattle.textwrap_styles.specs.Styled.{IsWholeText}
 use Rattle.textwrap_text.proofs.Common.{◌++◌, ◌==◌, [], All, All-append, All-cons, All-head, All-nil}
 use Rattle.textwrap_text.proofs.Common.{All-tail, ap, append-nil, arith, Bool, cases_Bool, characters}
-use Rattle.textwrap_text.proofs.Common.{chars-append, chars-nil, chars_from_encodes, codes, cond}
+use Rattle.textwrap_text.proofs.Common.{chars-append, chars-nil, chars_from_encodes, codes, cond, cond_both}
 use Rattle.textwrap_text.proofs.Common.{encode_utf8_all, encodes-chars, false, flat_map, flat_map-append}
 use Rattle.textwrap_text.proofs.Common.{fold, inl, IsUtf8, IsUtf8-append, IsUtf8-nil, length, List, map, refl}
 use Rattle.textwrap_text.proofs.Common.{rules, Sequence, subst, sym, take, TextUnit, true, units, Visible}
@@ -122,16 +122,13 @@ link_end-is =
     unit-sequence link_end link_end (link_end, (refl, refl)) refl
     (body, refl, refl, λ k. agree_below_at (λ i. ends (take i body)) (λ i. false) 6 k refl)
 
+one-sequence : (s : List ℕ) (b : Bool) → IsSequence s → All IsSequence (cond b [] (s ∷ []))
+one-sequence s true is = All-nil IsSequence
+one-sequence s false is = All-cons IsSequence s [] is (All-nil IsSequence)
+
 pub closing-sequences : (before : List (List ℕ)) → All IsSequence (closing_sequences before)
 closing-sequences before =
-    let plain = length (open_styles before) == 0 in
-    let unlinked = length (open_link before) == 0 in
-    All-append IsSequence (cond plain [] (style_end ∷ [])) (cond unlinked [] (link_end ∷ []))
-    (one style_end style_end-is plain) (one link_end link_end-is unlinked)
-  where
-    one : (s : List ℕ) → IsSequence s → (b : Bool) → All IsSequence (cond b [] (s ∷ []))
-    one s is true = All-nil IsSequence
-    one s is false = All-cons IsSequence s [] is (All-nil IsSequence)
+    All-append IsSequence _ _ (one-sequence style_end _ style_end-is) (one-sequence link_end _ link_end-is)
 
 -- ---- what units show
 

@@ -83,8 +83,7 @@ carried-len indent before line =
     let len = parts-len (before_text indent line) (opening before) text
     (closing (before ++ sequences text)) line _ (carried-parts indent before line)
     (take-append-drop (indent_end indent line) line) in
-    let ends = closing-short (before ++ sequences text) in
-    omega (arith, len, ends)
+    omega (arith, len, closing-short (before ++ sequences text))
 
 pub carried-bytes : (indent : List ℕ) (before : List (List ℕ)) (line : List ℕ)
     → line_bytes (carried_line indent before line)
@@ -186,8 +185,7 @@ pub plain-stay : (indent later : List ℕ) (lines : List (List ℕ))
     → carried_lines indent later [] lines ≡ map Slice lines
 plain-stay indent later [] all = refl
 plain-stay indent later (line ∷ lines) (none, rest) =
-    let others = plain-stay later later lines (indented-later IsPlainLine later lines rest) in
-    grind (arith, none, others)
+    grind (arith, none, plain-stay later later lines (indented-later IsPlainLine later lines rest))
 
 nil-plain : EndsPlain []
 nil-plain = ap (λ cs. rendition_of (flat_map sequence_of (units cs))) chars-nil

@@ -9,15 +9,16 @@ use Rattle.textwrap_styles.proofs.Common.{link_end, open_link, open_settings, op
 use Rattle.textwrap_styles.proofs.Common.{settings_of, style_end, style_parameters, written}
 use Rattle.textwrap_styles.proofs.OpenSettings.{all-latest, all-open, all-set, known-below, latest-in_effect}
 use Rattle.textwrap_styles.proofs.{OpenSettings.{none-latest, resets, Sets}, PenOpen.{AreLatest, open-latest}}
-use Rattle.textwrap_styles.{proofs.SettingTexts.first-len, specs.Laws.{known_settings, unknown_settings}}
+use Rattle.textwrap_styles.{proofs.SettingTexts.{each-setting, first-len}, specs.Settings.takes_back}
+use Rattle.textwrap_styles.specs.Laws.{known_settings, unknown_settings}
 use Rattle.textwrap_styles.specs.Settings.{first_setting, is_unknown, number, replaces, settings_past}
-use Rattle.textwrap_styles.specs.{Settings.takes_back, Styles.{carried_line, reopened_link}}
+use Rattle.textwrap_styles.specs.Styles.{carried_line, reopened_link}
 use Rattle.textwrap_text.proofs.Common.{◌*◌, ◌+◌, ◌-◌, ◌<◌, ◌==◌, [], after_last, All, All-append, All-cons}
 use Rattle.textwrap_text.proofs.Common.{All-head, All-nil, All-tail, All-weaker, ap, arith, Bool, cases_Bool}
 use Rattle.textwrap_text.proofs.Common.{codes, cond_both, drop, eqb, false, false_from_ne_true, filter}
-use Rattle.textwrap_text.proofs.Common.{flat_map, length, length-append, length-map, length-take, List}
-use Rattle.textwrap_text.proofs.Common.{list_any, map, nat_tests, not, refl, rules, subst, suc, sym, true}
-use Rattle.textwrap_text.proofs.Common.{true≢false, zero, ℕ, ◌∙◌, ◌∷◌, ◌≡◌, ◌≤◌}
+use Rattle.textwrap_text.proofs.Common.{flat_map, length, length-append, length-drop, length-map, length-take}
+use Rattle.textwrap_text.proofs.Common.{List, list_any, map, nat_tests, not, refl, rules, subst, suc, sym}
+use Rattle.textwrap_text.proofs.Common.{true, true≢false, zero, ℕ, ◌∙◌, ◌∷◌, ◌≡◌, ◌≤◌}
 
 -- ---- no two that the table knows are of one kind
 
@@ -84,16 +85,10 @@ few-known before =
 
 -- ---- how many bytes they have
 
-past-short : (n : ℕ) (t : List ℕ) (most : ℕ) → length t ≤ most
-    → All (λ s. length s ≤ most) (settings_past n t)
-past-short n [] most short = All-nil (λ s. length s ≤ most)
-past-short zero (c ∷ cs) most short =
-    search (rules, arith, All-cons, first-len, past-short (length (first_setting cs)) cs)
-past-short (suc n) (c ∷ cs) most short = past-short n cs most (omega (arith, short))
-
 settings-short : (t : List ℕ) (most : ℕ) → length t ≤ most
     → All (λ s. length s ≤ most) (settings t)
-settings-short t most short = search (rules, arith, All-cons, first-len, past-short)
+settings-short t most short =
+    each-setting (λ s. length s ≤ most) t (λ k. omega (arith, short, first-len (drop k t), length-drop k t))
 
 -- written, a setting has three bytes more
 abbrev IsShort : ℕ → List ℕ → Type 0
@@ -127,10 +122,9 @@ written-bytes [] most short = omega arith
 written-bytes (s ∷ ss) most short =
     let one : length s + 3 ≤ most = All-head (IsShort most) s ss short in
     let others = written-bytes ss most (All-tail (IsShort most) s ss short) in
-    let len = length-append (written s) (concat (map written ss)) in
     let own : length (written s) ≡ length s + 3 =
     omega (arith, length-append s (codes "m")) in
-    omega (arith, one, others, len, own)
+    omega (arith, one, others, length-append (written s) (concat (map written ss)), own)
 
 -- those that the table knows, and the others
 both-kinds : (ss : List (List ℕ)) → length ss
@@ -148,12 +142,10 @@ styles-short indent before line most short =
     let now = open_settings all in
     let line_len = carried-len indent before line in
     let len = length-append (concat (reopened_link before)) (concat (open_styles before)) in
-    let anew = reopened-len before in
     let link = open_link-cases (λ s. length s ≤ most) (λ ls. length (concat ls) ≤ most) before short
     (omega arith) (λ s is few. omega (arith, few, length-append s [])) in
     let styles = written-bytes now most (all-open (IsShort most) all (all-short before most short))
     in
     let count : length now ≤ 15 + length (unknown_settings before) =
     omega (arith, both-kinds now, few-known before) in
-    let product = mul-le-mul_left most count in
-    omega (arith, line_len, len, anew, link, styles, product)
+    omega (arith, line_len, len, reopened-len before, link, styles, mul-le-mul_left most count)

@@ -84,9 +84,8 @@ run-stays : (s : List ℕ) (ss : List (List ℕ)) (p : Pen) → is_unknown (kind
 run-stays s [] p known are none = refl
 run-stays s (t ∷ ss) p known are none =
     let own = All-head Open t ss are in
-    let one = changed t own.told p (number (kind_of s)) in
     let rest = run-stays s ss (apply t p) known (All-tail Open t ss are) in
-    grind (arith, cases_Bool, one, apart t s own.sets known, rest)
+    grind (arith, cases_Bool, changed t own.told p (number (kind_of s)), apart t s own.sets known, rest)
 
 -- the field of each differs
 each-differs : (ss : List (List ℕ)) (p : Pen) (i : ℕ) → All Open ss → AreLatest ss
@@ -96,12 +95,11 @@ each-differs (s ∷ ss) p i are (none, latest) is =
     let own = (All-head Open s ss are).told in
     let rest = All-tail Open s ss are in
     let kind = number (kind_of s) in
-    let others = each-differs ss (apply s p) i rest latest in
     let differs = λ (known : is_unknown (kind_of s) ≡ false) (stays : is_end s ≡ false).
     run-stays s ss (apply s p) known rest none
     ∙ (rw (known, sets-own) at (changed s own p kind))
     ∙ (all-known s own.setting known).differs stays in
-    grind (arith, cases_Bool, nat_tests, others, differs, eqb-true)
+    grind (arith, cases_Bool, nat_tests, each-differs ss (apply s p) i rest latest, differs, eqb-true)
 
 -- ---- the laws
 

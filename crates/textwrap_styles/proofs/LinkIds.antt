@@ -40,8 +40,7 @@ digits-plain : (n : ℕ) → n < 2 ^ 64 → ArePlain (decimal n)
 digits-plain n fits =
     list_all-from_AllPass is_plain (decimal n)
     (All-from_get_or (λ c. is_plain c ≡ true) (decimal n) 0 (λ i below.
-    let digit = digit_at (decimal n) i (decimal_is_IsNumeral n fits).0.1 below in
-    grind (arith, cases_Bool, nat_tests, digit)))
+    grind (arith, cases_Bool, nat_tests, digit_at (decimal n) i (decimal_is_IsNumeral n fits).0.1 below)))
 
 -- what stands behind its number
 abbrev colon : List ℕ → List ℕ

@@ -205,10 +205,8 @@ set-again : (first more : List (List ℕ)) → All Sets more
     → fold next_settings (in_effect (latest first)) more ≡ in_effect (latest (first ++ more))
 set-again first [] are = ap (λ ss. in_effect (latest ss)) (sym (append-nil first))
 set-again first (t ∷ more) are =
-    let is = All-head Sets t more are in
     let others = set-again (first ++ t ∷ []) more (All-tail Sets t more are) in
-    let one = effect-push first t in
-    grind (arith, append_assoc, one, is, others)
+    grind (arith, append_assoc, effect-push first t, All-head Sets t more are, others)
 
 -- where none was open, and these are set anew
 pub settings-again : (front before : List (List ℕ)) → open_settings front ≡ []

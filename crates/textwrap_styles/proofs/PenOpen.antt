@@ -254,8 +254,7 @@ first-split t more = search (rules, arith, first-fields, fields-split)
 first-known : (t : List ℕ) → length (first_setting t) < length t
     → is_unknown (kind_of (first_setting t)) ≡ false
 first-known t more =
-    let parts = first-fields t more in
-    grind (arith, nat_tests, parts, taken-known, taken-again)
+    grind (arith, nat_tests, first-fields t more, taken-known, taken-again)
 
 first-one : (t : List ℕ) → length t ≤ length (first_setting t) → first_setting t ≡ t
 first-one t all = sym (first-take t) ∙ take_all (length (first_setting t)) t all

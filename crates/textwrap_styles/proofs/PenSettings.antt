@@ -192,8 +192,7 @@ second-first : (t : List ℕ) → InRange t → has_colon t ≡ true
     → first_of (drop 1 (numbers_of (first_field t))) ≡ first_number (drop 1 (details t))
 second-first [] all colon = rw details-nil refl
 second-first (c ∷ cs) all colon =
-    let others = second-first cs in
-    grind (arith, cases_Bool, nat_tests, details-cons, first_text-first, later-values, others)
+    grind (arith, cases_Bool, nat_tests, details-cons, first_text-first, later-values, second-first cs)
 
 min-none : (n : ℕ) → (min 255 n == 0) ≡ (n == 0)
 min-none n = grind (arith, cases_Bool, nat_tests)
@@ -204,8 +203,7 @@ unfolding is_end
 colon-end t range colon four =
     let rest = drop 1 (details t) in
     let value = code-first rest (rest-range t range) in
-    let second = second-first t range colon in
-    grind (arith, cases_Bool, value, second, min-none (first_number rest))
+    grind (arith, cases_Bool, value, second-first t range colon, min-none (first_number rest))
 
 colon-other : (t : List ℕ) → has_colon t ≡ true → (code t == 4) ≡ false → is_end t ≡ false
 unfolding is_end
@@ -245,9 +243,8 @@ module _ (t : List ℕ) (is : IsSetting t) (known : is_unknown (kind_of t) ≡ f
       → differs_at (with_code (code t) plain_pen) (number (kind_of t)) ≡ true
   plain-differs none plain stays =
       let all = (row (code t)).known in
-      let kind = kind-code t known in
       let end = plain-end none in
-      grind (arith, cases_Bool, all, kind, end)
+      grind (arith, cases_Bool, all, kind-code t known, end)
 
   plain-known : has_colon t ≡ false → is_color_code (code t) ≡ false → Known t
   plain-known none plain =
@@ -363,6 +360,4 @@ module _ (t : List ℕ) (is : IsSetting t) (known : is_unknown (kind_of t) ≡ f
   pub many-end : ((number (kind_of t) == 0) || (number (kind_of t) == 3)) ≡ true → is_end t ≡ true
   unfolding is_color_code is_ending_code
   many-end many =
-      let codes = kind-many (code t) in
-      let kind = kind-code t known in
-      grind (arith, cases_Bool, nat_tests, codes, kind, colon-code, plain-end)
+      grind (arith, cases_Bool, nat_tests, kind-many (code t), kind-code t known, colon-code, plain-end)

@@ -79,10 +79,9 @@ pub styles-pen : (before : List (List ℕ))
     → rendition_of (reopened_link before ++ open_styles before) ≡ rendition_of before
 styles-pen before =
     let starts = reopened_link before in
-    let plain = no-settings starts (reopened-plain before) in
     both _ (rendition_of before)
     (all-given (starts ++ open_styles before) plain_rendition
-    ∙ grind (arith, flat_map-append, plain, open-styles-pen before))
+    ∙ grind (arith, flat_map-append, no-settings starts (reopened-plain before), open-styles-pen before))
     (links-apart (starts ++ open_styles before) plain_rendition
     ∙ fold-append with_link [] starts (open_styles before)
     ∙ links-stay (open_styles before) _ (styles-no_link before) ∙ reopened-link before ∙ open-link before)

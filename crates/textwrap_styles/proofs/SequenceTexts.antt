@@ -128,7 +128,10 @@ one-sequence s false is = All-cons IsSequence s [] is (All-nil IsSequence)
 
 pub closing-sequences : (before : List (List ℕ)) → All IsSequence (closing_sequences before)
 closing-sequences before =
-    All-append IsSequence _ _ (one-sequence style_end _ style_end-is) (one-sequence link_end _ link_end-is)
+    let plain = length (open_styles before) == 0 in
+    let unlinked = length (open_link before) == 0 in
+    All-append IsSequence (cond plain [] (style_end ∷ [])) (cond unlinked [] (link_end ∷ []))
+    (one-sequence style_end plain style_end-is) (one-sequence link_end unlinked link_end-is)
 
 -- ---- what units show
 

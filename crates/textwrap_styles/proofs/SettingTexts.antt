@@ -158,16 +158,23 @@ pub record IsSetting (s : List ℕ) : Type 0 where
   pub own : first_setting s ≡ s
   pub range : list_all (is_in_range 0x30 0x3B) s ≡ true
 
-past-settings : (n : ℕ) (t : List ℕ) → list_all (is_in_range 0x30 0x3B) t ≡ true
-    → All IsSetting (settings_past n t)
-past-settings n [] all = All-nil IsSetting
-past-settings zero (c ∷ cs) all =
-    search (rules, arith, All-cons, first-again, first-all, past-settings (length (first_setting cs)) cs)
-past-settings (suc n) (c ∷ cs) all = search (rules, arith, past-settings n cs)
+past-each : (P : List ℕ → Type 0) (n : ℕ) (t : List ℕ) → ((k : ℕ) → P (first_setting (drop (suc k) t)))
+    → All P (settings_past n t)
+past-each P n [] each = All-nil P
+past-each P zero (c ∷ cs) each =
+    All-cons P (first_setting cs) (settings_past (length (first_setting cs)) cs) (each 0)
+    (past-each P (length (first_setting cs)) cs (λ k. each (suc k)))
+past-each P (suc n) (c ∷ cs) each = past-each P n cs (λ k. each (suc k))
+
+-- what holds of the first setting wherever one may begin
+pub each-setting : (P : List ℕ → Type 0) (t : List ℕ) → ((k : ℕ) → P (first_setting (drop k t)))
+    → All P (settings t)
+each-setting P t each = past-each P 0 (0x3B ∷ t) each
 
 pub are-settings : (t : List ℕ) → list_all (is_in_range 0x30 0x3B) t ≡ true
     → All IsSetting (settings t)
-are-settings t all = past-settings 0 (0x3B ∷ t) all
+are-settings t all =
+    each-setting IsSetting t (λ k. search (rules, first-again, first-all, drop-all))
 
 -- ---- texts between characters
 

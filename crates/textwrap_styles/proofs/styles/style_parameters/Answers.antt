@@ -17,8 +17,7 @@ style : (c : In_ok-parameters)
     ≡ is_style c.args.sequence.now
 style c =
     let front = c.in_ok-strip_prefix.ensures.cases in
-    let back = c.in_ok-parameters.ensures.cases in
-    grind (arith, stripped_prefix, stripped_suffix, style-is, front, back)
+    grind (arith, stripped_prefix, stripped_suffix, style-is, front, c.in_ok-parameters.ensures.cases)
 
 pub returns-then-are_style_parameters-clause-style :
     goal.returns-then-are_style_parameters-clause-style

@@ -14,8 +14,7 @@ written-more : (ss : List (Bor (List ℕ))) (n : ℕ) (d : Bor (List ℕ))
     → filled ≡ begun ++ (get_or ss n d).now → new ≡ filled ++ codes "m"
     → new ≡ front ++ concat (map written (texts (take (n + 1) ss)))
 written-more ss n d front old begun filled new within is starts sets ends =
-    let next = take_more ss n d within in
-    grind (arith, append-nil, append_assoc, map-append, concat-append, next)
+    grind (arith, append-nil, append_assoc, map-append, concat-append, take_more ss n d within)
 
 pub loop-setting-preserved : goal.loop-setting-preserved
 loop-setting-preserved g c =

@@ -70,8 +70,7 @@ carried-parts : (indent : List ℕ) (before : List (List ℕ)) (line : List ℕ)
 carried-parts indent before line =
     grind (arith, nat_tests, nothing-added, take-append-drop (indent_end indent line) line)
 
-closing-short : (before : List (List ℕ))
-    → length (closing before) ≤ length style_end + length link_end
+closing-short : (before : List (List ℕ)) → length (closing before) ≤ length style_end + length link_end
 closing-short before = search (rules, arith)
 
 -- it is longer by what sets anew what is open, and what ends that, at most

@@ -85,8 +85,7 @@ few-known before =
 
 -- ---- how many bytes they have
 
-settings-short : (t : List ℕ) (most : ℕ) → length t ≤ most
-    → All (λ s. length s ≤ most) (settings t)
+settings-short : (t : List ℕ) (most : ℕ) → length t ≤ most → All (λ s. length s ≤ most) (settings t)
 settings-short t most short =
     each-setting (λ s. length s ≤ most) t (λ k. omega (arith, short, first-len (drop k t), length-drop k t))
 

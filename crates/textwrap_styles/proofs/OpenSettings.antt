@@ -37,16 +37,11 @@ any-or f g false [] = refl
 any-or f g b (x ∷ xs) = grind (arith, cases_Bool, any-or f g b xs)
 
 -- one that is known is taken back by its kind, and bold and faint by both
-numbers-known : (a b : ℕ) → b < 16
-    → (not (a == 16) && ((a == b) || (a == 3) && ((b == 1) || (b == 2))))
-    ≡ ((a == b) || ((b == 1) || (b == 2)) && (a == 3))
-numbers-known a b known = grind (arith, cases_Bool, nat_tests)
-
 takes_back-known : (j k : Kind) → is_unknown k ≡ false
     → (not (is_unknown j) && takes_back j k)
     ≡ ((number j == number k) || ((number k == 1) || (number k == 2)) && (number j == 3))
 unfolding takes_back number
-takes_back-known j k known = search (rules, arith, unknown-number, numbers-known, known-below)
+takes_back-known j k known = grind (arith, cases_Bool, nat_tests, unknown-number, known-below)
 
 pub any-known : (k : Kind) (later : List (List ℕ)) → is_unknown k ≡ false
     → list_any (λ t. not (is_unknown (kind_of t)) && takes_back (kind_of t) k) later
@@ -55,14 +50,10 @@ pub any-known : (k : Kind) (later : List (List ℕ)) → is_unknown k ≡ false
 any-known k later known = search (rules, arith, any-same, takes_back-known, any-or)
 
 -- one that is unknown is taken back by the same
-numbers-unknown : (a b : ℕ) → (b == 16) ≡ true → (a == 16) ≡ false
-    → ((a == b) || (a == 3) && ((b == 1) || (b == 2))) ≡ false
-numbers-unknown a b unknown known = grind (arith, cases_Bool, nat_tests)
-
 replaces-unknown : (t s : List ℕ) → is_unknown (kind_of s) ≡ true
     → replaces t s ≡ (is_unknown (kind_of t) && bytes_eq t s)
 unfolding replaces takes_back number
-replaces-unknown t s unknown = grind (arith, cases_Bool, nat_tests, numbers-unknown, unknown-number)
+replaces-unknown t s unknown = grind (arith, cases_Bool, nat_tests, unknown-number)
 
 replaces-known : (t s : List ℕ) → is_unknown (kind_of s) ≡ false
     → replaces t s ≡ (not (is_unknown (kind_of t)) && takes_back (kind_of t) (kind_of s))
@@ -139,8 +130,7 @@ in_effect-filter p t [] = refl
 in_effect-filter p t (s ∷ ss) = grind (arith, cases_Bool, in_effect-filter p t ss)
 
 -- the latest of those in effect are all
-pub latest-in_effect : (ss : List (List ℕ))
-    → latest (in_effect (latest ss)) ≡ in_effect (latest ss)
+pub latest-in_effect : (ss : List (List ℕ)) → latest (in_effect (latest ss)) ≡ in_effect (latest ss)
 latest-in_effect [] = refl
 latest-in_effect (s ∷ ss) =
     search (rules, arith, latest-in_effect ss, latest-again, none-latest, none-in_effect)

@@ -49,8 +49,7 @@ module _ {X : Type 0} (b c : Bool) (v w p : X) where
 pub mix-again : (m n : Mask) (v w p : Pen) → mix m v (mix n w (mix m v p)) ≡ mix m v (mix n w p)
 mix-again m n v w p = simp pick-again
 
-pub mix-both : (m n : Mask) (v w p : Pen)
-    → mix m v (mix n w p) ≡ mix (λ i. m i || n i) (mix m v w) p
+pub mix-both : (m n : Mask) (v w p : Pen) → mix m v (mix n w p) ≡ mix (λ i. m i || n i) (mix m v w) p
 mix-both m n v w p = simp pick-both
 
 pub mix-within : (m n : Mask) (v w p : Pen) → ((i : ℕ) → (m i || n i) ≡ m i)
@@ -245,8 +244,7 @@ field-steps color field =
     (steps-if ((code == 38) || (code == 48) || (code == 58)) (steps-by numbers nothing)
     (steps-by [] (code-changes code))))
 
-fields-steps : (fs : List (List ℕ)) (color : List ℕ)
-    → Steps (λ p. fold with_field (at color p) fs)
+fields-steps : (fs : List (List ℕ)) (color : List ℕ) → Steps (λ p. fold with_field (at color p) fs)
 fields-steps [] color = steps-by color nothing
 fields-steps (f ∷ fs) color =
     let one = field-steps color f in

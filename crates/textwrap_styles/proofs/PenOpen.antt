@@ -113,8 +113,7 @@ left-out s before (t ∷ ss) p one all is =
     let rest = left-out s (before ++ t ∷ []) ss p one (All-tail IsSetting t ss all) in
     grind (arith, cases_Bool, setting-replaces s t one own, again s before p, run-append, rest)
 
-run-latest : (ss : List (List ℕ)) (p : Pen) → All IsSetting ss
-    → pen_by p (latest ss) ≡ pen_by p ss
+run-latest : (ss : List (List ℕ)) (p : Pen) → All IsSetting ss → pen_by p (latest ss) ≡ pen_by p ss
 run-latest [] p are = refl
 run-latest (s ∷ ss) p are =
     let rest = All-tail IsSetting s ss are in
@@ -230,14 +229,9 @@ four-known : (c : ℕ) → (c == 4) ≡ true → is_unknown (kind_of_code c) ≡
 unfolding is_unknown kind_of_code
 four-known c is = subst (λ n. is_unknown (kind_of_code n) ≡ false) (sym (eqb-true c 4 is)) refl
 
-taken-code : (t : List ℕ) → (taken_fields t == 0) ≡ false
-    → is_unknown (kind_of_code (code t)) ≡ false
-unfolding taken_fields
-taken-code t some = grind (arith, cases_Bool, nat_tests, color-known, four-known)
-
 taken-known : (t : List ℕ) → (taken_fields t == 0) ≡ false → is_unknown (kind_of t) ≡ false
-unfolding kind_of
-taken-known t some = grind (arith, cases_Bool, nat_tests, taken-code)
+unfolding kind_of taken_fields
+taken-known t some = grind (arith, cases_Bool, nat_tests, color-known, four-known)
 
 -- ---- the first setting of parameters, where there are more
 
@@ -259,8 +253,7 @@ first-known t more =
 first-one : (t : List ℕ) → length t ≤ length (first_setting t) → first_setting t ≡ t
 first-one t all = sym (first-take t) ∙ take_all (length (first_setting t)) t all
 
-first-is : (t : List ℕ) → InRange t → length (first_setting t) < length t
-    → IsSetting (first_setting t)
+first-is : (t : List ℕ) → InRange t → length (first_setting t) < length t → IsSetting (first_setting t)
 first-is t range more =
     All-head IsSetting (first_setting t) (settings (drop (length (first_setting t) + 1) t))
     (subst (All IsSetting) (settings-next t more) (are-settings t range))

@@ -229,8 +229,7 @@ module _ (t : List ℕ) (is : IsSetting t) (known : is_unknown (kind_of t) ≡ f
   plain-taken : has_colon t ≡ false → is_color_code (code t) ≡ false → taken_fields t ≡ 1
   unfolding taken_fields
   plain-taken none plain =
-      let some = taken-some t known in
-      grind (arith, cases_Bool, nat_tests)
+      grind (arith, cases_Bool, nat_tests, taken-some t known)
 
   plain-end : has_colon t ≡ false → is_end t ≡ is_ending_code (code t)
   unfolding is_end
@@ -268,18 +267,15 @@ module _ (t : List ℕ) (is : IsSetting t) (known : is_unknown (kind_of t) ≡ f
 
   -- ---- colons
 
-  colon-code : has_colon t ≡ true
-      → ((code t == 4) || is_color_code (code t)) ≡ true
+  colon-code : has_colon t ≡ true → ((code t == 4) || is_color_code (code t)) ≡ true
   unfolding taken_fields
   colon-code colon =
-      let some = taken-some t known in
-      grind (arith, cases_Bool, nat_tests)
+      grind (arith, cases_Bool, nat_tests, taken-some t known)
 
   colon-taken : has_colon t ≡ true → taken_fields t ≡ 1
   unfolding taken_fields
   colon-taken colon =
-      let some = taken-some t known in
-      grind (arith, cases_Bool, nat_tests)
+      grind (arith, cases_Bool, nat_tests, taken-some t known)
 
   colon-read : has_colon t ≡ true → (p : Pen)
       → read t p ≡ alone (with_parts (code t) (drop 1 (numbers_of field)) p)

@@ -69,8 +69,7 @@ links-left (s ∷ before) link now same =
     links-left before (next_link link s) (with_sequence now s) (next-link s link now.link same)
 
 -- and the link is that of all
-open-link : (before : List (List ℕ))
-    → fold with_link [] (open_link before) ≡ (rendition_of before).link
+open-link : (before : List (List ℕ)) → fold with_link [] (open_link before) ≡ (rendition_of before).link
 open-link before =
     ap (fold with_link []) (after-more open_link next_link open_link-push [] before)
     ∙ links-left before [] plain_rendition refl

@@ -37,8 +37,7 @@ pub record IsSequence (s : List ℕ) : Type 0 where
   pub unit : units (chars s) ≡ Sequence (chars s) ∷ []
   pub whole : IsWhole (Sequence (chars s))
 
-pub unit-sequence : (s cs : List ℕ) → IsUtf8 s → chars s ≡ cs → IsWhole (Sequence cs)
-    → IsSequence s
+pub unit-sequence : (s cs : List ℕ) → IsUtf8 s → chars s ≡ cs → IsWhole (Sequence cs) → IsSequence s
 unit-sequence s cs utf8 are whole =
     let own : Sequence cs ∷ [] ≡ units cs =
     (units_unique cs (Sequence cs ∷ [])).0 (append-nil cs, inl whole) in
@@ -145,8 +144,7 @@ penned-append (Sequence cs ∷ us) vs now =
     penned-append us vs (with_sequence now (encode_utf8_all cs))
 
 -- sequences show nothing
-pub sequences-show : (xs : List (List ℕ)) (now : Rendition)
-    → penned_units now (sequence_units xs) ≡ []
+pub sequences-show : (xs : List (List ℕ)) (now : Rendition) → penned_units now (sequence_units xs) ≡ []
 sequences-show [] now = refl
 sequences-show (s ∷ xs) now = sequences-show xs (with_sequence now (encode_utf8_all (chars s)))
 

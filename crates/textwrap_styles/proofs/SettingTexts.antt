@@ -118,18 +118,15 @@ first-len t = omega (arith, ap length (first-take t), length-take (length (first
 
 -- ---- characters that pass a test
 
-pub take-all : (p : ℕ → Bool) (n : ℕ) (s : List ℕ) → list_all p s ≡ true
-    → list_all p (take n s) ≡ true
+pub take-all : (p : ℕ → Bool) (n : ℕ) (s : List ℕ) → list_all p s ≡ true → list_all p (take n s) ≡ true
 take-all p n s all =
     list_all-from_AllPass p (take n s) (All-take (λ c. p c ≡ true) n s (AllPass-from_list_all p s all))
 
-pub drop-all : (p : ℕ → Bool) (n : ℕ) (s : List ℕ) → list_all p s ≡ true
-    → list_all p (drop n s) ≡ true
+pub drop-all : (p : ℕ → Bool) (n : ℕ) (s : List ℕ) → list_all p s ≡ true → list_all p (drop n s) ≡ true
 drop-all p n s all =
     list_all-from_AllPass p (drop n s) (All-drop (λ c. p c ≡ true) n s (AllPass-from_list_all p s all))
 
-first-all : (p : ℕ → Bool) (t : List ℕ) → list_all p t ≡ true
-    → list_all p (first_setting t) ≡ true
+first-all : (p : ℕ → Bool) (t : List ℕ) → list_all p t ≡ true → list_all p (first_setting t) ≡ true
 first-all p t all =
     subst (λ s. list_all p s ≡ true) (first-take t) (take-all p (length (first_setting t)) t all)
 
@@ -171,8 +168,7 @@ pub each-setting : (P : List ℕ → Type 0) (t : List ℕ) → ((k : ℕ) → P
     → All P (settings t)
 each-setting P t each = past-each P 0 (0x3B ∷ t) each
 
-pub are-settings : (t : List ℕ) → list_all (is_in_range 0x30 0x3B) t ≡ true
-    → All IsSetting (settings t)
+pub are-settings : (t : List ℕ) → list_all (is_in_range 0x30 0x3B) t ≡ true → All IsSetting (settings t)
 are-settings t all =
     each-setting IsSetting t (λ k. search (rules, first-again, first-all, drop-all))
 
@@ -192,8 +188,7 @@ first-append : (c : ℕ) (xs ys : List (List ℕ)) → 1 ≤ length xs
 first-append c [] ys some = absurd (omega arith)
 first-append c (t ∷ texts) ys some = refl
 
-pub between-append : (a b : List ℕ)
-    → between 0x3B (a ++ 0x3B ∷ b) ≡ between 0x3B a ++ between 0x3B b
+pub between-append : (a b : List ℕ) → between 0x3B (a ++ 0x3B ∷ b) ≡ between 0x3B a ++ between 0x3B b
 between-append [] b = refl
 between-append (c ∷ a) b = search (rules, arith, between-append a b, between-some, first-append)
 
@@ -210,8 +205,7 @@ fields-many n [] some more = absurd (omega arith)
 fields-many n (c ∷ cs) some more =
     search (rules, arith, fields-many n cs some, fields-many (n - 1) cs, texts-len, between-some)
 
-drop-past : (c : ℕ) (xs cs : List ℕ)
-    → drop (length (c ∷ xs) + 1) (c ∷ cs) ≡ drop (length xs + 1) cs
+drop-past : (c : ℕ) (xs cs : List ℕ) → drop (length (c ∷ xs) + 1) (c ∷ cs) ≡ drop (length xs + 1) cs
 drop-past c xs cs = grind (arith, cases_Bool, nat_tests)
 
 -- a semicolon follows them, where they are not all

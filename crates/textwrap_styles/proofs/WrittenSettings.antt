@@ -55,8 +55,7 @@ open-written P each before =
     All-map P written ss (All-weaker IsSetting (λ s. P (written s)) each ss
     (all-open IsSetting (flat_map settings_of before) (all-settings before)))
 
-pub styles-no_link : (before : List (List ℕ))
-    → All (λ s. is_link s ≡ false) (open_styles before)
+pub styles-no_link : (before : List (List ℕ)) → All (λ s. is_link s ≡ false) (open_styles before)
 styles-no_link = open-written (λ s. is_link s ≡ false)
     (λ s is. style-no_link (written s) (written-is_style s is))
 
@@ -67,8 +66,7 @@ small s all = All-weaker (λ c. is_in_range 0x30 0x3B c ≡ true) (λ b. b < 128
     (λ c range. grind (arith, cases_Bool, nat_tests, range)) s
     (AllPass-from_list_all (is_in_range 0x30 0x3B) s all)
 
-last-open : (s : List ℕ) → list_all (is_in_range 0x30 0x3B) s ≡ true
-    → is_control_end (last s) ≡ false
+last-open : (s : List ℕ) → list_all (is_in_range 0x30 0x3B) s ≡ true → is_control_end (last s) ≡ false
 last-open [] all = refl
 last-open (c ∷ []) all = grind (arith, cases_Bool, nat_tests)
 last-open (c ∷ d ∷ cs) all = grind (arith, cases_Bool, nat_tests, last-open (d ∷ cs), last-append)
@@ -90,6 +88,5 @@ pub styles-sequences : (before : List (List ℕ)) → All IsSequence (open_style
 styles-sequences = open-written IsSequence written-sequence
 
 -- what is open is open again once it is set anew
-pub styles-anew : (before : List (List ℕ))
-    → open_styles (open_styles before) ≡ open_styles before
+pub styles-anew : (before : List (List ℕ)) → open_styles (open_styles before) ≡ open_styles before
 styles-anew before = grind (arith, open-back before, settings-again [] (flat_map settings_of before) refl)

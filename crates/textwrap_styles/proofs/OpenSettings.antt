@@ -4,11 +4,11 @@ use Rattle.std.proofs.lemmas.{List.Folds.list_any-append, Slice.Eq.bytes_eq-Deci
 use Rattle.std.specs.Str.{bytes_eq}
 use Rattle.textwrap_styles.proofs.Common.{All-filter, in_effect, Kind, kind_of, latest, open_settings, Reset}
 use Rattle.textwrap_styles.specs.Settings.{is_unknown, number, replaces, takes_back}
-use Rattle.textwrap_text.proofs.Common.{◌&&◌, ◌++◌, ◌<◌, ◌==◌, [], All, All-append, All-cons, All-drop}
-use Rattle.textwrap_text.proofs.Common.{All-head, All-nil, All-tail, ap, append-nil, append_assoc, arith}
-use Rattle.textwrap_text.proofs.Common.{Bool, Bor, cases_Bool, cond, cond_both, false, filter, fold, List}
-use Rattle.textwrap_text.proofs.Common.{list_any, map, nat_tests, not, refl, rules, subst, sym, true, ◌||◌, ℕ}
-use Rattle.textwrap_text.proofs.{Common.{◌∙◌, ◌∷◌, ◌≡◌}, Lists.Parts.after_last-push}
+use Rattle.textwrap_text.proofs.Common.{◌&&◌, ◌++◌, ◌<◌, ◌==◌, [], after_last, All, All-append, All-cons}
+use Rattle.textwrap_text.proofs.Common.{All-drop, All-head, All-nil, All-tail, ap, append-nil, append_assoc}
+use Rattle.textwrap_text.proofs.Common.{arith, Bool, Bor, cases_Bool, cond, cond_both, false, filter, fold}
+use Rattle.textwrap_text.proofs.Common.{List, list_any, map, nat_tests, not, refl, rules, subst, sym, true}
+use Rattle.textwrap_text.proofs.{Common.{◌||◌, ℕ, ◌∙◌, ◌∷◌, ◌≡◌}, Lists.Parts.after_last-push}
 
 pub unknown-number : (k : Kind) → is_unknown k ≡ (number k == 16)
 unfolding is_unknown number
@@ -83,14 +83,6 @@ pub after-more : (now : List (List ℕ) → List (List ℕ))
 after-more now next push before [] = ap now (append-nil before)
 after-more now next push before (s ∷ more) =
     search (rules, arith, after-more now next push (before ++ s ∷ []) more, append_assoc)
-
--- what each step keeps, all keep
-fold-keeps : (P : List (List ℕ) → Type 0) (next : List (List ℕ) → List ℕ → List (List ℕ))
-    → ((now : List (List ℕ)) (s : List ℕ) → P now → P (next now s))
-    → (before now : List (List ℕ)) → P now → P (fold next now before)
-fold-keeps P next step [] now kept = kept
-fold-keeps P next step (s ∷ before) now kept =
-    fold-keeps P next step before (next now s) (step now s kept)
 
 -- those that this setting does not take back
 abbrev pub not_replaced : List ℕ → List (List ℕ) → List (List ℕ)
@@ -180,16 +172,24 @@ pub all-open : (P : List ℕ → Type 0) (before : List (List ℕ)) → All P be
     → All P (open_settings before)
 all-open P before all = search (rules, arith, all-in_effect, all-latest, All-drop)
 
-next-sets : (now : List (List ℕ)) (t : List ℕ) → All Sets now → All Sets (next_settings now t)
-next-sets now t are = cond_both (resets t) [] (with_setting now t) (All Sets) (λ is. All-nil Sets)
-    (λ is. all-in_effect Sets (not_replaced t now ++ t ∷ [])
-    (All-append Sets (not_replaced t now) (t ∷ [])
-    (All-filter (λ s. not (replaces t s)) Sets now are) (All-cons Sets t [] is (All-nil Sets))))
+-- since all were taken back, none takes back all
+abbrev pub next_left : List (List ℕ) → List ℕ → List (List ℕ)
+next_left ss t = cond (resets t) [] (ss ++ t ∷ [])
+
+pub left-after : (before : List (List ℕ)) → after_last resets before ≡ fold next_left [] before
+left-after before = after-more (after_last resets) next_left (after_last-push resets) [] before
+
+pub all-since : (before : List (List ℕ)) → All Sets (after_last resets before)
+all-since before = rw (left-after before) (since before [] (All-nil Sets))
+  where
+    since : (more ss : List (List ℕ)) → All Sets ss → All Sets (fold next_left ss more)
+    since [] ss are = are
+    since (t ∷ more) ss are =
+        since more (next_left ss t) (cond_both (resets t) [] (ss ++ t ∷ []) (All Sets) (λ is. All-nil Sets)
+        (λ is. All-append Sets ss (t ∷ []) are (All-cons Sets t [] is (All-nil Sets))))
 
 pub all-set : (before : List (List ℕ)) → All Sets (open_settings before)
-all-set before =
-    subst (All Sets) (sym (after-more open_settings next_settings open_settings-push [] before))
-    (fold-keeps (All Sets) next_settings next-sets before [] (All-nil Sets))
+all-set before = search (rules, all-in_effect, all-latest, all-since)
 
 set-again : (first more : List (List ℕ)) → All Sets more
     → fold next_settings (in_effect (latest first)) more ≡ in_effect (latest (first ++ more))

@@ -3,21 +3,22 @@
 use Rattle.std.proofs.lemmas.Slice.Eq.{bytes_eq-Decides}
 use Rattle.textwrap_styles.proofs.Common.{apply, fields, fold-append, in_effect, Kind, latest, open_settings}
 use Rattle.textwrap_styles.proofs.{Common.{Pen, plain_pen, Reset, settings}, SettingTexts.taken-again}
-use Rattle.textwrap_styles.proofs.OpenSettings.{after-more, all-latest, known-below, latest-in_effect}
-use Rattle.textwrap_styles.{proofs.OpenSettings.{none-latest, resets, Sets, unknown-number}, specs.Pen.read}
+use Rattle.textwrap_styles.proofs.OpenSettings.{after-more, all-latest, all-since, known-below}
+use Rattle.textwrap_styles.proofs.OpenSettings.{latest-in_effect, left-after, next_left, none-latest, resets}
+use Rattle.textwrap_styles.proofs.{OpenSettings.{Sets, unknown-number}, PenCodes.{mix-within, nothing, sets}}
 use Rattle.textwrap_styles.proofs.PenCodes.{apply-changes, Changes, changes-then, mix, mix-again, mix-swap}
-use Rattle.textwrap_styles.{proofs.PenCodes.{mix-within, nothing, sets}, specs.Settings.takes_back}
-use Rattle.textwrap_styles.proofs.PenSettings.{all-known, among, kind-code, many-end}
+use Rattle.textwrap_styles.{proofs.PenSettings.{all-known, among, kind-code, many-end}, specs.Pen.read}
 use Rattle.textwrap_styles.proofs.SettingTexts.{are-settings, between-append, drop-all, fields-split}
 use Rattle.textwrap_styles.proofs.SettingTexts.{first-take, InRange, IsSetting, settings-next, settings-one}
 use Rattle.textwrap_styles.specs.Settings.{code, first_setting, is_color_code, is_end, is_ending_code}
 use Rattle.textwrap_styles.specs.Settings.{is_unknown, kind_of, kind_of_code, number, replaces, taken_fields}
+use Rattle.textwrap_styles.specs.Settings.{takes_back}
 use Rattle.textwrap_text.proofs.Common.{◌&&◌, ◌+◌, ◌++◌, ◌<◌, ◌==◌, [], after_last, All, All-append, All-cons}
-use Rattle.textwrap_text.proofs.Common.{All-head, All-nil, All-tail, All-weaker, ap, arith, cases_Bool, cond}
-use Rattle.textwrap_text.proofs.Common.{cond_both, drop, eqb-true, false, fold, inl, inr, length, length-drop}
-use Rattle.textwrap_text.proofs.Common.{List, list_any, map-append, nat_tests, refl, rules, subst, suc, sym}
-use Rattle.textwrap_text.proofs.Common.{take_all, true, true≢false, zero, ◌||◌, ℕ, ◌∙◌, ◌∷◌, ◌≡◌, ◌≤◌, ⊤}
-use Rattle.textwrap_text.proofs.Lists.Parts.{after_last-push}
+use Rattle.textwrap_text.proofs.Common.{All-drop, All-head, All-nil, All-tail, All-weaker, ap, arith}
+use Rattle.textwrap_text.proofs.Common.{cases_Bool, cond, cond_both, drop, eqb-true, false, fold, inl, inr}
+use Rattle.textwrap_text.proofs.Common.{length, length-drop, List, list_any, map-append, nat_tests, refl}
+use Rattle.textwrap_text.proofs.Common.{rules, subst, suc, sym, take_all, true, true≢false, zero, ◌||◌, ℕ}
+use Rattle.textwrap_text.proofs.{Common.{◌∙◌, ◌∷◌, ◌≡◌, ◌≤◌, ⊤}, Lists.Parts.after_last-push}
 
 -- ---- settings one after another, of which each sets its own fields
 
@@ -182,9 +183,6 @@ run-effect (s ∷ ss) p are (none, latest) (one, others) =
 
 -- ---- since all were taken back
 
-abbrev next_left : List (List ℕ) → List ℕ → List (List ℕ)
-next_left ss t = cond (resets t) [] (ss ++ t ∷ [])
-
 reset-plain : (t : List ℕ) → IsSetting t → resets t ≡ true → (p : Pen) → apply t p ≡ plain_pen
 unfolding number
 reset-plain t is reset p =
@@ -194,32 +192,26 @@ reset-plain t is reset p =
     all.sets p ∙ ap (λ n. mix (sets n) (apply t plain_pen) p) (eqb-true (number (kind_of t)) 0 reset)
     ∙ all.ends (many-end t is known (ap (λ b. b || (number (kind_of t) == 3)) reset))
 
--- those since then set something, and give the pen that all give
-since-reset : (more before : List (List ℕ)) (p : Pen) → All IsSetting more → All Setter before
-    → pen_by plain_pen before ≡ p → All Setter (fold next_left before more)
-    × (pen_by plain_pen (fold next_left before more) ≡ pen_by p more)
-since-reset [] before p are setters same = (setters, same)
-since-reset (t ∷ more) before p are setters same =
+-- those since then give the pen that all give
+since-reset : (more before : List (List ℕ)) (p : Pen) → All IsSetting more → pen_by plain_pen before ≡ p
+    → pen_by plain_pen (fold next_left before more) ≡ pen_by p more
+since-reset [] before p are same = same
+since-reset (t ∷ more) before p are same =
     let is = All-head IsSetting t more are in
-    let one = cond_both (resets t) [] (before ++ t ∷ [])
-    (λ ss. All Setter ss × (pen_by plain_pen ss ≡ apply t p))
-    (λ all. (All-nil Setter, sym (reset-plain t is all p)))
-    (λ other. (
-      All-append Setter before (t ∷ []) setters
-          (All-cons Setter t [] (record { setting = is; sets = other }) (All-nil Setter)),
-      run-append plain_pen before (t ∷ []) ∙ ap (apply t) same,
-    )) in
-    since-reset more (next_left before t) (apply t p) (All-tail IsSetting t more are) one.0 one.1
+    since-reset more (next_left before t) (apply t p) (All-tail IsSetting t more are)
+    (cond_both (resets t) [] (before ++ t ∷ []) (λ ss. pen_by plain_pen ss ≡ apply t p)
+    (λ all. sym (reset-plain t is all p))
+    (λ other. run-append plain_pen before (t ∷ []) ∙ ap (apply t) same))
 
 -- what is open gives the pen that all gave
 pub open-pen : (before : List (List ℕ)) → All IsSetting before
     → pen_by plain_pen (open_settings before) ≡ pen_by plain_pen before
 open-pen before are =
-    let since = rw (← after-more (after_last resets) next_left (after_last-push resets) [] before)
-    at (since-reset before [] plain_pen are (All-nil Setter) refl) in
-    let settings : All IsSetting (after_last resets before) =
-    All-weaker Setter IsSetting (λ s is. is.setting) _ since.0 in
-    search (rules, arith, run-effect, all-latest, are-latest, plain-quiet, run-latest, since, settings)
+    let since = rw (sym (left-after before)) at (since-reset before [] plain_pen are refl) in
+    let settings : All IsSetting (after_last resets before) = All-drop IsSetting _ before are in
+    let setters : All Setter (after_last resets before) =
+    λ k d within. record { setting = settings k d within; sets = all-since before k d within } in
+    search (rules, arith, run-effect, all-latest, are-latest, plain-quiet, run-latest, since, settings, setters)
 
 color-known : (c : ℕ) → is_color_code c ≡ true → is_unknown (kind_of_code c) ≡ false
 unfolding is_unknown kind_of_code

@@ -174,12 +174,9 @@ run-effect : (ss : List (List ℕ)) (p : Pen) → All Setter ss → AreLatest ss
 run-effect [] p are latest quiet = refl
 run-effect (s ∷ ss) p are (none, latest) (one, others) =
     let rest = All-tail Setter s ss are in
-    cond_both (is_unknown (kind_of s)) (s ∷ ss) (cond (is_end s) (in_effect ss) (s ∷ in_effect ss))
-    (λ l. pen_by p l ≡ pen_by p (s ∷ ss)) (λ unknown. refl) (λ is.
-    cond_both (is_end s) (in_effect ss) (s ∷ in_effect ss) (λ l. pen_by p l ≡ pen_by p (s ∷ ss))
-    (λ end. run-effect ss p rest latest others ∙ ap (λ q. pen_by q ss) (sym (one is end)))
-    (λ sets. run-effect ss (apply s p) rest latest
-    (stay-quiet s ss p (All-head Setter s ss are) is rest none others)))
+    let sets = λ (known : is_unknown (kind_of s) ≡ false). run-effect ss (apply s p) rest latest
+    (stay-quiet s ss p (All-head Setter s ss are) known rest none others) in
+    grind (arith, cases_Bool, sets, run-effect ss p rest latest others, one)
 
 -- ---- since all were taken back
 

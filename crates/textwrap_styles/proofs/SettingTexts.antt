@@ -94,16 +94,7 @@ color-least t mode some = grind (arith, cases_Bool, nat_tests)
 pub taken-again : (t : List ℕ) (n : ℕ) → n ≡ taken_fields t → n ≢ 0 → taken_fields (fields n t) ≡ n
 unfolding taken_fields
 taken-again t n is some =
-    search (
-      rules,
-      arith,
-      fields-code,
-      fields-details,
-      fields-colon,
-      fields-mode,
-      color-again,
-      color-least,
-    )
+    search (rules, arith, fields-code, fields-details, fields-colon, fields-mode, color-again, color-least)
 
 pub first-again : (t : List ℕ) → first_setting (first_setting t) ≡ first_setting t
 unfolding first_setting

@@ -33,8 +33,7 @@ enclosed line n start end =
 
 nothing-added : (start end front text : List ℕ) → length (start ++ end) ≡ 0
     → front ++ text ≡ front ++ start ++ text ++ end
-nothing-added start end front text none =
-    grind (arith, append-nil, nil_from_length, length-append)
+nothing-added start end front text none = grind (arith, append-nil, nil_from_length, length-append)
 
 parts-len : (front start text end line whole : List ℕ) → whole ≡ front ++ start ++ text ++ end
     → front ++ text ≡ line → length whole ≡ length line + length start + length end
@@ -217,11 +216,7 @@ may-carry indent line own plain whole = elim (cases_Bool (starts_with nat_eq lin
         text = rw starts (whole_text-rest indent rest own (subst IsWholeText shape whole));
       }
   | inr other ↦
-      record {
-        front = rw other nil-whole;
-        plain = rw other nil-plain;
-        text = rw other whole;
-      }
+      record { front = rw other nil-whole; plain = rw other nil-plain; text = rw other whole }
 ]
 
 pub all-may_carry : (indent later : List ℕ) (lines : List (List ℕ)) → IsWholeText indent

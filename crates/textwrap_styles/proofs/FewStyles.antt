@@ -40,8 +40,7 @@ module _ (p : List ℕ → Bool) where
   none-same : (s : List ℕ) (ss : List (List ℕ)) → list_any (λ t. replaces t s) ss ≡ false
       → is_member eqb (kinds (filter p (filter known ss))) (number (kind_of s)) ≡ false
   none-same s [] none = refl
-  none-same s (t ∷ ss) none =
-      grind (arith, cases_Bool, nat_tests, replaces-same s t, none-same s ss)
+  none-same s (t ∷ ss) none = grind (arith, cases_Bool, nat_tests, replaces-same s t, none-same s ss)
 
   kinds-once : (ss : List (List ℕ)) → AreLatest ss
       → unique_keys eqb (kinds (filter p (filter known ss))) ≡ kinds (filter p (filter known ss))

@@ -153,8 +153,7 @@ mix-differs m v p i =
 
 -- what the table does not know does nothing
 pub unknown-nothing : (c : ℕ) → is_unknown (kind_of_code c) ≡ true → (p : Pen) → with_code c p ≡ p
-unknown-nothing c is p =
-    ap (λ b. cond b (with_code c p) p) (sym is) ∙ (row c).unknown p
+unknown-nothing c is p = ap (λ b. cond b (with_code c p) p) (sym is) ∙ (row c).unknown p
 
 -- and what ends nothing does something
 pub other-something : (c : ℕ) → is_unknown (kind_of_code c) ≡ false → is_color_code c ≡ false
@@ -192,8 +191,7 @@ changes-if false one two = two
 -- ---- fields of parameters
 
 code-changes : (c : ℕ) → Changes (with_code c)
-code-changes c =
-    record { fields = touches c; values = with_code c plain_pen; is = (row c).sets }
+code-changes c = record { fields = touches c; values = with_code c plain_pen; is = (row c).sets }
 
 color-changes : (c : ℕ) (color : Color) → Changes (with_color c color)
 unfolding with_color

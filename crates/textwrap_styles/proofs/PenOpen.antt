@@ -30,8 +30,7 @@ run-append p xs ys = fold-append (λ q t. apply t q) p xs ys
 
 run-changes : (ss : List (List ℕ)) → Changes (λ p. pen_by p ss)
 run-changes [] = nothing
-run-changes (s ∷ ss) =
-    changes-then (apply s) (λ p. pen_by p ss) (apply-changes s) (run-changes ss)
+run-changes (s ∷ ss) = changes-then (apply s) (λ p. pen_by p ss) (apply-changes s) (run-changes ss)
 
 -- once more, one makes the first time do nothing
 again : (s : List ℕ) (ss : List (List ℕ)) (p : Pen)
@@ -69,8 +68,7 @@ four-kind = refl
 end-kind : (t : List ℕ) → is_unknown (kind_of t) ≡ false → is_end t ≡ true
     → ((number (kind_of t) == 1) || (number (kind_of t) == 2)) ≡ false
 unfolding is_end
-end-kind t known end =
-    grind (arith, cases_Bool, nat_tests, kind-code, ending-code, eqb-true, four-kind)
+end-kind t known end = grind (arith, cases_Bool, nat_tests, kind-code, ending-code, eqb-true, four-kind)
 
 -- a known one
 module _ (s t : List ℕ) (first : IsSetting s) (second : IsSetting t) where
@@ -236,8 +234,7 @@ first-split t more = search (rules, arith, first-fields, fields-split)
 
 first-known : (t : List ℕ) → length (first_setting t) < length t
     → is_unknown (kind_of (first_setting t)) ≡ false
-first-known t more =
-    grind (arith, nat_tests, first-fields t more, taken-known, taken-again)
+first-known t more = grind (arith, nat_tests, first-fields t more, taken-known, taken-again)
 
 first-one : (t : List ℕ) → length t ≤ length (first_setting t) → first_setting t ≡ t
 first-one t all = sym (first-take t) ∙ take_all (length (first_setting t)) t all

@@ -149,8 +149,7 @@ module _ (t : List ℕ) (is : IsSetting t) where
   field-len = length-map (between 0x3A (first_field t)) (digits_value 10)
 
   one-field : taken_fields t ≡ 1 → between 0x3B t ≡ first_field t ∷ []
-  one-field taken =
-      grind (arith, cases_Bool, nat_tests, one-of, between-some, fields-few, own-fields)
+  one-field taken = grind (arith, cases_Bool, nat_tests, one-of, between-some, fields-few, own-fields)
 
   pub read-one : taken_fields t ≡ 1 → (p : Pen) → read t p ≡ with_field (alone p) (numbers_of (first_field t))
   read-one taken p = ap (λ fs. fold with_field (alone p) (map numbers_of fs)) (one-field taken)
@@ -228,8 +227,7 @@ module _ (t : List ℕ) (is : IsSetting t) (known : is_unknown (kind_of t) ≡ f
 
   plain-taken : has_colon t ≡ false → is_color_code (code t) ≡ false → taken_fields t ≡ 1
   unfolding taken_fields
-  plain-taken none plain =
-      grind (arith, cases_Bool, nat_tests, taken-some t known)
+  plain-taken none plain = grind (arith, cases_Bool, nat_tests, taken-some t known)
 
   plain-end : has_colon t ≡ false → is_end t ≡ is_ending_code (code t)
   unfolding is_end
@@ -269,13 +267,11 @@ module _ (t : List ℕ) (is : IsSetting t) (known : is_unknown (kind_of t) ≡ f
 
   colon-code : has_colon t ≡ true → ((code t == 4) || is_color_code (code t)) ≡ true
   unfolding taken_fields
-  colon-code colon =
-      grind (arith, cases_Bool, nat_tests, taken-some t known)
+  colon-code colon = grind (arith, cases_Bool, nat_tests, taken-some t known)
 
   colon-taken : has_colon t ≡ true → taken_fields t ≡ 1
   unfolding taken_fields
-  colon-taken colon =
-      grind (arith, cases_Bool, nat_tests, taken-some t known)
+  colon-taken colon = grind (arith, cases_Bool, nat_tests, taken-some t known)
 
   colon-read : has_colon t ≡ true → (p : Pen)
       → read t p ≡ alone (with_parts (code t) (drop 1 (numbers_of field)) p)

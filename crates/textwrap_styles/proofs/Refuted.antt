@@ -33,5 +33,4 @@ pub background_ended_by_39 :
     shown (codes "\u{1b}[31;42ma\u{1b}[39mb\u{1b}[0m" ∷ codes "\u{1b}[31mc\u{1b}[0m" ∷ [])
     ≡ penned_lines [] [] plain_rendition (codes "\u{1b}[31;42ma\u{1b}[39mb" ∷ codes "c" ∷ []) → ⊥
 unfolding chars encode with_field with_code
-background_ended_by_39 same =
-    true≢false (ap (λ lines. is_own (last_pen lines).background) same)
+background_ended_by_39 same = true≢false (ap (λ lines. is_own (last_pen lines).background) same)

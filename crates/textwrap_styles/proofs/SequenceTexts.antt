@@ -140,8 +140,7 @@ pub penned-append : (us vs : List TextUnit) (now : Rendition)
 penned-append [] vs now = refl
 penned-append (Visible c ∷ us) vs now =
     ap (λ shown. record { character = c; rendition = now } ∷ shown) (penned-append us vs now)
-penned-append (Sequence cs ∷ us) vs now =
-    penned-append us vs (with_sequence now (encode_utf8_all cs))
+penned-append (Sequence cs ∷ us) vs now = penned-append us vs (with_sequence now (encode_utf8_all cs))
 
 -- sequences show nothing
 pub sequences-show : (xs : List (List ℕ)) (now : Rendition) → penned_units now (sequence_units xs) ≡ []
@@ -160,8 +159,7 @@ module _ (front text : List ℕ) (starts ends : List (List ℕ)) (front_whole : 
     (are_ends : All IsSequence ends) where
   parts-units : units (chars (front ++ concat starts ++ text ++ concat ends))
       ≡ units (chars front) ++ sequence_units starts ++ units (chars text) ++ sequence_units ends
-  parts-units =
-      search (rules, arith, concat-whole, whole_text-append, text_units-append, concat-units)
+  parts-units = search (rules, arith, concat-whole, whole_text-append, text_units-append, concat-units)
 
   pub parts-sequences : sequences (front ++ concat starts ++ text ++ concat ends)
       ≡ sequences front ++ starts ++ sequences text ++ ends

@@ -118,8 +118,7 @@ link-cases sequence rest None (Some fields) whole none strips =
     let is = whole
     ∙ ap (λ l. link_start ++ l) (stripped_suffix terminator rest fields.now strips) in
     subst (λ l. IsAround l fields.now) (sym is) (around-terminator fields.now)
-link-cases sequence rest None None whole no_bell none =
-    ap is_link whole ∙ not_link rest no_bell none
+link-cases sequence rest None None whole no_bell none = ap is_link whole ∙ not_link rest no_bell none
 
 -- ---- the reader of an escape sequence, after its ESC: where it stands, and what it has still
 -- to take
@@ -179,8 +178,7 @@ sequences_in cs = flat_map sequence_of (units cs)
 sequences_in-plain : (front rest : List ℕ) → NonePass (λ c. eqb c 27) front
     → sequences_in (front ++ rest) ≡ sequences_in rest
 sequences_in-plain [] rest plain = refl
-sequences_in-plain (c ∷ front) rest plain =
-    rw plain.0 (sequences_in-plain front rest plain.1)
+sequences_in-plain (c ∷ front) rest plain = rw plain.0 (sequences_in-plain front rest plain.1)
 
 -- at an ESC one begins, and the next ones are those of what it leaves
 sequences_in-escape : (cs : List ℕ) → sequences_in (27 ∷ cs)

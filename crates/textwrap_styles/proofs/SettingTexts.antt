@@ -160,8 +160,7 @@ pub each-setting : (P : List ℕ → Type 0) (t : List ℕ) → ((k : ℕ) → P
 each-setting P t each = past-each P 0 (0x3B ∷ t) each
 
 pub are-settings : (t : List ℕ) → list_all (is_in_range 0x30 0x3B) t ≡ true → All IsSetting (settings t)
-are-settings t all =
-    each-setting IsSetting t (λ k. search (rules, first-again, first-all, drop-all))
+are-settings t all = each-setting IsSetting t (λ k. search (rules, first-again, first-all, drop-all))
 
 -- ---- texts between characters
 

@@ -1,24 +1,22 @@
 -- How many settings are open, and how many bytes set them anew.
-use Rattle.std.proofs.{Math.Nat.mul-le-mul_left, lemmas.Cmp.nat_eq_equiv}
+use Rattle.std.{proofs.Math.Nat.mul-le-mul_left, proofs.lemmas.Cmp.nat_eq_equiv, specs.List.IsDistinct}
 use Rattle.std.proofs.lemmas.Map.{Made.IsDistinct-from_count, Steps.length-le_from_distinct_below}
-use Rattle.std.specs.{List.{AllByRecursion, IsDistinct}, Set.{is_member, unique_keys}}
+use Rattle.std.specs.Set.{is_member, unique_keys}
 use Rattle.textwrap_layout.specs.Paragraph.{line_bytes}
-use Rattle.textwrap_styles.proofs.{CarriedLines.carried-len, LinkIds.reopened-len, Sequences.open_link-cases}
-use Rattle.textwrap_styles.proofs.Common.{All-filter, concat, has_target, is_link, is_style, kind_of, latest}
-use Rattle.textwrap_styles.proofs.Common.{link_end, open_link, open_settings, open_styles, settings}
-use Rattle.textwrap_styles.proofs.Common.{settings_of, style_end, style_parameters, written}
-use Rattle.textwrap_styles.proofs.OpenSettings.{all-latest, all-open, all-set, known-below, latest-in_effect}
-use Rattle.textwrap_styles.proofs.{OpenSettings.{none-latest, resets, Sets}, PenOpen.{AreLatest, open-latest}}
-use Rattle.textwrap_styles.{proofs.SettingTexts.{each-setting, first-len}, specs.Settings.takes_back}
+use Rattle.textwrap_styles.proofs.{CarriedLines.carried-len, Common.written, LinkIds.reopened-len}
+use Rattle.textwrap_styles.proofs.Common.{concat, is_style, kind_of, latest, link_end, open_settings}
+use Rattle.textwrap_styles.proofs.Common.{open_styles, settings, settings_of, style_end, style_parameters}
+use Rattle.textwrap_styles.proofs.OpenSettings.{all-open, all-set, known-below, Sets}
+use Rattle.textwrap_styles.proofs.{PenOpen.{AreLatest, open-latest}, Sequences.open_link-cases}
+use Rattle.textwrap_styles.proofs.SettingTexts.{each-setting, first-len}
 use Rattle.textwrap_styles.specs.Laws.{known_settings, unknown_settings}
-use Rattle.textwrap_styles.specs.Settings.{first_setting, is_unknown, number, replaces, settings_past}
+use Rattle.textwrap_styles.specs.Settings.{is_unknown, number, replaces, takes_back}
 use Rattle.textwrap_styles.specs.Styles.{carried_line, reopened_link}
-use Rattle.textwrap_text.proofs.Common.{◌*◌, ◌+◌, ◌-◌, ◌<◌, ◌==◌, [], after_last, All, All-append, All-cons}
-use Rattle.textwrap_text.proofs.Common.{All-head, All-nil, All-tail, All-weaker, ap, arith, Bool, cases_Bool}
-use Rattle.textwrap_text.proofs.Common.{codes, cond_both, drop, eqb, false, false_from_ne_true, filter}
-use Rattle.textwrap_text.proofs.Common.{flat_map, length, length-append, length-drop, length-map, length-take}
-use Rattle.textwrap_text.proofs.Common.{List, list_any, map, nat_tests, not, refl, rules, subst, suc, sym}
-use Rattle.textwrap_text.proofs.Common.{true, true≢false, zero, ℕ, ◌∙◌, ◌∷◌, ◌≡◌, ◌≤◌}
+use Rattle.textwrap_text.proofs.Common.{◌*◌, ◌+◌, ◌-◌, ◌<◌, [], All, All-append, All-head, All-nil, All-tail}
+use Rattle.textwrap_text.proofs.Common.{All-weaker, ap, arith, Bool, cases_Bool, codes, cond_both, drop, eqb}
+use Rattle.textwrap_text.proofs.Common.{false, false_from_ne_true, filter, flat_map, length, length-append}
+use Rattle.textwrap_text.proofs.Common.{length-drop, length-map, length-take, List, list_any, map, nat_tests}
+use Rattle.textwrap_text.proofs.Common.{not, refl, rules, subst, sym, true, true≢false, ℕ, ◌∷◌, ◌≡◌, ◌≤◌}
 
 -- ---- no two that the table knows are of one kind
 

@@ -1,23 +1,20 @@
 -- No fewer settings give a pen than those that are open: each of these leaves the field of its kind
 -- unlike that of the plain pen, and one setting does so to one field alone.
-use Rattle.std.proofs.lemmas.{Bool.true_from_ne_false, Cmp.nat_eq_equiv}
-use Rattle.std.proofs.lemmas.Map.Made.{IsDistinct-from_count, length-le_from_is_member}
-use Rattle.std.specs.Set.{is_member, unique_keys}
+use Rattle.std.proofs.lemmas.{Bool.true_from_ne_false, Cmp.nat_eq_equiv, Map.Made.length-le_from_is_member}
+use Rattle.std.specs.Set.{is_member}
 use Rattle.textwrap_styles.proofs.Common.{apply, in_effect, kind_of, latest, open_settings, Pen, plain_pen}
-use Rattle.textwrap_styles.proofs.Common.{plain_rendition, Rendition, settings_of, with_sequence}
-use Rattle.textwrap_styles.proofs.{FewStyles.{kinds, kinds-distinct, known}, PenOpen.run-append}
-use Rattle.textwrap_styles.proofs.OpenSettings.{all-open, all-set, known-below, latest-in_effect, resets}
-use Rattle.textwrap_styles.proofs.{OpenSettings.{Sets, unknown-number}, PenSettings.{all-known, many-end}}
+use Rattle.textwrap_styles.proofs.{Common.{plain_rendition, settings_of}, PenSettings.{all-known, many-end}}
+use Rattle.textwrap_styles.proofs.{FewStyles.{kinds, kinds-distinct, known}, PenStyles.all-given}
+use Rattle.textwrap_styles.proofs.OpenSettings.{all-open, all-set, known-below, resets, Sets, unknown-number}
 use Rattle.textwrap_styles.proofs.PenCodes.{differs_at, mix-differs, plain-differs, sets}
-use Rattle.textwrap_styles.proofs.PenOpen.{AreLatest, open-latest, open-pen, parameters-pen, pen_by}
-use Rattle.textwrap_styles.proofs.{PenStyles.all-given, SettingTexts.IsSetting, WrittenSettings.all-settings}
+use Rattle.textwrap_styles.proofs.{PenOpen.{AreLatest, open-latest, open-pen, pen_by}, SettingTexts.IsSetting}
+use Rattle.textwrap_styles.proofs.WrittenSettings.{all-settings}
 use Rattle.textwrap_styles.specs.Laws.{NothingIfUnknown, NothingShorterGivesThePen, OpenStylesAreSetters}
-use Rattle.textwrap_styles.specs.Penned.{with_style}
 use Rattle.textwrap_styles.specs.Settings.{is_end, is_unknown, number, replaces, takes_back}
 use Rattle.textwrap_text.proofs.Common.{◌&&◌, ◌==◌, [], after_last, All, All-head, All-tail, ap, arith}
-use Rattle.textwrap_text.proofs.Common.{cases_Bool, cond, eqb, eqb-true, false, filter, flat_map, fold, inl}
-use Rattle.textwrap_text.proofs.Common.{inr, length, length-map, List, list_any, map, nat_tests, not, refl}
-use Rattle.textwrap_text.proofs.Common.{rules, subst, sym, true, true≢false, ◌||◌, ℕ, ◌∙◌, ◌∷◌, ◌≡◌}
+use Rattle.textwrap_text.proofs.Common.{cases_Bool, cond, eqb, eqb-true, false, filter, flat_map, inl, inr}
+use Rattle.textwrap_text.proofs.Common.{length-map, List, list_any, nat_tests, not, refl, sym, true}
+use Rattle.textwrap_text.proofs.Common.{true≢false, ◌||◌, ℕ, ◌∙◌, ◌∷◌, ◌≡◌}
 
 -- ---- the fields of a pen that are not plain
 

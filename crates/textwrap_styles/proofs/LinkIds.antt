@@ -1,30 +1,26 @@
 -- A link that is set anew with an id: it is a link to the same target, and one sequence.
-use Rattle.std.proofs.{Math.Seq.take-append-add, lemmas.List.take-append-le, lemmas.Str.IsAscii-append}
-use Rattle.std.proofs.lemmas.Fmt.{decimal_is_IsNumeral, IsAscii-decimal, length-decimal-le}
-use Rattle.std.proofs.lemmas.{List.Elements.{All-from_get_or, filter_passes}, Str.Ascii.IsAscii-from_all}
-use Rattle.std.proofs.lemmas.{List.Folds.{list_all-append, list_any-append}, Str.Parse.digit_at}
-use Rattle.std.{proofs.lemmas.List.Sums.{AllPass-from_list_all, list_all-from_AllPass}, specs.Fmt.decimal}
-use Rattle.std.specs.{List.{after_first, concat}, Prelude.{slice_index, ◌||◌}, Str.IsAscii}
-use Rattle.textwrap_styles.proofs.Common.{All-filter, chars, is_in_range, is_link, is_style, open_link}
+use Rattle.std.proofs.lemmas.{Fmt.{decimal_is_IsNumeral, length-decimal-le}, Str.Ascii.IsAscii-from_all}
+use Rattle.std.proofs.lemmas.{List.Elements.{All-from_get_or, filter_passes}, Str.Parse.digit_at}
+use Rattle.std.{proofs.lemmas.List.Folds.{list_all-append, list_any-append}, specs.Fmt.decimal}
+use Rattle.std.{proofs.lemmas.List.Sums.{AllPass-from_list_all, list_all-from_AllPass}, specs.Str.IsAscii}
+use Rattle.std.specs.List.{after_first, concat}
+use Rattle.textwrap_styles.proofs.Common.{chars, is_in_range, is_link, is_style, open_link}
 use Rattle.textwrap_styles.proofs.{LinkParameters.id-begins, SequenceTexts.{IsSequence, unit-sequence}}
 use Rattle.textwrap_styles.proofs.Sequences.{around-bell, around-terminator, bell, IsAround, link-among}
 use Rattle.textwrap_styles.proofs.Sequences.{link-no_style, link_start, not_link, open_link-cases, terminator}
-use Rattle.textwrap_styles.specs.{Penned.with_link, Styles.{reopened_link, with_id}}
-use Rattle.textwrap_styles.specs.Styles.{has_target, id_before, link_fields, link_target, names_id}
-use Rattle.textwrap_text.proofs.Common.{◌&&◌, ◌*◌, ◌+◌, ◌++◌, ◌-◌, ◌<◌, ◌==◌, [], ◌^◌, All, All-append}
-use Rattle.textwrap_text.proofs.Common.{All-cons, All-head, All-nil, All-tail, All-weaker, ap, append-nil}
-use Rattle.textwrap_text.proofs.Common.{append_assoc, arith, Bool, cases_Bool, cases_lt, chars-append, ◌⊎◌, ⊤}
-use Rattle.textwrap_text.proofs.Common.{chars-IsAscii, codes, cond, cond_both, drop, drop_at, ends_with, eqb}
-use Rattle.textwrap_text.proofs.Common.{escape, escape_len, false, filter, filter-append, fold, inl, inr}
-use Rattle.textwrap_text.proofs.Common.{IsUtf8, IsUtf8-append, IsUtf8-drop, IsUtf8-from_ascii, length}
-use Rattle.textwrap_text.proofs.Common.{length-append, length-drop, length-take, List, list_all, list_any}
-use Rattle.textwrap_text.proofs.Common.{map, nat_eq, nat_tests, ne_eqb, nil_from_length, not, refl, rules}
-use Rattle.textwrap_text.proofs.Common.{starts_with, subst, suc, sym, take, take-append-drop, take_at, true}
-use Rattle.textwrap_text.proofs.Common.{true≢false, units, Visible, zero, ℕ, ◌↔◌, ◌∙◌, ◌∷◌, ◌≡◌, ◌≢◌, ◌≤◌}
-use Rattle.textwrap_text.proofs.Lists.Parts.{ends_with-front, ends_with-true, last-cons, starts_with-rest}
-use Rattle.textwrap_text.{proofs.Texts.StartsWith-boundary, proofs.Units.Texts.units_unique, specs.Lists.last}
-use Rattle.textwrap_text.specs.LentText.{as_len}
-use Rattle.textwrap_text.specs.Units.{command_len, ends, is_command_end, IsInUnits, IsWhole, Sequence}
+use Rattle.textwrap_styles.specs.Penned.{with_link}
+use Rattle.textwrap_styles.specs.Styles.{id_before, link_target, names_id, reopened_link, with_id}
+use Rattle.textwrap_text.proofs.Common.{◌&&◌, ◌+◌, ◌++◌, ◌-◌, ◌<◌, ◌==◌, [], ◌^◌, All, All-cons, All-head}
+use Rattle.textwrap_text.proofs.Common.{All-nil, All-weaker, ap, append-nil, append_assoc, arith, Bool}
+use Rattle.textwrap_text.proofs.Common.{cases_Bool, chars-append, chars-IsAscii, codes, cond, cond_both, drop}
+use Rattle.textwrap_text.proofs.Common.{drop_at, ends_with, escape, escape_len, false, filter, filter-append}
+use Rattle.textwrap_text.proofs.Common.{fold, inl, inr, IsUtf8, IsUtf8-append, IsUtf8-drop, IsUtf8-from_ascii}
+use Rattle.textwrap_text.proofs.Common.{length, length-append, length-take, List, list_all, map, nat_eq}
+use Rattle.textwrap_text.proofs.Common.{nat_tests, not, refl, rules, starts_with, subst, sym, take, take_at}
+use Rattle.textwrap_text.proofs.Common.{true, true≢false, units, Visible, ℕ, ◌↔◌, ◌∙◌, ◌∷◌, ◌≡◌, ◌≤◌, ⊤}
+use Rattle.textwrap_text.proofs.Lists.Parts.{ends_with-front, ends_with-true, starts_with-rest}
+use Rattle.textwrap_text.proofs.{Texts.StartsWith-boundary, Units.Texts.units_unique}
+use Rattle.textwrap_text.specs.{LentText.as_len, Units.{command_len, ends, IsInUnits, IsWhole, Sequence}}
 use Rattle.textwrap_words.proofs.Word.Breaking.{units_past-skip}
 
 -- ---- the id

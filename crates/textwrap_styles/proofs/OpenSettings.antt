@@ -2,13 +2,13 @@
 -- once more, and what holds of each of them.
 use Rattle.std.proofs.lemmas.{List.Folds.list_any-append, Slice.Eq.bytes_eq-Decides}
 use Rattle.std.specs.Str.{bytes_eq}
-use Rattle.textwrap_styles.proofs.Common.{All-filter, in_effect, Kind, kind_of, latest, open_settings, Reset}
+use Rattle.textwrap_styles.proofs.Common.{in_effect, Kind, kind_of, latest, open_settings, Reset}
 use Rattle.textwrap_styles.specs.Settings.{is_unknown, number, replaces, takes_back}
 use Rattle.textwrap_text.proofs.Common.{◌&&◌, ◌++◌, ◌<◌, ◌==◌, [], after_last, All, All-append, All-cons}
 use Rattle.textwrap_text.proofs.Common.{All-drop, All-head, All-nil, All-tail, ap, append-nil, append_assoc}
 use Rattle.textwrap_text.proofs.Common.{arith, Bool, Bor, cases_Bool, cond, cond_both, false, filter, fold}
-use Rattle.textwrap_text.proofs.Common.{List, list_any, map, nat_tests, not, refl, rules, subst, sym, true}
-use Rattle.textwrap_text.proofs.{Common.{◌||◌, ℕ, ◌∙◌, ◌∷◌, ◌≡◌}, Lists.Parts.after_last-push}
+use Rattle.textwrap_text.proofs.Common.{List, list_any, map, nat_tests, not, refl, rules, sym, true, ◌||◌, ℕ}
+use Rattle.textwrap_text.proofs.{Common.{◌∙◌, ◌∷◌, ◌≡◌}, Lists.Parts.after_last-push}
 
 pub unknown-number : (k : Kind) → is_unknown k ≡ (number k == 16)
 unfolding is_unknown number

@@ -2,23 +2,21 @@
 -- open give the pen that all of them gave.
 use Rattle.std.proofs.lemmas.Slice.Eq.{bytes_eq-Decides}
 use Rattle.textwrap_styles.proofs.Common.{apply, fields, fold-append, in_effect, Kind, latest, open_settings}
-use Rattle.textwrap_styles.proofs.{Common.{Pen, plain_pen, Reset, settings}, SettingTexts.taken-again}
-use Rattle.textwrap_styles.proofs.OpenSettings.{after-more, all-latest, all-since, known-below}
-use Rattle.textwrap_styles.proofs.OpenSettings.{latest-in_effect, left-after, next_left, none-latest, resets}
-use Rattle.textwrap_styles.proofs.{OpenSettings.{Sets, unknown-number}, PenCodes.{mix-within, nothing, sets}}
+use Rattle.textwrap_styles.proofs.{Common.{Pen, plain_pen, Reset, settings}, OpenSettings.unknown-number}
+use Rattle.textwrap_styles.proofs.OpenSettings.{all-latest, all-since, known-below, latest-in_effect}
+use Rattle.textwrap_styles.proofs.OpenSettings.{left-after, next_left, none-latest, resets, Sets}
 use Rattle.textwrap_styles.proofs.PenCodes.{apply-changes, Changes, changes-then, mix, mix-again, mix-swap}
+use Rattle.textwrap_styles.proofs.{PenCodes.{mix-within, nothing, sets}, SettingTexts.taken-again}
 use Rattle.textwrap_styles.{proofs.PenSettings.{all-known, among, kind-code, many-end}, specs.Pen.read}
 use Rattle.textwrap_styles.proofs.SettingTexts.{are-settings, between-append, drop-all, fields-split}
 use Rattle.textwrap_styles.proofs.SettingTexts.{first-take, InRange, IsSetting, settings-next, settings-one}
-use Rattle.textwrap_styles.specs.Settings.{code, first_setting, is_color_code, is_end, is_ending_code}
-use Rattle.textwrap_styles.specs.Settings.{is_unknown, kind_of, kind_of_code, number, replaces, taken_fields}
-use Rattle.textwrap_styles.specs.Settings.{takes_back}
-use Rattle.textwrap_text.proofs.Common.{◌&&◌, ◌+◌, ◌++◌, ◌<◌, ◌==◌, [], after_last, All, All-append, All-cons}
-use Rattle.textwrap_text.proofs.Common.{All-drop, All-head, All-nil, All-tail, All-weaker, ap, arith}
-use Rattle.textwrap_text.proofs.Common.{cases_Bool, cond, cond_both, drop, eqb-true, false, fold, inl, inr}
-use Rattle.textwrap_text.proofs.Common.{length, length-drop, List, list_any, map-append, nat_tests, refl}
-use Rattle.textwrap_text.proofs.Common.{rules, subst, suc, sym, take_all, true, true≢false, zero, ◌||◌, ℕ}
-use Rattle.textwrap_text.proofs.{Common.{◌∙◌, ◌∷◌, ◌≡◌, ◌≤◌, ⊤}, Lists.Parts.after_last-push}
+use Rattle.textwrap_styles.specs.Settings.{first_setting, is_color_code, is_end, is_ending_code, is_unknown}
+use Rattle.textwrap_styles.specs.Settings.{kind_of, kind_of_code, number, replaces, taken_fields, takes_back}
+use Rattle.textwrap_text.proofs.Common.{◌&&◌, ◌+◌, ◌++◌, ◌<◌, ◌==◌, [], after_last, All, All-drop, All-head}
+use Rattle.textwrap_text.proofs.Common.{All-tail, ap, arith, cases_Bool, cond_both, drop, eqb-true, false}
+use Rattle.textwrap_text.proofs.Common.{fold, inl, inr, length, length-drop, List, list_any, map-append}
+use Rattle.textwrap_text.proofs.Common.{nat_tests, refl, rules, subst, suc, sym, take_all, true, true≢false}
+use Rattle.textwrap_text.proofs.Common.{zero, ◌||◌, ℕ, ◌∙◌, ◌∷◌, ◌≡◌, ◌≤◌, ⊤}
 
 -- ---- settings one after another, of which each sets its own fields
 

@@ -1,14 +1,13 @@
 -- What is open gives, set anew, the pen and the link of all sequences, and what ends it gives a plain
 -- pen and no link.
-use Rattle.textwrap_styles.proofs.Common.{apply, fold-append, is_link, is_style, link_end, open_link}
-use Rattle.textwrap_styles.proofs.Common.{open_styles, Pen, plain_pen, plain_rendition, Rendition}
-use Rattle.textwrap_styles.proofs.Common.{rendition_of, settings_of, style_end, style_parameters}
-use Rattle.textwrap_styles.proofs.{Common.with_sequence, LinkIds.{reopened-link, reopened-plain}}
-use Rattle.textwrap_styles.proofs.{OpenSettings.after-more, SequenceTexts.closing_sequences}
+use Rattle.textwrap_styles.proofs.Common.{fold-append, is_link, is_style, link_end, open_link, open_styles}
+use Rattle.textwrap_styles.proofs.Common.{Pen, plain_pen, plain_rendition, Rendition, rendition_of}
+use Rattle.textwrap_styles.proofs.{Common.{settings_of, style_end, with_sequence}, OpenSettings.after-more}
+use Rattle.textwrap_styles.proofs.{LinkIds.{reopened-link, reopened-plain}, SequenceTexts.closing_sequences}
 use Rattle.textwrap_styles.proofs.PenOpen.{open-pen, parameters-pen, pen_by, run-append}
 use Rattle.textwrap_styles.{proofs.Sequences.{next_link, open_link-push}, specs.Pen.{with_code, with_field}}
 use Rattle.textwrap_styles.proofs.WrittenSettings.{all-settings, open-back, styles-no_link}
-use Rattle.textwrap_styles.specs.{Penned.{with_link, with_style}, Styles.{link_target, reopened_link}}
+use Rattle.textwrap_styles.specs.{Penned.{with_link, with_style}, Styles.reopened_link}
 use Rattle.textwrap_text.proofs.Common.{◌++◌, [], All, All-head, All-tail, ap, arith, Bool, cases_Bool, cond}
 use Rattle.textwrap_text.proofs.Common.{eqb-true, false, flat_map, flat_map-append, fold, List, ltb-false}
 use Rattle.textwrap_text.proofs.Common.{nil_from_length, refl, rules, sym, true, ℕ, ◌∙◌, ◌∷◌, ◌≡◌}

@@ -7,7 +7,7 @@ use Rattle.textwrap_styles.{proofs.Common.{sequences, style_end, with_sequence},
 use Rattle.textwrap_styles.specs.Styled.{IsWholeText}
 use Rattle.textwrap_text.proofs.Common.{◌++◌, ◌==◌, [], All, All-append, All-cons, All-head, All-nil}
 use Rattle.textwrap_text.proofs.Common.{All-tail, ap, append-nil, arith, Bool, cases_Bool, characters}
-use Rattle.textwrap_text.proofs.Common.{chars-append, chars-nil, chars_from_encodes, codes, cond, cond_both}
+use Rattle.textwrap_text.proofs.Common.{chars-append, chars-nil, chars_from_encodes, codes, cond}
 use Rattle.textwrap_text.proofs.Common.{encode_utf8_all, encodes-chars, false, flat_map, flat_map-append}
 use Rattle.textwrap_text.proofs.Common.{fold, inl, IsUtf8, IsUtf8-append, IsUtf8-nil, length, List, map, refl}
 use Rattle.textwrap_text.proofs.Common.{rules, Sequence, subst, sym, take, TextUnit, true, units, Visible}

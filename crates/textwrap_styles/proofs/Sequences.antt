@@ -6,13 +6,13 @@ use Rattle.textwrap_styles.proofs.Common.{All-filter, chars, has_target, is_in_r
 use Rattle.textwrap_styles.proofs.Common.{open_link, sequence_of, sequences, style_parameters}
 use Rattle.textwrap_styles.specs.Styles.{link_fields}
 use Rattle.textwrap_text.proofs.Common.{◌+◌, ◌++◌, ◌-◌, ◌==◌, [], All, All-drop, All-head, All-tail}
-use Rattle.textwrap_text.proofs.Common.{All-weaker, and_parts, ap, append-nil, append_assoc, arith, Bool, Bor}
-use Rattle.textwrap_text.proofs.Common.{cases_Bool, chars-append, chars_from_encodes, chars_past_char, codes}
-use Rattle.textwrap_text.proofs.Common.{cond, cond_both, drop, drop-append-add, drop-drop, drop_at}
-use Rattle.textwrap_text.proofs.Common.{encode_ascii, encode_utf8_all, ends_with, eqb, escape_len, false}
-use Rattle.textwrap_text.proofs.Common.{filter, filter-append, flat_map, IsCharBoundary, IsUtf8, IsUtf8-drop}
-use Rattle.textwrap_text.proofs.Common.{length, length-append, List, list_all, list_any, nat_eq, next_of}
-use Rattle.textwrap_text.proofs.Common.{None, Option, refl, rules, slice_range, Some, subst, suc, sym, take}
+use Rattle.textwrap_text.proofs.Common.{and_parts, ap, append-nil, append_assoc, arith, Bool, Bor, cases_Bool}
+use Rattle.textwrap_text.proofs.Common.{chars-append, chars_from_encodes, chars_past_char, codes, cond}
+use Rattle.textwrap_text.proofs.Common.{cond_both, drop, drop-append-add, drop-drop, drop_at, encode_ascii}
+use Rattle.textwrap_text.proofs.Common.{encode_utf8_all, ends_with, eqb, escape_len, false, filter}
+use Rattle.textwrap_text.proofs.Common.{filter-append, flat_map, IsCharBoundary, IsUtf8, IsUtf8-drop, length}
+use Rattle.textwrap_text.proofs.Common.{length-append, List, list_all, list_any, nat_eq, next_of, None}
+use Rattle.textwrap_text.proofs.Common.{Option, refl, rules, slice_range, Some, subst, suc, sym, take}
 use Rattle.textwrap_text.proofs.Common.{take-append-drop, take_all, take_at, taken_in, true, units, ◌||◌, ℕ}
 use Rattle.textwrap_text.proofs.{Common.{◌∙◌, ◌∷◌, ◌≡◌, ◌≢◌}, Lists.Parts.{starts_with-rest, stripped_suffix}}
 use Rattle.textwrap_text.proofs.Lists.Parts.{ends_with-after, ends_with-other, ends_with-true, last_one-push}

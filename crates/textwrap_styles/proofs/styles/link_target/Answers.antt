@@ -2,8 +2,7 @@ use Rattle.textwrap_styles.proofs.styles.link_target.Goals as goal
 use Rattle.std.{proofs.lemmas.Str.Pattern.split_once_first, specs.List.after_first, specs.Option.MatchOption}
 use Rattle.textwrap_styles.proofs.{Common.is_link, Sequences.{IsAround, link-cases}}
 use Rattle.textwrap_styles.proofs.styles.link_target.Goals.{After-or}
-use Rattle.textwrap_text.proofs.Common.{◌==◌, ap, arith, codes, false, length, nat_lt, nat_tests}
-use Rattle.textwrap_text.proofs.Common.{position_or_len, subst, sym, true, ◌∙◌, ◌≡◌}
+use Rattle.textwrap_text.proofs.Common.{◌==◌, ap, arith, codes, false, nat_tests, subst, sym, ◌∙◌, ◌≡◌}
 use Rattle.textwrap_text.proofs.Lists.Parts.{any-position, stripped_prefix}
 
 -- what is found of either end says whether it is a link

@@ -2,7 +2,7 @@ use Rattle.textwrap_styles.proofs.styles.names_id.Goals as goal
 use Rattle.textwrap_styles.proofs.LinkParameters.{id-begins, id-next, is_id}
 use Rattle.textwrap_styles.proofs.styles.names_id.Goals.{else-begins-via-else-begins}
 use Rattle.textwrap_styles.proofs.styles.names_id.Goals.{else-begins-via-then-begins+else-starts_with}
-use Rattle.textwrap_text.proofs.Common.{◌&&◌, arith, cases_Bool, false, nat_tests, ne_eqb, ◌∙◌, ◌≡◌}
+use Rattle.textwrap_text.proofs.Common.{◌&&◌, arith, cases_Bool, false, ne_eqb, ◌∙◌, ◌≡◌}
 
 pub loop-left-init : goal.loop-left-init
 loop-left-init c = id-begins c.args.fields.now

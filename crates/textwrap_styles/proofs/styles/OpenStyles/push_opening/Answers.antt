@@ -1,11 +1,11 @@
 use Rattle.textwrap_styles.proofs.styles.OpenStyles.push_opening.Goals as goal
 use Rattle.std.{proofs.lemmas.List.Folds.concat-append, specs.Option.{option_copied, option_to_list}}
 use Rattle.textwrap_styles.proofs.{Common.{concat, open_styles, written}, LinkIds.kept-link}
-use Rattle.textwrap_styles.{proofs.OpenSettings.texts, specs.Styles.{reopened_link, with_id}}
+use Rattle.textwrap_styles.{proofs.OpenSettings.texts, specs.Styles.reopened_link}
 use Rattle.textwrap_styles.proofs.styles.OpenStyles.push_opening.Goals.{in-Some+in_ok-push_link, in_default}
-use Rattle.textwrap_text.proofs.Common.{◌+◌, ◌++◌, ◌<◌, [], ap, append-nil, append_assoc, arith, Bor, codes}
+use Rattle.textwrap_text.proofs.Common.{◌+◌, ◌++◌, ◌<◌, ap, append-nil, append_assoc, arith, Bor, codes}
 use Rattle.textwrap_text.proofs.Common.{get_or, length, List, map, map-append, rules, string_bytes, sym, take}
-use Rattle.textwrap_text.proofs.Common.{take_all, take_more, ℕ, ◌∙◌, ◌∷◌, ◌≡◌}
+use Rattle.textwrap_text.proofs.Common.{take_all, take_more, ℕ, ◌∙◌, ◌≡◌}
 
 -- the settings so far, one after the other, and one more
 written-more : (ss : List (Bor (List ℕ))) (n : ℕ) (d : Bor (List ℕ))

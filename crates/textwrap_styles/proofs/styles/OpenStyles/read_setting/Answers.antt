@@ -1,8 +1,6 @@
 use Rattle.textwrap_styles.proofs.styles.OpenStyles.read_setting.Goals as goal
-use Rattle.textwrap_styles.{proofs.Common.{in_effect, latest, open_settings, Reset}, specs.Settings.number}
-use Rattle.textwrap_styles.proofs.OpenSettings.{effect-push, open_settings-push, resets, texts, with_setting}
-use Rattle.textwrap_text.proofs.Common.{◌++◌, ◌==◌, [], ap, arith, Bor, cases_Bool, cond, false, List}
-use Rattle.textwrap_text.proofs.Common.{map-append, sym, ℕ, ◌∙◌, ◌∷◌, ◌≡◌}
+use Rattle.textwrap_styles.proofs.OpenSettings.{effect-push, open_settings-push, texts}
+use Rattle.textwrap_text.proofs.Common.{[], ap, arith, Bor, cases_Bool, List, map-append, ℕ, ◌∙◌, ◌∷◌}
 
 pub returns-in_ok-push-clause-settings : goal.returns-in_ok-push-clause-settings
 returns-in_ok-push-clause-settings g c = λ before state.

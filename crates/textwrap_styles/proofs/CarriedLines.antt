@@ -21,7 +21,7 @@ use Rattle.textwrap_text.proofs.Common.{flat_map, fold, get_or, inl, inr, IsUtf8
 use Rattle.textwrap_text.proofs.Common.{length-append, List, map, map-append, nat_eq, nat_tests}
 use Rattle.textwrap_text.proofs.Common.{nil_from_length, refl, rules, starts_with, subst, sym, take}
 use Rattle.textwrap_text.proofs.Common.{take-append-drop, take_at, text_width, units, ℕ, ◌∙◌, ◌∷◌, ◌≡◌, ◌≤◌}
-use Rattle.textwrap_text.proofs.{Lists.Parts.starts_with-rest, Texts.StartsWith-boundary}
+use Rattle.textwrap_text.proofs.{Lists.Parts.{all-right, starts_with-rest}, Texts.StartsWith-boundary}
 
 -- ---- one line more that sets anew what is open, and ends plain
 
@@ -191,15 +191,11 @@ nil-plain = ap (λ cs. rendition_of (flat_map sequence_of (units cs))) chars-nil
 -- what follows a whole text in one
 whole_text-rest : (xs ys : List ℕ) → IsWholeText xs → IsWholeText (xs ++ ys) → IsWholeText ys
 whole_text-rest xs ys front whole =
-    let n = length xs in
-    let same : drop n (xs ++ ys) ≡ ys = drop_at xs ys n refl in
-    let us = units (chars xs) in
-    let vs = units (chars ys) in (
-      subst IsUtf8 same (IsUtf8-drop (xs ++ ys) n whole.0
+    let n = length xs in (
+      subst IsUtf8 (drop_at xs ys n refl) (IsUtf8-drop (xs ++ ys) n whole.0
           (StartsWith-boundary (xs ++ ys) xs whole.0 front.0 (take_at xs ys n refl))),
-      subst (All IsWhole) (drop_at us vs (length us) refl)
-          (All-drop IsWhole (length us) (us ++ vs)
-          (subst (All IsWhole) (text_units-append xs ys front) whole.1)),
+      all-right IsWhole (units (chars xs)) (units (chars ys))
+          (subst (All IsWhole) (text_units-append xs ys front) whole.1),
     )
 
 may-carry : (indent line : List ℕ) → IsWholeText indent → EndsPlain indent

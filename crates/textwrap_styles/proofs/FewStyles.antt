@@ -1,7 +1,7 @@
 -- How many settings are open, and how many bytes set them anew.
 use Rattle.std.{proofs.Math.Nat.mul-le-mul_left, proofs.lemmas.Cmp.nat_eq_equiv, specs.List.IsDistinct}
-use Rattle.std.proofs.lemmas.Map.{Made.IsDistinct-from_count, Steps.length-le_from_distinct_below}
-use Rattle.std.specs.Set.{is_member, unique_keys}
+use Rattle.std.proofs.lemmas.{List.Filters.length-filter_both, Map.Made.IsDistinct-from_count}
+use Rattle.std.{proofs.lemmas.Map.Steps.length-le_from_distinct_below, specs.Set.{is_member, unique_keys}}
 use Rattle.textwrap_layout.specs.Paragraph.{line_bytes}
 use Rattle.textwrap_styles.proofs.{CarriedLines.carried-len, Common.written, LinkIds.reopened-len}
 use Rattle.textwrap_styles.proofs.Common.{concat, is_style, kind_of, latest, link_end, open_settings}
@@ -122,11 +122,8 @@ written-bytes (s ∷ ss) most short =
     omega (arith, length-append s (codes "m")) in
     omega (arith, one, others, length-append (written s) (concat (map written ss)), own)
 
--- those that the table knows, and the others
-both-kinds : (ss : List (List ℕ)) → length ss
-    ≡ length (filter known ss) + length (filter (λ s. is_unknown (kind_of s)) ss)
-both-kinds [] = refl
-both-kinds (s ∷ ss) = grind (arith, cases_Bool, both-kinds ss)
+unknown : (s : List ℕ) → is_unknown (kind_of s) ≡ not (known s)
+unknown s = grind (arith, cases_Bool)
 
 pub styles-short : (indent : List ℕ) (before : List (List ℕ)) (line : List ℕ) (most : ℕ)
     → All (λ s. length s ≤ most) before
@@ -143,5 +140,5 @@ styles-short indent before line most short =
     let styles = written-bytes now most (all-open (IsShort most) all (all-short before most short))
     in
     let count : length now ≤ 15 + length (unknown_settings before) =
-    omega (arith, both-kinds now, few-known before) in
+    omega (arith, length-filter_both known (λ s. is_unknown (kind_of s)) unknown now, few-known before) in
     omega (arith, line_len, len, reopened-len before, link, styles, mul-le-mul_left most count)

@@ -26,19 +26,15 @@ boundary c n is =
 
 pub overflow_add-end-2 : goal.overflow_add-end-2
 overflow_add-end-2 c =
-    let cut = boundary (goal.at.overflow_add-end-2 c).In_ok-before c.sequence_tail_len.result
-    c.sequence_tail_len.ensures in
-    omega (arith, cut.0)
+    omega (arith, (boundary (goal.at.overflow_add-end-2 c).In_ok-before _ c.sequence_tail_len.ensures).0)
 
 pub range-requires-clause-end_boundary : goal.range-requires-clause-end_boundary
 range-requires-clause-end_boundary c =
-    boundary (goal.at.range-requires-clause-end_boundary c).In_ok-before c.sequence_tail_len.result
-    c.sequence_tail_len.ensures
+    boundary (goal.at.range-requires-clause-end_boundary c).In_ok-before _ c.sequence_tail_len.ensures
 
 pub range_from-requires : goal.range_from-requires
 range_from-requires c = λ _.
-    boundary (goal.at.range_from-requires c).In_ok-before c.sequence_tail_len.result
-    c.sequence_tail_len.ensures
+    boundary (goal.at.range_from-requires c).In_ok-before _ c.sequence_tail_len.ensures
 
 pub returns-clause-sequences : goal.returns-clause-sequences
 returns-clause-sequences c =

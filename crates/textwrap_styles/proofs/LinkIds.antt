@@ -6,8 +6,8 @@ use Rattle.std.{proofs.lemmas.List.Sums.{AllPass-from_list_all, list_all-from_Al
 use Rattle.std.specs.List.{after_first, concat}
 use Rattle.textwrap_styles.proofs.Common.{chars, is_in_range, is_link, is_style, open_link}
 use Rattle.textwrap_styles.proofs.{LinkParameters.id-begins, SequenceTexts.{IsSequence, unit-sequence}}
-use Rattle.textwrap_styles.proofs.Sequences.{around-bell, around-terminator, bell, IsAround, link-among}
-use Rattle.textwrap_styles.proofs.Sequences.{link-no_style, link_start, not_link, open_link-cases, terminator}
+use Rattle.textwrap_styles.proofs.Sequences.{around-bell, around-terminator, bell, IsAround, link-no_style}
+use Rattle.textwrap_styles.proofs.Sequences.{link_start, not_link, open_link-cases, terminator}
 use Rattle.textwrap_styles.specs.Penned.{with_link}
 use Rattle.textwrap_styles.specs.Styles.{id_before, link_target, names_id, reopened_link, with_id}
 use Rattle.textwrap_text.proofs.Common.{◌&&◌, ◌+◌, ◌++◌, ◌-◌, ◌<◌, ◌==◌, [], ◌^◌, All, All-cons, All-head}
@@ -257,6 +257,7 @@ pub kept-link : (before : List (List ℕ)) (n : ℕ) (link : List ℕ) → link 
 kept-link before n link kept number = (
   All-head (λ s. is_link s ≡ true) link []
       (subst (All (λ s. is_link s ≡ true)) (sym kept)
-      (link-among (λ s. is_link s ≡ true) before (filter_passes is_link before))),
+      (open_link-cases Any (All (λ s. is_link s ≡ true)) before (any before) (All-nil (λ s. is_link s ≡ true))
+      (λ s is _. All-cons (λ s. is_link s ≡ true) s [] is (All-nil (λ s. is_link s ≡ true))))),
   rw (sym kept, sym number) (append-nil (with_id n link)),
 )

@@ -90,20 +90,6 @@ color-differs c color is other =
     among (λ c. differs_at (with_color c color plain_pen) (number (kind_of_code c)) ≡ true) c is
     (rw other refl) (rw other refl) (rw other refl)
 
-pub underline-sets : (parts : List ℕ) (p : Pen)
-    → with_parts 4 parts p ≡ mix (sets (number (kind_of_code 4))) (with_parts 4 parts plain_pen) p
-unfolding with_parts kind_of_code number
-underline-sets parts p = refl
-
-pub underline-ends : (parts : List ℕ) → first_of parts ≡ 0 → with_parts 4 parts plain_pen ≡ plain_pen
-unfolding with_parts
-underline-ends parts none = ap (λ n. record plain_pen { underline = n }) none
-
-underline-differs : (parts : List ℕ) → (first_of parts == 0) ≡ false
-    → differs_at (with_parts 4 parts plain_pen) (number (kind_of_code 4)) ≡ true
-unfolding with_parts kind_of_code number differs_at
-underline-differs parts other = rw other refl
-
 pub color-parts : (c : ℕ) (parts : List ℕ) (p : Pen) → is_color_code c ≡ true
     → with_parts c parts p ≡ with_color c (color_of parts) p
 unfolding with_parts is_color_code
@@ -279,18 +265,17 @@ module _ (t : List ℕ) (is : IsSetting t) (known : is_unknown (kind_of t) ≡ f
       search (rules, arith, colon-first, field-len, read-one, colon-taken, field-parts, number-is)
 
   colon-known : has_colon t ≡ true → Known t
+  unfolding with_parts kind_of_code number differs_at
   colon-known colon = elim (cases_Bool (code t == 4)) [
     | inl four ↦
+        let parts = drop 1 (numbers_of field) in
         let same : code t ≡ 4 = eqb-true (code t) 4 four in
         let ends = colon-end t is.range colon four in
-        known-by t (with_parts 4 (drop 1 (numbers_of field)))
-        (λ p. colon-read colon p
-        ∙ ap (λ n. alone (with_parts n (drop 1 (numbers_of field)) p)) same)
-        (λ p. rw (kind-code t known, same) (underline-sets (drop 1 (numbers_of field)) p))
-        (λ end. underline-ends (drop 1 (numbers_of field))
-        (eqb-true (first_of (drop 1 (numbers_of field))) 0 (sym ends ∙ end)))
-        (λ stays. rw (kind-code t known, same)
-        (underline-differs (drop 1 (numbers_of field)) (sym ends ∙ stays)))
+        known-by t (with_parts 4 parts)
+        (λ p. colon-read colon p ∙ ap (λ n. alone (with_parts n parts p)) same)
+        (λ p. rw (kind-code t known, same) refl)
+        (λ end. ap (λ n. record plain_pen { underline = n }) (eqb-true (first_of parts) 0 (sym ends ∙ end)))
+        (λ stays. rw (kind-code t known, same, sym ends ∙ stays) refl)
     | inr other ↦
         let color : is_color_code (code t) ≡ true =
         ap (λ b. b || is_color_code (code t)) (sym other) ∙ colon-code colon in

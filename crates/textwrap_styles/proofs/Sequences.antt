@@ -254,12 +254,7 @@ pub open_link-push : (before : List (List ℕ)) (s : List ℕ)
     → open_link (before ++ s ∷ []) ≡ next_link (open_link before) s
 open_link-push before s = grind (arith, cases_Bool, filter-append, last_one-push, append-nil)
 
--- it is one of the sequences, so what holds of these holds of it
-pub link-among : (P : List ℕ → Type 0) (before : List (List ℕ)) → All P (filter is_link before)
-    → All P (open_link before)
-link-among P before all = search (rules, arith, All-filter, All-drop)
-
--- and of it and of none
+-- it is one of the links, or there is none: what holds of all sequences holds of it
 pub open_link-cases : (Q : List ℕ → Type 0) (P : List (List ℕ) → Type 0) (before : List (List ℕ))
     → All Q before → P [] → ((s : List ℕ) → is_link s ≡ true → Q s → P (s ∷ []))
     → P (open_link before)

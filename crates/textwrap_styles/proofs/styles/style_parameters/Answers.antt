@@ -22,11 +22,11 @@ style c =
 pub returns-then-are_style_parameters-clause-style :
     goal.returns-then-are_style_parameters-clause-style
 returns-then-are_style_parameters-clause-style c =
-    let at = goal.at.returns-then-are_style_parameters-clause-style c in
-    c.if-are_style_parameters.ensures ∙ style at.In_ok-parameters
+    c.if-are_style_parameters.ensures
+    ∙ style (goal.at.returns-then-are_style_parameters-clause-style c).In_ok-parameters
 
 pub returns-else-are_style_parameters-clause-style :
     goal.returns-else-are_style_parameters-clause-style
 returns-else-are_style_parameters-clause-style c =
-    let at = goal.at.returns-else-are_style_parameters-clause-style c in
-    c.if-are_style_parameters.ensures ∙ style at.In_ok-parameters
+    c.if-are_style_parameters.ensures
+    ∙ style (goal.at.returns-else-are_style_parameters-clause-style c).In_ok-parameters

@@ -22,23 +22,6 @@ use Rattle.textwrap_text.proofs.Common.{◌≡◌, ◌≢◌, ◌≤◌, ◌⊎�
 abbrev pub alone : Pen → Reading
 alone pen = record { pen = pen; color = [] }
 
-pub field-code : (p : Pen) (field : List ℕ) → length field ≡ 1
-    → is_color_code (first_of field) ≡ false
-    → with_field (alone p) field ≡ alone (with_code (first_of field) p)
-unfolding with_field is_color_code
-field-code p field one plain = grind (arith, cases_Bool)
-
-pub field-parts : (p : Pen) (field : List ℕ) → (length field == 1) ≡ false
-    → with_field (alone p) field ≡ alone (with_parts (first_of field) (drop 1 field) p)
-unfolding with_field
-field-parts p field more = grind (arith, cases_Bool)
-
-pub field-color : (p : Pen) (field : List ℕ) → length field ≡ 1
-    → is_color_code (first_of field) ≡ true
-    → with_field (alone p) field ≡ record { pen = p; color = first_of field ∷ [] }
-unfolding with_field is_color_code
-field-color p field one is = grind (arith, cases_Bool)
-
 -- ---- a colour behind semicolons
 
 -- the fields behind 38, 48 or 58 that make a colour: 5 and a number, or 2 and three
@@ -230,11 +213,10 @@ module _ (t : List ℕ) (is : IsSetting t) (known : is_unknown (kind_of t) ≡ f
       grind (arith, cases_Bool, all, kind-code t known, end)
 
   plain-known : has_colon t ≡ false → is_color_code (code t) ≡ false → Known t
+  unfolding with_field is_color_code
   plain-known none plain =
-      known-by t (with_code (code t))
-      (λ p. read-one t is (plain-taken none plain) p
-      ∙ field-code p (numbers_of field) (field-one none) (ap is_color_code number-is ∙ plain)
-      ∙ ap (λ n. alone (with_code n p)) number-is)
+      known-by t (with_code (code t)) (λ p.
+      grind (arith, cases_Bool, read-one t is (plain-taken none plain) p, field-one none, number-is, plain))
       (λ p. rw (kind-code t known) (rw plain at (row (code t)).sets p))
       (λ end. rw (sym (plain-end none) ∙ end) at (row (code t)).ends)
       (plain-differs none plain)
@@ -261,8 +243,9 @@ module _ (t : List ℕ) (is : IsSetting t) (known : is_unknown (kind_of t) ≡ f
 
   colon-read : has_colon t ≡ true → (p : Pen)
       → read t p ≡ alone (with_parts (code t) (drop 1 (numbers_of field)) p)
+  unfolding with_field
   colon-read colon p =
-      search (rules, arith, colon-first, field-len, read-one, colon-taken, field-parts, number-is)
+      search (rules, arith, cases_Bool, colon-first, field-len, read-one, colon-taken, number-is)
 
   colon-known : has_colon t ≡ true → Known t
   unfolding with_parts kind_of_code number differs_at
@@ -293,7 +276,8 @@ module _ (t : List ℕ) (is : IsSetting t) (known : is_unknown (kind_of t) ≡ f
 
   color-first : has_colon t ≡ false → is_color_code (code t) ≡ true → (p : Pen)
       → with_field (alone p) (numbers_of field) ≡ record { pen = p; color = code t ∷ [] }
-  color-first none color p = grind (arith, cases_Bool, nat_tests, field-color, field-one, number-is)
+  unfolding with_field is_color_code
+  color-first none color p = grind (arith, cases_Bool, nat_tests, color, field-one, number-is)
 
   abbrev rest : List ℕ
   rest = drop 1 (details t)

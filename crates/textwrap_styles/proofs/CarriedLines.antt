@@ -31,20 +31,6 @@ enclosed line n start end =
     cond (length (start ++ end) == 0) (Slice line)
     (Built (take n line ++ start ++ drop n line ++ end))
 
-nothing-added : (start end front text : List ℕ) → length (start ++ end) ≡ 0
-    → front ++ text ≡ front ++ start ++ text ++ end
-nothing-added start end front text none = grind (arith, append-nil, nil_from_length, length-append)
-
-parts-len : (front start text end line whole : List ℕ) → whole ≡ front ++ start ++ text ++ end
-    → front ++ text ≡ line → length whole ≡ length line + length start + length end
-parts-len front start text end line whole are own = grind (arith, length-append)
-
-pub line-is : (indent line : List ℕ) (n : ℕ) (before : List (List ℕ)) (start end : List ℕ)
-    (view : Line) → n ≡ indent_end indent line → start ≡ opening before
-    → end ≡ closing (before ++ sequences (drop n line))
-    → view ≡ enclosed line n start end → view ≡ carried_line indent before line
-line-is indent line n before start end view is starts ends whole = cc
-
 -- one more of the lines
 pub carries-more : {Z : Type 0} (lines : List (CowStr Z)) (n : ℕ) (line added : CowStr Z)
     (indent later bytes text : List ℕ) (before : List (List ℕ)) (old new : List (CowStr Z))
@@ -67,7 +53,8 @@ carried-parts : (indent : List ℕ) (before : List (List ℕ)) (line : List ℕ)
     ≡ before_text indent line ++ opening before ++ after_indent indent line
     ++ closing (before ++ sequences (after_indent indent line))
 carried-parts indent before line =
-    grind (arith, nat_tests, nothing-added, take-append-drop (indent_end indent line) line)
+    let own = take-append-drop (indent_end indent line) line in
+    grind (arith, nat_tests, append-nil, nil_from_length, length-append, own)
 
 closing-short : (before : List (List ℕ)) → length (closing before) ≤ length style_end + length link_end
 closing-short before = search (rules, arith)
@@ -77,11 +64,10 @@ pub carried-len : (indent : List ℕ) (before : List (List ℕ)) (line : List �
     → length (line_bytes (carried_line indent before line))
     ≤ length line + length (opening before) + length style_end + length link_end
 carried-len indent before line =
-    let text = after_indent indent line in
-    let len = parts-len (before_text indent line) (opening before) text
-    (closing (before ++ sequences text)) line _ (carried-parts indent before line)
-    (take-append-drop (indent_end indent line) line) in
-    omega (arith, len, closing-short (before ++ sequences text))
+    let whole = carried-parts indent before line in
+    let own = take-append-drop (indent_end indent line) line in
+    let ends = closing-short (before ++ sequences (after_indent indent line)) in
+    grind (arith, length-append, whole, own, ends)
 
 pub carried-bytes : (indent : List ℕ) (before : List (List ℕ)) (line : List ℕ)
     → line_bytes (carried_line indent before line)
@@ -109,25 +95,22 @@ module _ (indent : List ℕ) (before : List (List ℕ)) (line : List ℕ) (are :
   all-starts : All IsSequence starts
   all-starts = search (rules, arith, All-append, reopened-sequences, styles-sequences)
 
-  all-ends : All IsSequence ends
-  all-ends = closing-sequences (before ++ sequences text)
-
   begun : rendition_of (sequences front ++ starts) ≡ rendition_of before
   begun = search (rules, arith, fold-append, styles-pen)
 
   pub carried-penned : penned_text plain_rendition (line_bytes (carried_line indent before line))
       ≡ penned_text plain_rendition front ++ penned_text (rendition_of before) text
-  carried-penned = search (rules, arith, carried-bytes, parts-penned, all-starts, all-ends, begun)
+  carried-penned = search (rules, arith, carried-bytes, parts-penned, all-starts, closing-sequences, begun)
 
   pub carried-plain : EndsPlain (line_bytes (carried_line indent before line))
   carried-plain =
-      let all = parts-sequences front text starts ends may.front may.text all-starts all-ends in
+      let all = parts-sequences front text starts ends may.front may.text all-starts (closing-sequences (before ++ sequences text)) in
       let end = ended (before ++ sequences text) in
       grind (arith, carried-bytes indent before line, all, fold-append, begun, end)
 
   pub carried-wide : text_width (line_bytes (carried_line indent before line)) ≡ text_width line
   carried-wide =
-      search (rules, arith, carried-bytes, parts-visible, all-starts, all-ends, take-append-drop)
+      search (rules, arith, carried-bytes, parts-visible, all-starts, closing-sequences, take-append-drop)
 
 -- ---- lines whose styles are carried, one after another
 

@@ -206,17 +206,9 @@ open-pen before are =
     λ k d within. record { setting = settings k d within; sets = all-since before k d within } in
     search (rules, arith, run-effect, all-latest, are-latest, plain-quiet, run-latest, since, settings, setters)
 
-color-known : (c : ℕ) → is_color_code c ≡ true → is_unknown (kind_of_code c) ≡ false
-unfolding is_unknown kind_of_code
-color-known c is = among (λ n. is_unknown (kind_of_code n) ≡ false) c is refl refl refl
-
-four-known : (c : ℕ) → (c == 4) ≡ true → is_unknown (kind_of_code c) ≡ false
-unfolding is_unknown kind_of_code
-four-known c is = subst (λ n. is_unknown (kind_of_code n) ≡ false) (sym (eqb-true c 4 is)) refl
-
 taken-known : (t : List ℕ) → (taken_fields t == 0) ≡ false → is_unknown (kind_of t) ≡ false
-unfolding kind_of taken_fields
-taken-known t some = grind (arith, cases_Bool, nat_tests, color-known, four-known)
+unfolding kind_of taken_fields is_color_code is_unknown kind_of_code
+taken-known t some = grind (arith, cases_Bool, nat_tests)
 
 -- ---- the first setting of parameters, where there are more
 

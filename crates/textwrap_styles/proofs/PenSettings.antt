@@ -162,16 +162,13 @@ second-first [] all colon = rw details-nil refl
 second-first (c ∷ cs) all colon =
     grind (arith, cases_Bool, nat_tests, details-cons, first_text-first, later-values, second-first cs)
 
-min-none : (n : ℕ) → (min 255 n == 0) ≡ (n == 0)
-min-none n = grind (arith, cases_Bool, nat_tests)
-
 colon-end : (t : List ℕ) → InRange t → has_colon t ≡ true → (code t == 4) ≡ true
     → is_end t ≡ (first_of (drop 1 (numbers_of (first_field t))) == 0)
 unfolding is_end
 colon-end t range colon four =
     let rest = drop 1 (details t) in
     let value = code-first rest (rest-range t range) in
-    grind (arith, cases_Bool, value, second-first t range colon, min-none (first_number rest))
+    grind (arith, cases_Bool, nat_tests, value, second-first t range colon)
 
 colon-other : (t : List ℕ) → has_colon t ≡ true → (code t == 4) ≡ false → is_end t ≡ false
 unfolding is_end

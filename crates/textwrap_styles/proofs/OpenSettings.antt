@@ -14,12 +14,9 @@ pub unknown-number : (k : Kind) → is_unknown k ≡ (number k == 16)
 unfolding is_unknown number
 unknown-number _ = grind (arith, cases_Bool, nat_tests)
 
-number-most : (k : Kind) → number k < 17
-unfolding number
-number-most _ = grind (arith, cases_Bool, nat_tests)
-
 pub known-below : (k : Kind) → is_unknown k ≡ false → number k < 16
-known-below k known = grind (arith, cases_Bool, nat_tests, unknown-number, number-most)
+unfolding is_unknown number
+known-below _ known = grind (arith, cases_Bool, nat_tests)
 
 pub unknown-other : (k : Kind) (n : ℕ) → is_unknown k ≡ true → n < 16 → (number k == n) ≡ false
 unknown-other k n unknown below = grind (arith, cases_Bool, nat_tests, unknown-number)

@@ -73,11 +73,6 @@ color-differs c color is other =
     among (λ c. differs_at (with_color c color plain_pen) (number (kind_of_code c)) ≡ true) c is
     (rw other refl) (rw other refl) (rw other refl)
 
-pub color-parts : (c : ℕ) (parts : List ℕ) (p : Pen) → is_color_code c ≡ true
-    → with_parts c parts p ≡ with_color c (color_of parts) p
-unfolding with_parts is_color_code
-color-parts c parts p is = grind (arith, cases_Bool, nat_tests)
-
 -- ---- what is known of a setting that the table knows
 
 pub record Known (t : List ℕ) : Type 0 where
@@ -245,7 +240,7 @@ module _ (t : List ℕ) (is : IsSetting t) (known : is_unknown (kind_of t) ≡ f
       search (rules, arith, cases_Bool, colon-first, field-len, read-one, colon-taken, number-is)
 
   colon-known : has_colon t ≡ true → Known t
-  unfolding with_parts kind_of_code number differs_at
+  unfolding with_parts kind_of_code number differs_at is_color_code
   colon-known colon = elim (cases_Bool (code t == 4)) [
     | inl four ↦
         let parts = drop 1 (numbers_of field) in
@@ -260,8 +255,7 @@ module _ (t : List ℕ) (is : IsSetting t) (known : is_unknown (kind_of t) ≡ f
         let color : is_color_code (code t) ≡ true =
         ap (λ b. b || is_color_code (code t)) (sym other) ∙ colon-code colon in
         color-by (drop 1 (numbers_of field)) color (colon-other t colon other)
-        (λ p. colon-read colon p
-        ∙ ap alone (color-parts (code t) (drop 1 (numbers_of field)) p color))
+        (λ p. grind (arith, cases_Bool, nat_tests, colon-read colon p, color))
   ]
 
   -- ---- a colour behind semicolons

@@ -31,6 +31,12 @@ enclosed line n start end =
     cond (length (start ++ end) == 0) (Slice line)
     (Built (take n line ++ start ++ drop n line ++ end))
 
+pub line-is : (indent line : List ℕ) (n : ℕ) (before : List (List ℕ)) (start end : List ℕ)
+    (view : Line) → n ≡ indent_end indent line → start ≡ opening before
+    → end ≡ closing (before ++ sequences (drop n line))
+    → view ≡ enclosed line n start end → view ≡ carried_line indent before line
+line-is indent line n before start end view is starts ends whole = cc
+
 -- one more of the lines
 pub carries-more : {Z : Type 0} (lines : List (CowStr Z)) (n : ℕ) (line added : CowStr Z)
     (indent later bytes text : List ℕ) (before : List (List ℕ)) (old new : List (CowStr Z))

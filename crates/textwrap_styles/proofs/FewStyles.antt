@@ -82,10 +82,6 @@ few-known before =
 
 -- ---- how many bytes they have
 
-settings-short : (t : List ℕ) (most : ℕ) → length t ≤ most → All (λ s. length s ≤ most) (settings t)
-settings-short t most short =
-    each-setting (λ s. length s ≤ most) t (λ k. omega (arith, short, first-len (drop k t), length-drop k t))
-
 -- written, a setting has three bytes more
 abbrev IsShort : ℕ → List ℕ → Type 0
 IsShort most s = length s + 3 ≤ most
@@ -103,7 +99,8 @@ sequence-short s most short =
     let text = style_parameters s in
     let len : length text ≤ length s - 3 = omega (arith, length-take (length s - 3) (drop 2 s)) in
     All-weaker (λ t. length t ≤ most - 3) (IsShort most) (λ t few. omega (arith, few, own, short))
-    (settings text) (settings-short text (most - 3) (omega (arith, len, own, short))))
+    (settings text) (each-setting (λ t. length t ≤ most - 3) text
+    (λ k. omega (arith, len, own, short, first-len (drop k text), length-drop k text))))
     (λ other. All-nil (IsShort most))
 
 all-short : (before : List (List ℕ)) (most : ℕ) → All (λ s. length s ≤ most) before

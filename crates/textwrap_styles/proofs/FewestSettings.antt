@@ -27,9 +27,6 @@ record Told (t : List ℕ) : Type 0 where
 sets-own : (k : ℕ) → sets k k ≡ true
 sets-own k = grind (arith, cases_Bool, nat_tests)
 
-sets-other : (k i : ℕ) → sets k i ≡ true → eqb i k ≡ false → ((k == 0) || (k == 3)) ≡ true
-sets-other k i is other = grind (arith, cases_Bool, nat_tests)
-
 -- a field differs after it as it set it, or as before
 module _ (t : List ℕ) (told : Told t) (p : Pen) (i : ℕ) where
   changed : differs_at (apply t p) i
@@ -48,7 +45,7 @@ module _ (t : List ℕ) (told : Told t) (p : Pen) (i : ℕ) where
   plain-stays other plain =
       let end = λ (known : is_unknown (kind_of t) ≡ false).
       (all-known t told.setting known).ends in
-      grind (arith, cases_Bool, changed, end, many-end t told.setting, sets-other, plain-differs i)
+      grind (arith, cases_Bool, changed, end, many-end t told.setting, nat_tests, plain-differs i)
 
 -- so settings of other kinds do
 run-plain : (ss : List (List ℕ)) (p : Pen) (i : ℕ) → All Told ss

@@ -53,20 +53,16 @@ kinds-apart : (later earlier : Kind) → takes_back later earlier ≡ false
 unfolding takes_back number
 kinds-apart later earlier other some one own i = grind (arith, cases_Bool, nat_tests)
 
-ending-code : (c : ℕ) → is_ending_code c ≡ true
+ending-code : (c : ℕ) → (is_ending_code c || (c == 4)) ≡ true
     → ((number (kind_of_code c) == 1) || (number (kind_of_code c) == 2)) ≡ false
 unfolding is_ending_code kind_of_code number
 ending-code c is = grind (arith, cases_Bool, nat_tests)
-
-four-kind : ((number (kind_of_code 4) == 1) || (number (kind_of_code 4) == 2)) ≡ false
-unfolding kind_of_code number
-four-kind = refl
 
 -- what ends something is of another kind than bold and faint
 end-kind : (t : List ℕ) → is_unknown (kind_of t) ≡ false → is_end t ≡ true
     → ((number (kind_of t) == 1) || (number (kind_of t) == 2)) ≡ false
 unfolding is_end
-end-kind t known end = grind (arith, cases_Bool, nat_tests, kind-code, ending-code, eqb-true, four-kind)
+end-kind t known end = grind (arith, cases_Bool, nat_tests, kind-code, ending-code)
 
 -- a known one
 module _ (s t : List ℕ) (first : IsSetting s) (second : IsSetting t) where

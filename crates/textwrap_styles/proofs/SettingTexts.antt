@@ -128,12 +128,11 @@ past-drop zero t = refl
 past-drop (suc n) [] = refl
 past-drop (suc n) (c ∷ cs) = past-drop n cs
 
-past-all : (n : ℕ) (t : List ℕ) → length t ≤ n → settings_past n t ≡ []
-past-all n t all = past-drop n t ∙ ap (settings_past 0) (drop_all n t all)
-
 pub settings-one : (s : List ℕ) → length s ≤ length (first_setting s)
     → settings s ≡ first_setting s ∷ []
-settings-one s all = ap (λ ss. first_setting s ∷ ss) (past-all (length (first_setting s)) s all)
+settings-one s all =
+    let n = length (first_setting s) in
+    ap (λ ss. first_setting s ∷ ss) (past-drop n s ∙ ap (settings_past 0) (drop_all n s all))
 
 pub settings-next : (s : List ℕ) → length (first_setting s) < length s
     → settings s ≡ first_setting s ∷ settings (drop (length (first_setting s) + 1) s)

@@ -44,11 +44,7 @@ pub among : (P : ℕ → Type 0) (c : ℕ) → is_color_code c ≡ true → P 38
 unfolding is_color_code
 among P c is a b d = grind (arith, cases_Bool, nat_tests, eqb-true)
 
--- none of them ends anything, and each sets its own field
-pub color-open : (c : ℕ) → is_color_code c ≡ true → is_ending_code c ≡ false
-unfolding is_ending_code
-color-open c is = among (λ c. is_ending_code c ≡ false) c is refl refl refl
-
+-- each of them sets its own field
 pub color-sets : (c : ℕ) (color : Color) → is_color_code c ≡ true → (p : Pen)
     → with_color c color p ≡ mix (sets (number (kind_of_code c))) (with_color c color plain_pen) p
 unfolding with_color kind_of_code number
@@ -282,6 +278,7 @@ module _ (t : List ℕ) (is : IsSetting t) (known : is_unknown (kind_of t) ≡ f
   color-of : (n : ℕ) → has_colon t ≡ false → is_color_code (code t) ≡ true
       → taken_fields t ≡ n + 1 → 1 ≤ n → length (fields n t) < length t
       → (length (between 0x3B rest) ≡ n → IsColor (between 0x3B rest)) → Known t
+  unfolding is_ending_code
   color-of n none color taken some more makes =
       let many = fields-many n t some more in
       let few = fields-few (n + 1) t (omega arith)
@@ -290,7 +287,7 @@ module _ (t : List ℕ) (is : IsSetting t) (known : is_unknown (kind_of t) ≡ f
       let len : length (between 0x3B t) ≡ length (between 0x3B rest) + 1 =
       ap length all ∙ omega arith in
       color-by (map (λ f. first_of (numbers_of f)) (between 0x3B rest)) color
-      (plain-end none ∙ color-open (code t) color)
+      (plain-end none ∙ among (λ c. is_ending_code c ≡ false) (code t) color refl refl refl)
       (λ p. ap (λ fs. fold with_field (alone p) (map numbers_of fs)) all
       ∙ ap (λ r. fold with_field r (map numbers_of (between 0x3B rest))) (color-first none color p)
       ∙ behind p (code t) (between 0x3B rest) (makes (omega arith)))

@@ -222,9 +222,6 @@ first-known : (t : List ℕ) → length (first_setting t) < length t
     → is_unknown (kind_of (first_setting t)) ≡ false
 first-known t more = grind (arith, nat_tests, first-fields t more, taken-known, taken-again)
 
-first-one : (t : List ℕ) → length t ≤ length (first_setting t) → first_setting t ≡ t
-first-one t all = sym (first-take t) ∙ take_all (length (first_setting t)) t all
-
 first-is : (t : List ℕ) → InRange t → length (first_setting t) < length t → IsSetting (first_setting t)
 first-is t range more =
     All-head IsSetting (first_setting t) (settings (drop (length (first_setting t) + 1) t))
@@ -239,10 +236,10 @@ first-read t range more p =
 
 settings-pen : (n : ℕ) (t : List ℕ) → length t ≤ n → InRange t → (p : Pen)
     → apply t p ≡ pen_by p (settings t)
-settings-pen zero t short range p = search (rules, arith, first-one, pen_by, settings-one)
+settings-pen zero t short range p = search (rules, arith, pen_by, settings-one)
 settings-pen (suc n) t short range p =
     let rest = settings-pen n in
-    search (rules, arith, rest, first-read, length-drop, drop-all, settings-next, first-one, settings-one)
+    search (rules, arith, rest, first-read, length-drop, drop-all, settings-next, settings-one)
 
 pub parameters-pen : (t : List ℕ) → InRange t → (p : Pen) → apply t p ≡ pen_by p (settings t)
 parameters-pen t = settings-pen (length t) t (omega arith)

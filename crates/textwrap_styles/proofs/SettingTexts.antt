@@ -128,11 +128,11 @@ past-drop zero t = refl
 past-drop (suc n) [] = refl
 past-drop (suc n) (c ∷ cs) = past-drop n cs
 
-pub settings-one : (s : List ℕ) → length s ≤ length (first_setting s)
-    → settings s ≡ first_setting s ∷ []
+pub settings-one : (s : List ℕ) → length s ≤ length (first_setting s) → settings s ≡ s ∷ []
 settings-one s all =
     let n = length (first_setting s) in
     ap (λ ss. first_setting s ∷ ss) (past-drop n s ∙ ap (settings_past 0) (drop_all n s all))
+    ∙ ap (λ f. f ∷ []) (sym (first-take s) ∙ take_all n s all)
 
 pub settings-next : (s : List ℕ) → length (first_setting s) < length s
     → settings s ≡ first_setting s ∷ settings (drop (length (first_setting s) + 1) s)

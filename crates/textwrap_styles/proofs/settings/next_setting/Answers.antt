@@ -11,13 +11,6 @@ next s first rest n is more front back =
     let own : n - 0 ≡ n = omega arith in
     grind (arith, settings-next, first-take, own)
 
--- where it takes all
-only : (s : List ℕ) (n : ℕ) → n ≡ length (first_setting s) → length s ≤ n → settings s ≡ s ∷ []
-only s n is all =
-    let own : first_setting s ≡ s =
-    sym (first-take s) ∙ take_all (length (first_setting s)) s (omega (arith, is, all)) in
-    settings-one s (omega (arith, is, all)) ∙ ap (λ f. f ∷ []) own
-
 pub returns-then-len-parameters-clause-settings : goal.returns-then-len-parameters-clause-settings
 returns-then-len-parameters-clause-settings c =
     next c.args.parameters.now c.range.result.now c.range_from.result.now c.first_len-len.result
@@ -31,6 +24,5 @@ returns-then-len-parameters-clause-rest c =
 
 pub returns-else-len-parameters-clause-settings : goal.returns-else-len-parameters-clause-settings
 returns-else-len-parameters-clause-settings c =
-    only c.args.parameters.now c.first_len-len.result
-    (c.first_len-len.ensures ∙ ap (λ s. length (first_setting s)) c.as_bytes.ensures.value)
-    c.if-len-parameters.false
+    let len = ap (λ s. length (first_setting s)) c.as_bytes.ensures.value in
+    settings-one c.args.parameters.now (omega (arith, len, c.first_len-len.ensures, c.if-len-parameters.false))

@@ -1,31 +1,27 @@
 -- Lines whose styles are carried: their bytes, what they show, and whole lines under indents.
-use Rattle.std.proofs.lemmas.List.Folds.{concat-append, flat_map-map}
-use Rattle.std.specs.{Cow.cow_str_bytes, declared.borrow.CowStr.CowStr}
+use Rattle.std.{proofs.lemmas.List.Folds.{concat-append, flat_map-map}, specs.Cow.cow_str_bytes}
+use Rattle.std.specs.declared.borrow.CowStr.{CowStr}
 use Rattle.textwrap_layout.proofs.Text.Lines.{line_bytes-line_view}
-use Rattle.textwrap_layout.specs.Paragraph.{Built, Line, Slice, line_bytes, line_view}
-use Rattle.textwrap_styles.proofs.Common.{IsWhole, Rendition, carried_lines, chars}
-use Rattle.textwrap_styles.proofs.Common.{closing, concat, fold-append, link_end}
-use Rattle.textwrap_styles.proofs.Common.{open_styles, penned_lines, penned_text, plain_rendition}
-use Rattle.textwrap_styles.proofs.Common.{rendition_of, sequence_of, sequences, style_end}
-use Rattle.textwrap_styles.proofs.{Common.with_sequence, PenStyles.ended, PenStyles.styles-pen}
-use Rattle.textwrap_styles.proofs.SequenceTexts.{IsSequence, closing-is, closing-sequences}
-use Rattle.textwrap_styles.proofs.SequenceTexts.{closing_sequences, nil-whole, parts-penned}
-use Rattle.textwrap_styles.proofs.SequenceTexts.{parts-sequences, parts-visible, penned-append}
-use Rattle.textwrap_styles.proofs.SequenceTexts.{text-sequences, text_units-append}
-use Rattle.textwrap_styles.proofs.{LinkIds.reopened-sequences, WrittenSettings.styles-sequences}
-use Rattle.textwrap_styles.specs.Indents.{after_indent, before_text, indent_end}
-use Rattle.textwrap_styles.specs.Penned.{penned_units}
+use Rattle.textwrap_layout.specs.Paragraph.{Built, Line, line_bytes, line_view, Slice}
+use Rattle.textwrap_styles.proofs.Common.{carried_lines, chars, closing, concat, fold-append, IsWhole}
+use Rattle.textwrap_styles.proofs.Common.{link_end, open_styles, penned_lines, penned_text, plain_rendition}
+use Rattle.textwrap_styles.proofs.Common.{Rendition, rendition_of, sequence_of, sequences, style_end}
+use Rattle.textwrap_styles.proofs.{Common.with_sequence, LinkIds.reopened-sequences}
+use Rattle.textwrap_styles.proofs.{PenStyles.{ended, styles-pen}, WrittenSettings.styles-sequences}
+use Rattle.textwrap_styles.proofs.SequenceTexts.{closing-is, closing-sequences, closing_sequences, IsSequence}
+use Rattle.textwrap_styles.proofs.SequenceTexts.{nil-whole, parts-penned, parts-sequences, parts-visible}
+use Rattle.textwrap_styles.proofs.SequenceTexts.{penned-append, text-sequences, text_units-append}
+use Rattle.textwrap_styles.specs.{Indents.{after_indent, before_text, indent_end}, Penned.penned_units}
 use Rattle.textwrap_styles.specs.Styled.{EachWithIndent, EndsPlain, IsWholeText, MayCarry}
 use Rattle.textwrap_styles.specs.Styles.{carried_line, opening, reopened_link, texts_of}
-use Rattle.textwrap_text.proofs.Common.{All, All-append, All-cons, All-drop, All-head, All-nil}
-use Rattle.textwrap_text.proofs.Common.{All-tail, All-weaker, IsUtf8, IsUtf8-drop, List, [], ap}
-use Rattle.textwrap_text.proofs.Common.{append-nil, append_assoc, arith, cases_Bool, chars-nil}
-use Rattle.textwrap_text.proofs.Common.{cond, drop, drop_at, drop_more, flat_map, fold, get_or, inl}
-use Rattle.textwrap_text.proofs.Common.{inr, length, length-append, map, map-append, nat_eq}
-use Rattle.textwrap_text.proofs.Common.{nat_tests, nil_from_length, refl, rules, starts_with, subst}
-use Rattle.textwrap_text.proofs.Common.{sym, take, take-append-drop, take_at, text_width, units, ℕ}
-use Rattle.textwrap_text.proofs.Common.{◌++◌, ◌+◌, ◌<◌, ◌==◌, ◌∙◌, ◌∷◌, ◌≡◌, ◌≤◌}
-use Rattle.textwrap_text.proofs.{Lists.Parts.starts_with-rest, Texts.StartsWith-boundary}
+use Rattle.textwrap_text.proofs.Common.{◌+◌, ◌++◌, ◌<◌, ◌==◌, [], All, All-append, All-cons, All-drop}
+use Rattle.textwrap_text.proofs.Common.{All-head, All-nil, All-tail, All-weaker, ap, append-nil, append_assoc}
+use Rattle.textwrap_text.proofs.Common.{arith, cases_Bool, chars-nil, cond, drop, drop_at, drop_more}
+use Rattle.textwrap_text.proofs.Common.{flat_map, fold, get_or, inl, inr, IsUtf8, IsUtf8-drop, length}
+use Rattle.textwrap_text.proofs.Common.{length-append, List, map, map-append, nat_eq, nat_tests}
+use Rattle.textwrap_text.proofs.Common.{nil_from_length, refl, rules, starts_with, subst, sym, take}
+use Rattle.textwrap_text.proofs.Common.{take-append-drop, take_at, text_width, units, ℕ, ◌∙◌, ◌∷◌, ◌≡◌, ◌≤◌}
+use Rattle.textwrap_text.proofs.{Lists.Parts.{all-right, starts_with-rest}, Texts.StartsWith-boundary}
 
 -- ---- one line more that sets anew what is open, and ends plain
 
@@ -34,15 +30,6 @@ abbrev enclosed : List ℕ → ℕ → List ℕ → List ℕ → Line
 enclosed line n start end =
     cond (length (start ++ end) == 0) (Slice line)
     (Built (take n line ++ start ++ drop n line ++ end))
-
-nothing-added : (start end front text : List ℕ) → length (start ++ end) ≡ 0
-    → front ++ text ≡ front ++ start ++ text ++ end
-nothing-added start end front text none =
-    grind (arith, append-nil, nil_from_length, length-append)
-
-parts-len : (front start text end line whole : List ℕ) → whole ≡ front ++ start ++ text ++ end
-    → front ++ text ≡ line → length whole ≡ length line + length start + length end
-parts-len front start text end line whole are own = grind (arith, length-append)
 
 pub line-is : (indent line : List ℕ) (n : ℕ) (before : List (List ℕ)) (start end : List ℕ)
     (view : Line) → n ≡ indent_end indent line → start ≡ opening before
@@ -72,10 +59,10 @@ carried-parts : (indent : List ℕ) (before : List (List ℕ)) (line : List ℕ)
     ≡ before_text indent line ++ opening before ++ after_indent indent line
     ++ closing (before ++ sequences (after_indent indent line))
 carried-parts indent before line =
-    grind (arith, nat_tests, nothing-added, take-append-drop (indent_end indent line) line)
+    let own = take-append-drop (indent_end indent line) line in
+    grind (arith, nat_tests, append-nil, nil_from_length, length-append, own)
 
-closing-short : (before : List (List ℕ))
-    → length (closing before) ≤ length style_end + length link_end
+closing-short : (before : List (List ℕ)) → length (closing before) ≤ length style_end + length link_end
 closing-short before = search (rules, arith)
 
 -- it is longer by what sets anew what is open, and what ends that, at most
@@ -83,12 +70,10 @@ pub carried-len : (indent : List ℕ) (before : List (List ℕ)) (line : List �
     → length (line_bytes (carried_line indent before line))
     ≤ length line + length (opening before) + length style_end + length link_end
 carried-len indent before line =
-    let text = after_indent indent line in
-    let len = parts-len (before_text indent line) (opening before) text
-    (closing (before ++ sequences text)) line _ (carried-parts indent before line)
-    (take-append-drop (indent_end indent line) line) in
-    let ends = closing-short (before ++ sequences text) in
-    omega (arith, len, ends)
+    let whole = carried-parts indent before line in
+    let own = take-append-drop (indent_end indent line) line in
+    let ends = closing-short (before ++ sequences (after_indent indent line)) in
+    grind (arith, length-append, whole, own, ends)
 
 pub carried-bytes : (indent : List ℕ) (before : List (List ℕ)) (line : List ℕ)
     → line_bytes (carried_line indent before line)
@@ -116,25 +101,22 @@ module _ (indent : List ℕ) (before : List (List ℕ)) (line : List ℕ) (are :
   all-starts : All IsSequence starts
   all-starts = search (rules, arith, All-append, reopened-sequences, styles-sequences)
 
-  all-ends : All IsSequence ends
-  all-ends = closing-sequences (before ++ sequences text)
-
   begun : rendition_of (sequences front ++ starts) ≡ rendition_of before
   begun = search (rules, arith, fold-append, styles-pen)
 
   pub carried-penned : penned_text plain_rendition (line_bytes (carried_line indent before line))
       ≡ penned_text plain_rendition front ++ penned_text (rendition_of before) text
-  carried-penned = search (rules, arith, carried-bytes, parts-penned, all-starts, all-ends, begun)
+  carried-penned = search (rules, arith, carried-bytes, parts-penned, all-starts, closing-sequences, begun)
 
   pub carried-plain : EndsPlain (line_bytes (carried_line indent before line))
   carried-plain =
-      let all = parts-sequences front text starts ends may.front may.text all-starts all-ends in
+      let all = parts-sequences front text starts ends may.front may.text all-starts (closing-sequences (before ++ sequences text)) in
       let end = ended (before ++ sequences text) in
       grind (arith, carried-bytes indent before line, all, fold-append, begun, end)
 
   pub carried-wide : text_width (line_bytes (carried_line indent before line)) ≡ text_width line
   carried-wide =
-      search (rules, arith, carried-bytes, parts-visible, all-starts, all-ends, take-append-drop)
+      search (rules, arith, carried-bytes, parts-visible, all-starts, closing-sequences, take-append-drop)
 
 -- ---- lines whose styles are carried, one after another
 
@@ -190,8 +172,7 @@ pub plain-stay : (indent later : List ℕ) (lines : List (List ℕ))
     → carried_lines indent later [] lines ≡ map Slice lines
 plain-stay indent later [] all = refl
 plain-stay indent later (line ∷ lines) (none, rest) =
-    let others = plain-stay later later lines (indented-later IsPlainLine later lines rest) in
-    grind (arith, none, others)
+    grind (arith, none, plain-stay later later lines (indented-later IsPlainLine later lines rest))
 
 nil-plain : EndsPlain []
 nil-plain = ap (λ cs. rendition_of (flat_map sequence_of (units cs))) chars-nil
@@ -199,15 +180,11 @@ nil-plain = ap (λ cs. rendition_of (flat_map sequence_of (units cs))) chars-nil
 -- what follows a whole text in one
 whole_text-rest : (xs ys : List ℕ) → IsWholeText xs → IsWholeText (xs ++ ys) → IsWholeText ys
 whole_text-rest xs ys front whole =
-    let n = length xs in
-    let same : drop n (xs ++ ys) ≡ ys = drop_at xs ys n refl in
-    let us = units (chars xs) in
-    let vs = units (chars ys) in (
-      subst IsUtf8 same (IsUtf8-drop (xs ++ ys) n whole.0
+    let n = length xs in (
+      subst IsUtf8 (drop_at xs ys n refl) (IsUtf8-drop (xs ++ ys) n whole.0
           (StartsWith-boundary (xs ++ ys) xs whole.0 front.0 (take_at xs ys n refl))),
-      subst (All IsWhole) (drop_at us vs (length us) refl)
-          (All-drop IsWhole (length us) (us ++ vs)
-          (subst (All IsWhole) (text_units-append xs ys front) whole.1)),
+      all-right IsWhole (units (chars xs)) (units (chars ys))
+          (subst (All IsWhole) (text_units-append xs ys front) whole.1),
     )
 
 may-carry : (indent line : List ℕ) → IsWholeText indent → EndsPlain indent
@@ -224,11 +201,7 @@ may-carry indent line own plain whole = elim (cases_Bool (starts_with nat_eq lin
         text = rw starts (whole_text-rest indent rest own (subst IsWholeText shape whole));
       }
   | inr other ↦
-      record {
-        front = rw other nil-whole;
-        plain = rw other nil-plain;
-        text = rw other whole;
-      }
+      record { front = rw other nil-whole; plain = rw other nil-plain; text = rw other whole }
 ]
 
 pub all-may_carry : (indent later : List ℕ) (lines : List (List ℕ)) → IsWholeText indent

@@ -1,109 +1,86 @@
 -- How many settings are open, and how many bytes set them anew.
-use Rattle.std.proofs.{Math.Nat.mul-le-mul_left, lemmas.Map.Steps.length-le_from_distinct_below}
-use Rattle.std.specs.List.{AllByRecursion, IsDistinct}
+use Rattle.std.{proofs.Math.Nat.mul-le-mul_left, proofs.lemmas.Cmp.nat_eq_equiv, specs.List.IsDistinct}
+use Rattle.std.proofs.lemmas.{List.Filters.length-filter_both, Map.Made.IsDistinct-from_count}
+use Rattle.std.{proofs.lemmas.Map.Steps.length-le_from_distinct_below, specs.Set.{is_member, unique_keys}}
 use Rattle.textwrap_layout.specs.Paragraph.{line_bytes}
-use Rattle.textwrap_styles.proofs.{CarriedLines.carried-len, Common.All-filter, Common.concat}
-use Rattle.textwrap_styles.proofs.Common.{has_target, is_link, is_style, kind_of, latest, link_end}
-use Rattle.textwrap_styles.proofs.Common.{open_link, open_settings, open_styles, settings}
-use Rattle.textwrap_styles.proofs.Common.{settings_of, style_end, style_parameters, written}
-use Rattle.textwrap_styles.proofs.OpenSettings.{Sets, all-latest, all-open, all-set, known-below}
-use Rattle.textwrap_styles.proofs.OpenSettings.{latest-in_effect, none-latest, resets}
-use Rattle.textwrap_styles.proofs.{LinkIds.reopened-len, SettingTexts.first-len}
+use Rattle.textwrap_styles.proofs.{CarriedLines.carried-len, Common.written, LinkIds.reopened-len}
+use Rattle.textwrap_styles.proofs.Common.{concat, is_style, kind_of, latest, link_end, open_settings}
+use Rattle.textwrap_styles.proofs.Common.{open_styles, settings, settings_of, style_end, style_parameters}
+use Rattle.textwrap_styles.proofs.OpenSettings.{all-open, all-set, known-below, Sets}
+use Rattle.textwrap_styles.proofs.{PenOpen.{AreLatest, open-latest}, Sequences.open_link-cases}
+use Rattle.textwrap_styles.proofs.SettingTexts.{each-setting, first-len}
 use Rattle.textwrap_styles.specs.Laws.{known_settings, unknown_settings}
-use Rattle.textwrap_styles.specs.Settings.{first_setting, is_unknown, number, replaces}
-use Rattle.textwrap_styles.specs.{Settings.settings_past, Settings.takes_back}
+use Rattle.textwrap_styles.specs.Settings.{is_unknown, number, replaces, takes_back}
 use Rattle.textwrap_styles.specs.Styles.{carried_line, reopened_link}
-use Rattle.textwrap_text.proofs.Common.{All, All-append, All-cons, All-head, All-nil, All-tail}
-use Rattle.textwrap_text.proofs.Common.{All-weaker, Bool, List, [], after_last, arith, cases_Bool}
-use Rattle.textwrap_text.proofs.Common.{codes, cond_both, drop, eqb, false, false_from_ne_true}
-use Rattle.textwrap_text.proofs.Common.{filter, flat_map, length, length-append, length-map}
-use Rattle.textwrap_text.proofs.Common.{length-take, list_any, map, nat_tests, not, refl, rules}
-use Rattle.textwrap_text.proofs.Common.{subst, suc, sym, true, true≢false, zero, ℕ, ◌*◌, ◌+◌, ◌-◌}
-use Rattle.textwrap_text.proofs.Common.{◌<◌, ◌==◌, ◌∙◌, ◌∷◌, ◌≡◌, ◌≤◌}
+use Rattle.textwrap_text.proofs.Common.{◌*◌, ◌+◌, ◌-◌, ◌<◌, [], All, All-append, All-head, All-nil, All-tail}
+use Rattle.textwrap_text.proofs.Common.{All-weaker, ap, arith, Bool, cases_Bool, codes, cond_both, drop, eqb}
+use Rattle.textwrap_text.proofs.Common.{false, false_from_ne_true, filter, flat_map, length, length-append}
+use Rattle.textwrap_text.proofs.Common.{length-drop, length-map, length-take, List, list_any, map, nat_tests}
+use Rattle.textwrap_text.proofs.Common.{not, refl, rules, subst, sym, true, true≢false, ℕ, ◌∷◌, ◌≡◌, ◌≤◌}
 
 -- ---- no two that the table knows are of one kind
 
-abbrev known : List ℕ → Bool
+abbrev pub known : List ℕ → Bool
 known s = not (is_unknown (kind_of s))
 
--- the place of a kind among those that can be open
-abbrev place : List ℕ → ℕ
-place s = number (kind_of s) - 1
+-- the kinds of some settings
+abbrev pub kinds : List (List ℕ) → List ℕ
+kinds ss = map (λ s. number (kind_of s)) ss
 
 -- a later one of the same kind takes one back
-numbers-same : (a b : ℕ) → (a == 0) ≡ false → (b == 0) ≡ false → eqb (a - 1) (b - 1) ≡ true
-    → (b == a) ≡ true
-numbers-same a b some more same = grind (arith, cases_Bool, nat_tests)
-
-replaces-same : (s t : List ℕ) → Sets s → Sets t → known t ≡ true
-    → eqb (place s) (place t) ≡ true → replaces t s ≡ true
+replaces-same : (s t : List ℕ) → known t ≡ true → eqb (number (kind_of s)) (number (kind_of t)) ≡ true
+    → replaces t s ≡ true
 unfolding replaces takes_back number
-replaces-same s t first second is same =
-    let one = numbers-same (number (kind_of s)) (number (kind_of t)) first second same in
-    grind (arith, cases_Bool, one, is)
+replaces-same s t is same = grind (arith, cases_Bool, nat_tests, is, same)
 
--- so the place of one is none of those of the later ones
-abbrev Others : List ℕ → List (List ℕ) → Type 0
-Others s ss = AllByRecursion (λ n. eqb (place s) n ≡ false) (map place (filter known ss))
+-- so the kind of one is none of those of the later ones that a test lets pass
+module _ (p : List ℕ → Bool) where
+  none-same : (s : List ℕ) (ss : List (List ℕ)) → list_any (λ t. replaces t s) ss ≡ false
+      → is_member eqb (kinds (filter p (filter known ss))) (number (kind_of s)) ≡ false
+  none-same s [] none = refl
+  none-same s (t ∷ ss) none = grind (arith, cases_Bool, nat_tests, replaces-same s t, none-same s ss)
 
-none-same : (s : List ℕ) (ss : List (List ℕ)) → Sets s → All Sets ss
-    → list_any (λ t. replaces t s) ss ≡ false → Others s ss
-none-same s [] sets all none = tt
-none-same s (t ∷ ss) sets all none =
-    let one : replaces t s ≡ false = grind (arith, cases_Bool) in
-    let rest : list_any (λ t. replaces t s) ss ≡ false = grind (arith, cases_Bool) in
-    let others = none-same s ss sets (All-tail Sets t ss all) rest in
-    cond_both (known t) (t ∷ filter known ss) (filter known ss)
-    (λ l. AllByRecursion (λ n. eqb (place s) n ≡ false) (map place l))
-    (λ is. (
-      false_from_ne_true (eqb (place s) (place t)) (λ same. true≢false
-          (sym (replaces-same s t sets (All-head Sets t ss all) is same) ∙ one)),
-      others,
-    )) (λ other. others)
+  kinds-once : (ss : List (List ℕ)) → AreLatest ss
+      → unique_keys eqb (kinds (filter p (filter known ss))) ≡ kinds (filter p (filter known ss))
+  kinds-once [] latest = refl
+  kinds-once (s ∷ ss) (none, latest) =
+      grind (arith, cases_Bool, none-same s ss none, kinds-once ss latest)
 
-places-distinct : (ss : List (List ℕ)) → All Sets ss
-    → IsDistinct eqb (map place (filter known (latest ss)))
-unfolding IsDistinct
-places-distinct [] all = tt
-places-distinct (s ∷ ss) all =
-    let others = places-distinct ss (All-tail Sets s ss all) in
-    let left = filter known (latest ss) in
-    cond_both (list_any (λ t. replaces t s) ss) (latest ss) (s ∷ latest ss)
-    (λ l. IsDistinct eqb (map place (filter known l))) (λ is. others)
-    (λ is. cond_both (known s) (s ∷ left) left (λ l. IsDistinct eqb (map place l))
-    (λ other. (
-      none-same s (latest ss) (All-head Sets s ss all)
-          (all-latest Sets ss (All-tail Sets s ss all)) (none-latest (λ t. replaces t s) ss is),
-      others,
-    )) (λ other. others))
+  pub kinds-distinct : (ss : List (List ℕ)) → AreLatest ss
+      → IsDistinct eqb (kinds (filter p (filter known ss)))
+  kinds-distinct ss latest =
+      IsDistinct-from_count nat_eq_equiv (kinds (filter p (filter known ss)))
+      (ap length (kinds-once ss latest))
 
-places-below : (ss : List (List ℕ)) (q : ℕ)
-    → list_any (eqb q) (map place (filter known ss)) ≡ true → q < 15
-places-below [] q is = absurd (true≢false (sym is))
-places-below (s ∷ ss) q is = search (rules, arith, places-below ss q, known-below)
+all-pass : (ss : List (List ℕ)) → filter (λ s. true) ss ≡ ss
+all-pass [] = refl
+all-pass (s ∷ ss) = ap (λ l. s ∷ l) (all-pass ss)
+
+-- the kinds are those from 1 to 15
+kinds-range : (ss : List (List ℕ)) (q : ℕ) → All Sets ss
+    → list_any (eqb q) (kinds (filter known ss)) ≡ true → (0 < q) × (q < 16)
+unfolding number
+kinds-range [] q all is = absurd (true≢false (sym is))
+kinds-range (s ∷ ss) q all is =
+    let own = All-head Sets s ss all in
+    grind (arith, cases_Bool, nat_tests, own, known-below, kinds-range ss q (All-tail Sets s ss all))
 
 pub few-known : (before : List (List ℕ)) → length (known_settings before) ≤ 15
 few-known before =
     let all = flat_map settings_of before in
     let now = open_settings all in
-    let distinct = subst (λ ss. IsDistinct eqb (map place (filter known ss)))
-    (latest-in_effect (after_last resets all)) (places-distinct now (all-set all)) in
-    let most = length-le_from_distinct_below (map place (filter known now)) 15 distinct
-    (places-below now) in
-    omega (arith, most, length-map (filter known now) place)
+    let kept = kinds (filter known now) in
+    let range = λ (q : ℕ). kinds-range now q (all-set all) in
+    let once = subst (λ ss. unique_keys eqb (kinds ss) ≡ kinds ss) (all-pass (filter known now))
+    (kinds-once (λ s. true) now (open-latest all)) in
+    let other : is_member eqb kept 0 ≡ false =
+    false_from_ne_true (is_member eqb kept 0) (λ is. omega (arith, range 0 is)) in
+    let distinct = IsDistinct-from_count nat_eq_equiv (0 ∷ kept) (grind (arith, cases_Bool, other, once)) in
+    let most = length-le_from_distinct_below (0 ∷ kept) 16 distinct
+    (λ q is. grind (arith, cases_Bool, nat_tests, range q, is)) in
+    omega (arith, most, length-map (filter known now) (λ s. number (kind_of s)))
 
 -- ---- how many bytes they have
-
-past-short : (n : ℕ) (t : List ℕ) (most : ℕ) → length t ≤ most
-    → All (λ s. length s ≤ most) (settings_past n t)
-past-short n [] most short = All-nil (λ s. length s ≤ most)
-past-short zero (c ∷ cs) most short =
-    search (rules, arith, All-cons, first-len, past-short (length (first_setting cs)) cs)
-past-short (suc n) (c ∷ cs) most short = past-short n cs most (omega (arith, short))
-
-settings-short : (t : List ℕ) (most : ℕ) → length t ≤ most
-    → All (λ s. length s ≤ most) (settings t)
-settings-short t most short = search (rules, arith, All-cons, first-len, past-short)
 
 -- written, a setting has three bytes more
 abbrev IsShort : ℕ → List ℕ → Type 0
@@ -122,7 +99,8 @@ sequence-short s most short =
     let text = style_parameters s in
     let len : length text ≤ length s - 3 = omega (arith, length-take (length s - 3) (drop 2 s)) in
     All-weaker (λ t. length t ≤ most - 3) (IsShort most) (λ t few. omega (arith, few, own, short))
-    (settings text) (settings-short text (most - 3) (omega (arith, len, own, short))))
+    (settings text) (each-setting (λ t. length t ≤ most - 3) text
+    (λ k. omega (arith, len, own, short, first-len (drop k text), length-drop k text))))
     (λ other. All-nil (IsShort most))
 
 all-short : (before : List (List ℕ)) (most : ℕ) → All (λ s. length s ≤ most) before
@@ -137,29 +115,12 @@ written-bytes [] most short = omega arith
 written-bytes (s ∷ ss) most short =
     let one : length s + 3 ≤ most = All-head (IsShort most) s ss short in
     let others = written-bytes ss most (All-tail (IsShort most) s ss short) in
-    let len = length-append (written s) (concat (map written ss)) in
     let own : length (written s) ≡ length s + 3 =
     omega (arith, length-append s (codes "m")) in
-    omega (arith, one, others, len, own)
+    omega (arith, one, others, length-append (written s) (concat (map written ss)), own)
 
--- those that the table knows, and the others
-both-kinds : (ss : List (List ℕ)) → length ss
-    ≡ length (filter known ss) + length (filter (λ s. is_unknown (kind_of s)) ss)
-both-kinds [] = refl
-both-kinds (s ∷ ss) = grind (arith, cases_Bool, both-kinds ss)
-
--- the last of some, if it passes
-last-bytes : (p : List ℕ → Bool) (ss : List (List ℕ)) (most : ℕ)
-    → All (λ s. length s ≤ most) ss
-    → length (concat (filter p (drop (length ss - 1) ss))) ≤ most
-last-bytes p [] most short = omega arith
-last-bytes p (s ∷ []) most short =
-    let one = All-head (λ s. length s ≤ most) s [] short in
-    grind (arith, cases_Bool, length-append s [], one)
-last-bytes p (s ∷ t ∷ ss) most short =
-    let others = last-bytes p (t ∷ ss) most (All-tail (λ s. length s ≤ most) s (t ∷ ss) short) in
-    let next : length (s ∷ t ∷ ss) - 1 ≡ suc (length (t ∷ ss) - 1) = omega arith in
-    subst (λ n. length (concat (filter p (drop n (s ∷ t ∷ ss)))) ≤ most) (sym next) others
+unknown : (s : List ℕ) → is_unknown (kind_of s) ≡ not (known s)
+unknown s = grind (arith, cases_Bool)
 
 pub styles-short : (indent : List ℕ) (before : List (List ℕ)) (line : List ℕ) (most : ℕ)
     → All (λ s. length s ≤ most) before
@@ -171,12 +132,10 @@ styles-short indent before line most short =
     let now = open_settings all in
     let line_len = carried-len indent before line in
     let len = length-append (concat (reopened_link before)) (concat (open_styles before)) in
-    let anew = reopened-len before in
-    let link = last-bytes has_target (filter is_link before) most
-    (All-filter is_link (λ s. length s ≤ most) before short) in
+    let link = open_link-cases (λ s. length s ≤ most) (λ ls. length (concat ls) ≤ most) before short
+    (omega arith) (λ s is few. omega (arith, few, length-append s [])) in
     let styles = written-bytes now most (all-open (IsShort most) all (all-short before most short))
     in
     let count : length now ≤ 15 + length (unknown_settings before) =
-    omega (arith, both-kinds now, few-known before) in
-    let product = mul-le-mul_left most count in
-    omega (arith, line_len, len, anew, link, styles, product)
+    omega (arith, length-filter_both known (λ s. is_unknown (kind_of s)) unknown now, few-known before) in
+    omega (arith, line_len, len, reopened-len before, link, styles, mul-le-mul_left most count)

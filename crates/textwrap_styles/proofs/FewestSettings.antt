@@ -1,27 +1,20 @@
 -- No fewer settings give a pen than those that are open: each of these leaves the field of its kind
 -- unlike that of the plain pen, and one setting does so to one field alone.
-use Rattle.std.proofs.lemmas.{Bool.true_from_ne_false, Cmp.nat_eq_equiv}
-use Rattle.std.proofs.lemmas.Map.Made.{IsDistinct-from_count, length-le_from_is_member}
-use Rattle.std.specs.Set.{is_member, unique_keys}
-use Rattle.textwrap_styles.proofs.Common.{Pen, Rendition, apply, in_effect, kind_of, latest}
-use Rattle.textwrap_styles.proofs.Common.{open_settings, plain_pen, plain_rendition, settings_of}
-use Rattle.textwrap_styles.proofs.Common.{with_sequence}
-use Rattle.textwrap_styles.proofs.OpenSettings.{Sets, all-open, all-set, known-below}
-use Rattle.textwrap_styles.proofs.OpenSettings.{latest-in_effect, resets, unknown-number}
+use Rattle.std.proofs.lemmas.{Bool.true_from_ne_false, Cmp.nat_eq_equiv, Map.Made.length-le_from_is_member}
+use Rattle.std.specs.Set.{is_member}
+use Rattle.textwrap_styles.proofs.Common.{apply, in_effect, kind_of, latest, open_settings, Pen, plain_pen}
+use Rattle.textwrap_styles.proofs.{Common.{plain_rendition, settings_of}, PenSettings.{all-known, many-end}}
+use Rattle.textwrap_styles.proofs.{FewStyles.{kinds, kinds-distinct, known}, PenStyles.all-given}
+use Rattle.textwrap_styles.proofs.OpenSettings.{all-open, all-set, known-below, resets, Sets, unknown-number}
 use Rattle.textwrap_styles.proofs.PenCodes.{differs_at, mix-differs, plain-differs, sets}
-use Rattle.textwrap_styles.proofs.PenOpen.{AreLatest, are-latest, open-pen, parameters-pen, pen_by}
-use Rattle.textwrap_styles.proofs.PenOpen.{run-append}
-use Rattle.textwrap_styles.proofs.PenSettings.{all-known, many-end}
-use Rattle.textwrap_styles.proofs.SettingTexts.{IsSetting}
+use Rattle.textwrap_styles.proofs.{PenOpen.{AreLatest, open-latest, open-pen, pen_by}, SettingTexts.IsSetting}
 use Rattle.textwrap_styles.proofs.WrittenSettings.{all-settings}
-use Rattle.textwrap_styles.specs.Laws.{NothingIfUnknown, NothingShorterGivesThePen}
-use Rattle.textwrap_styles.specs.{Laws.OpenStylesAreSetters, Penned.with_style}
+use Rattle.textwrap_styles.specs.Laws.{NothingIfUnknown, NothingShorterGivesThePen, OpenStylesAreSetters}
 use Rattle.textwrap_styles.specs.Settings.{is_end, is_unknown, number, replaces, takes_back}
-use Rattle.textwrap_text.proofs.Common.{All, All-head, All-tail, List, [], after_last, ap, arith}
-use Rattle.textwrap_text.proofs.Common.{cases_Bool, cond, eqb, eqb-true, false}
-use Rattle.textwrap_text.proofs.Common.{filter, flat_map, fold, inl, inr, length, length-map}
-use Rattle.textwrap_text.proofs.Common.{list_any, map, nat_tests, not, refl, rules, subst, sym}
-use Rattle.textwrap_text.proofs.Common.{true, true≢false, ℕ, ◌&&◌, ◌==◌, ◌||◌, ◌∙◌, ◌∷◌, ◌≡◌}
+use Rattle.textwrap_text.proofs.Common.{◌&&◌, ◌==◌, [], after_last, All, All-head, All-tail, ap, arith}
+use Rattle.textwrap_text.proofs.Common.{cases_Bool, cond, eqb, eqb-true, false, filter, flat_map, inl, inr}
+use Rattle.textwrap_text.proofs.Common.{length-map, List, list_any, nat_tests, not, refl, sym, true}
+use Rattle.textwrap_text.proofs.Common.{true≢false, ◌||◌, ℕ, ◌∙◌, ◌∷◌, ◌≡◌}
 
 -- ---- the fields of a pen that are not plain
 
@@ -33,9 +26,6 @@ record Told (t : List ℕ) : Type 0 where
 -- a kind sets its own field, and others only if it ends something
 sets-own : (k : ℕ) → sets k k ≡ true
 sets-own k = grind (arith, cases_Bool, nat_tests)
-
-sets-other : (k i : ℕ) → sets k i ≡ true → eqb i k ≡ false → ((k == 0) || (k == 3)) ≡ true
-sets-other k i is other = grind (arith, cases_Bool, nat_tests)
 
 -- a field differs after it as it set it, or as before
 module _ (t : List ℕ) (told : Told t) (p : Pen) (i : ℕ) where
@@ -55,11 +45,7 @@ module _ (t : List ℕ) (told : Told t) (p : Pen) (i : ℕ) where
   plain-stays other plain =
       let end = λ (known : is_unknown (kind_of t) ≡ false).
       (all-known t told.setting known).ends in
-      grind (arith, cases_Bool, changed, end, many-end t told.setting, sets-other, plain-differs i)
-
--- the kinds of some settings
-abbrev kinds : List (List ℕ) → List ℕ
-kinds ss = map (λ s. number (kind_of s)) ss
+      grind (arith, cases_Bool, changed, end, many-end t told.setting, nat_tests, plain-differs i)
 
 -- so settings of other kinds do
 run-plain : (ss : List (List ℕ)) (p : Pen) (i : ℕ) → All Told ss
@@ -78,7 +64,7 @@ record Open (t : List ℕ) : Type 0 where
   sets : Sets t
 
 abbrev setters_of : List (List ℕ) → List (List ℕ)
-setters_of ss = filter (λ s. not (is_end s)) (filter (λ s. not (is_unknown (kind_of s))) ss)
+setters_of ss = filter (λ s. not (is_end s)) (filter known ss)
 
 -- what does not take back a setting leaves its field
 apart : (t s : List ℕ) → Sets t → is_unknown (kind_of s) ≡ false → replaces t s ≡ false
@@ -92,9 +78,8 @@ run-stays : (s : List ℕ) (ss : List (List ℕ)) (p : Pen) → is_unknown (kind
 run-stays s [] p known are none = refl
 run-stays s (t ∷ ss) p known are none =
     let own = All-head Open t ss are in
-    let one = changed t own.told p (number (kind_of s)) in
     let rest = run-stays s ss (apply t p) known (All-tail Open t ss are) in
-    grind (arith, cases_Bool, one, apart t s own.sets known, rest)
+    grind (arith, cases_Bool, changed t own.told p (number (kind_of s)), apart t s own.sets known, rest)
 
 -- the field of each differs
 each-differs : (ss : List (List ℕ)) (p : Pen) (i : ℕ) → All Open ss → AreLatest ss
@@ -104,34 +89,11 @@ each-differs (s ∷ ss) p i are (none, latest) is =
     let own = (All-head Open s ss are).told in
     let rest = All-tail Open s ss are in
     let kind = number (kind_of s) in
-    let others = each-differs ss (apply s p) i rest latest in
     let differs = λ (known : is_unknown (kind_of s) ≡ false) (stays : is_end s ≡ false).
     run-stays s ss (apply s p) known rest none
     ∙ (rw (known, sets-own) at (changed s own p kind))
     ∙ (all-known s own.setting known).differs stays in
-    grind (arith, cases_Bool, nat_tests, others, differs, eqb-true)
-
--- so no two are of one kind
-kinds-once : (ss : List (List ℕ)) → All Open ss → AreLatest ss
-    → unique_keys eqb (kinds (setters_of ss)) ≡ kinds (setters_of ss)
-kinds-once [] are latest = refl
-kinds-once (s ∷ ss) are (none, latest) =
-    let kind = number (kind_of s) in
-    let rest = All-tail Open s ss are in
-    let other = each-differs ss plain_pen kind rest latest in
-    let stays = λ (known : is_unknown (kind_of s) ≡ false).
-    run-stays s ss plain_pen known rest none ∙ plain-differs kind in
-    grind (arith, cases_Bool, other, stays, kinds-once ss rest latest)
-
--- ---- the pen of sequences is that of their settings
-
-given : (s : List ℕ) (p : Pen) → with_style p s ≡ pen_by p (settings_of s)
-given s p = search (rules, arith, pen_by, parameters-pen)
-
-all-given : (ss : List (List ℕ)) (now : Rendition)
-    → (fold with_sequence now ss).pen ≡ pen_by now.pen (flat_map settings_of ss)
-all-given [] now = refl
-all-given (s ∷ ss) now = grind (arith, given, all-given ss (with_sequence now s), run-append)
+    grind (arith, cases_Bool, nat_tests, each-differs ss (apply s p) i rest latest, differs, eqb-true)
 
 -- ---- the laws
 
@@ -158,12 +120,11 @@ fewest before others nothing more same =
     } in
     let told : All Told rest =
     λ k d within. record { setting = all-settings others k d within; nothing = more k d within } in
-    let latest = subst AreLatest (latest-in_effect (after_last resets all)) (are-latest now) in
+    let latest = open-latest all in
     let pens : pen_by plain_pen now ≡ pen_by plain_pen rest =
     open-pen all is ∙ sym (all-given before plain_rendition) ∙ sym same
     ∙ all-given others plain_rendition in
-    let once = IsDistinct-from_count nat_eq_equiv (kinds (setters_of now))
-    (ap length (kinds-once now are latest)) in
+    let once = kinds-distinct (λ s. not (is_end s)) now latest in
     let most = length-le_from_is_member nat_eq_equiv (kinds (setters_of now)) (kinds rest) once
     (λ i set. true_from_ne_false (is_member eqb (kinds rest) i) (λ none.
     true≢false (sym (each-differs now plain_pen i are latest set) ∙ ap (λ p. differs_at p i) pens

@@ -4,6 +4,7 @@ pub mod CarriedLines
 pub mod FewStyles
 pub mod FewestSettings
 pub mod LinkIds
+pub mod LinkParameters
 pub mod OpenSettings
 pub mod SettingTexts
 pub mod WrittenSettings

@@ -2,26 +2,21 @@
 -- once more, and what holds of each of them.
 use Rattle.std.proofs.lemmas.{List.Folds.list_any-append, Slice.Eq.bytes_eq-Decides}
 use Rattle.std.specs.Str.{bytes_eq}
-use Rattle.textwrap_styles.proofs.Common.{All-filter, Kind, Reset, in_effect, kind_of, latest}
-use Rattle.textwrap_styles.proofs.Common.{open_settings}
+use Rattle.textwrap_styles.proofs.Common.{in_effect, Kind, kind_of, latest, open_settings, Reset}
 use Rattle.textwrap_styles.specs.Settings.{is_unknown, number, replaces, takes_back}
-use Rattle.textwrap_text.proofs.Common.{All, All-append, All-cons, All-drop, All-head, All-nil}
-use Rattle.textwrap_text.proofs.Common.{All-tail, Bool, Bor, List, [], ap, append-nil, append_assoc}
-use Rattle.textwrap_text.proofs.Common.{arith, cases_Bool, cond, cond_both, false, filter, fold}
-use Rattle.textwrap_text.proofs.Common.{list_any, map, nat_tests, not, refl, rules, subst, sym}
-use Rattle.textwrap_text.proofs.Common.{true, ℕ, ◌&&◌, ◌++◌, ◌<◌, ◌==◌, ◌||◌, ◌∙◌, ◌∷◌, ◌≡◌}
-use Rattle.textwrap_text.proofs.Lists.Parts.{after_last-push}
+use Rattle.textwrap_text.proofs.Common.{◌&&◌, ◌++◌, ◌<◌, ◌==◌, [], after_last, All, All-append, All-cons}
+use Rattle.textwrap_text.proofs.Common.{All-drop, All-head, All-nil, All-tail, ap, append-nil, append_assoc}
+use Rattle.textwrap_text.proofs.Common.{arith, Bool, Bor, cases_Bool, cond, cond_both, false, filter, fold}
+use Rattle.textwrap_text.proofs.Common.{List, list_any, map, nat_tests, not, refl, rules, sym, true, ◌||◌, ℕ}
+use Rattle.textwrap_text.proofs.{Common.{◌∙◌, ◌∷◌, ◌≡◌}, Lists.Parts.after_last-push}
 
 pub unknown-number : (k : Kind) → is_unknown k ≡ (number k == 16)
 unfolding is_unknown number
 unknown-number _ = grind (arith, cases_Bool, nat_tests)
 
-number-most : (k : Kind) → number k < 17
-unfolding number
-number-most _ = grind (arith, cases_Bool, nat_tests)
-
 pub known-below : (k : Kind) → is_unknown k ≡ false → number k < 16
-known-below k known = grind (arith, cases_Bool, nat_tests, unknown-number, number-most)
+unfolding is_unknown number
+known-below _ known = grind (arith, cases_Bool, nat_tests)
 
 pub unknown-other : (k : Kind) (n : ℕ) → is_unknown k ≡ true → n < 16 → (number k == n) ≡ false
 unknown-other k n unknown below = grind (arith, cases_Bool, nat_tests, unknown-number)
@@ -39,16 +34,11 @@ any-or f g false [] = refl
 any-or f g b (x ∷ xs) = grind (arith, cases_Bool, any-or f g b xs)
 
 -- one that is known is taken back by its kind, and bold and faint by both
-numbers-known : (a b : ℕ) → b < 16
-    → (not (a == 16) && ((a == b) || (a == 3) && ((b == 1) || (b == 2))))
-    ≡ ((a == b) || ((b == 1) || (b == 2)) && (a == 3))
-numbers-known a b known = grind (arith, cases_Bool, nat_tests)
-
 takes_back-known : (j k : Kind) → is_unknown k ≡ false
     → (not (is_unknown j) && takes_back j k)
     ≡ ((number j == number k) || ((number k == 1) || (number k == 2)) && (number j == 3))
 unfolding takes_back number
-takes_back-known j k known = search (rules, arith, unknown-number, numbers-known, known-below)
+takes_back-known j k known = grind (arith, cases_Bool, nat_tests, unknown-number, known-below)
 
 pub any-known : (k : Kind) (later : List (List ℕ)) → is_unknown k ≡ false
     → list_any (λ t. not (is_unknown (kind_of t)) && takes_back (kind_of t) k) later
@@ -57,14 +47,10 @@ pub any-known : (k : Kind) (later : List (List ℕ)) → is_unknown k ≡ false
 any-known k later known = search (rules, arith, any-same, takes_back-known, any-or)
 
 -- one that is unknown is taken back by the same
-numbers-unknown : (a b : ℕ) → (b == 16) ≡ true → (a == 16) ≡ false
-    → ((a == b) || (a == 3) && ((b == 1) || (b == 2))) ≡ false
-numbers-unknown a b unknown known = grind (arith, cases_Bool, nat_tests)
-
 replaces-unknown : (t s : List ℕ) → is_unknown (kind_of s) ≡ true
     → replaces t s ≡ (is_unknown (kind_of t) && bytes_eq t s)
 unfolding replaces takes_back number
-replaces-unknown t s unknown = grind (arith, cases_Bool, nat_tests, numbers-unknown, unknown-number)
+replaces-unknown t s unknown = grind (arith, cases_Bool, nat_tests, unknown-number)
 
 replaces-known : (t s : List ℕ) → is_unknown (kind_of s) ≡ false
     → replaces t s ≡ (not (is_unknown (kind_of t)) && takes_back (kind_of t) (kind_of s))
@@ -94,14 +80,6 @@ pub after-more : (now : List (List ℕ) → List (List ℕ))
 after-more now next push before [] = ap now (append-nil before)
 after-more now next push before (s ∷ more) =
     search (rules, arith, after-more now next push (before ++ s ∷ []) more, append_assoc)
-
--- what each step keeps, all keep
-fold-keeps : (P : List (List ℕ) → Type 0) (next : List (List ℕ) → List ℕ → List (List ℕ))
-    → ((now : List (List ℕ)) (s : List ℕ) → P now → P (next now s))
-    → (before now : List (List ℕ)) → P now → P (fold next now before)
-fold-keeps P next step [] now kept = kept
-fold-keeps P next step (s ∷ before) now kept =
-    fold-keeps P next step before (next now s) (step now s kept)
 
 -- those that this setting does not take back
 abbrev pub not_replaced : List ℕ → List (List ℕ) → List (List ℕ)
@@ -141,8 +119,7 @@ in_effect-filter p t [] = refl
 in_effect-filter p t (s ∷ ss) = grind (arith, cases_Bool, in_effect-filter p t ss)
 
 -- the latest of those in effect are all
-pub latest-in_effect : (ss : List (List ℕ))
-    → latest (in_effect (latest ss)) ≡ in_effect (latest ss)
+pub latest-in_effect : (ss : List (List ℕ)) → latest (in_effect (latest ss)) ≡ in_effect (latest ss)
 latest-in_effect [] = refl
 latest-in_effect (s ∷ ss) =
     search (rules, arith, latest-in_effect ss, latest-again, none-latest, none-in_effect)
@@ -192,25 +169,31 @@ pub all-open : (P : List ℕ → Type 0) (before : List (List ℕ)) → All P be
     → All P (open_settings before)
 all-open P before all = search (rules, arith, all-in_effect, all-latest, All-drop)
 
-next-sets : (now : List (List ℕ)) (t : List ℕ) → All Sets now → All Sets (next_settings now t)
-next-sets now t are = cond_both (resets t) [] (with_setting now t) (All Sets) (λ is. All-nil Sets)
-    (λ is. all-in_effect Sets (not_replaced t now ++ t ∷ [])
-    (All-append Sets (not_replaced t now) (t ∷ [])
-    (All-filter (λ s. not (replaces t s)) Sets now are) (All-cons Sets t [] is (All-nil Sets))))
+-- since all were taken back, none takes back all
+abbrev pub next_left : List (List ℕ) → List ℕ → List (List ℕ)
+next_left ss t = cond (resets t) [] (ss ++ t ∷ [])
+
+pub left-after : (before : List (List ℕ)) → after_last resets before ≡ fold next_left [] before
+left-after before = after-more (after_last resets) next_left (after_last-push resets) [] before
+
+pub all-since : (before : List (List ℕ)) → All Sets (after_last resets before)
+all-since before = rw (left-after before) (since before [] (All-nil Sets))
+  where
+    since : (more ss : List (List ℕ)) → All Sets ss → All Sets (fold next_left ss more)
+    since [] ss are = are
+    since (t ∷ more) ss are =
+        since more (next_left ss t) (cond_both (resets t) [] (ss ++ t ∷ []) (All Sets) (λ is. All-nil Sets)
+        (λ is. All-append Sets ss (t ∷ []) are (All-cons Sets t [] is (All-nil Sets))))
 
 pub all-set : (before : List (List ℕ)) → All Sets (open_settings before)
-all-set before =
-    subst (All Sets) (sym (after-more open_settings next_settings open_settings-push [] before))
-    (fold-keeps (All Sets) next_settings next-sets before [] (All-nil Sets))
+all-set before = search (rules, all-in_effect, all-latest, all-since)
 
 set-again : (first more : List (List ℕ)) → All Sets more
     → fold next_settings (in_effect (latest first)) more ≡ in_effect (latest (first ++ more))
 set-again first [] are = ap (λ ss. in_effect (latest ss)) (sym (append-nil first))
 set-again first (t ∷ more) are =
-    let is = All-head Sets t more are in
     let others = set-again (first ++ t ∷ []) more (All-tail Sets t more are) in
-    let one = effect-push first t in
-    grind (arith, append_assoc, one, is, others)
+    grind (arith, append_assoc, effect-push first t, All-head Sets t more are, others)
 
 -- where none was open, and these are set anew
 pub settings-again : (front before : List (List ℕ)) → open_settings front ≡ []

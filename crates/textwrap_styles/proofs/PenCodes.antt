@@ -1,14 +1,13 @@
 -- What parameters do to a pen: they set some fields to values of their own and leave the others. So
 -- which numbers the table has to know, and which of them end something.
-use Rattle.textwrap_styles.proofs.Common.{Color, Pen, apply, between, first_of, numbers_of}
-use Rattle.textwrap_styles.proofs.Common.{plain_pen}
-use Rattle.textwrap_styles.specs.Pen.{Own, Reading, color_of, is_whole_color, with_code, with_color}
-use Rattle.textwrap_styles.specs.{Pen.with_field, Pen.with_parts, Settings.is_color_code}
-use Rattle.textwrap_styles.specs.Settings.{is_ending_code, is_unknown, kind_of_code, number}
-use Rattle.textwrap_text.proofs.Common.{Bool, List, [], ap, arith, cases_Bool, cases_lt, cond, drop}
-use Rattle.textwrap_text.proofs.Common.{eqb-true, false, fold, inl, inr, length, map, nat_tests}
-use Rattle.textwrap_text.proofs.Common.{not, refl, subst, suc, sym, true, true≢false, zero, ℕ, ⊤}
-use Rattle.textwrap_text.proofs.Common.{◌&&◌, ◌++◌, ◌+◌, ◌<◌, ◌==◌, ◌||◌, ◌∙◌, ◌∷◌, ◌≡◌, ◌≢◌, ◌≤◌}
+use Rattle.textwrap_styles.proofs.Common.{apply, between, Color, first_of, numbers_of, Pen, plain_pen}
+use Rattle.textwrap_styles.specs.Pen.{color_of, is_whole_color, Own, Reading, with_code, with_color}
+use Rattle.textwrap_styles.specs.Pen.{with_field, with_parts}
+use Rattle.textwrap_styles.specs.Settings.{is_color_code, is_ending_code, is_unknown, kind_of_code, number}
+use Rattle.textwrap_text.proofs.Common.{◌&&◌, ◌+◌, ◌++◌, ◌<◌, ◌==◌, [], ap, arith, Bool, cases_Bool, cases_lt}
+use Rattle.textwrap_text.proofs.Common.{cond, drop, eqb-true, false, fold, inl, inr, length, List, map}
+use Rattle.textwrap_text.proofs.Common.{nat_tests, not, refl, subst, suc, sym, true, true≢false, zero, ◌||◌}
+use Rattle.textwrap_text.proofs.Common.{ℕ, ◌∙◌, ◌∷◌, ◌≡◌, ◌≢◌, ◌≤◌, ⊤}
 
 -- ---- a pen that takes some of its fields from one pen and the others from another
 
@@ -50,8 +49,7 @@ module _ {X : Type 0} (b c : Bool) (v w p : X) where
 pub mix-again : (m n : Mask) (v w p : Pen) → mix m v (mix n w (mix m v p)) ≡ mix m v (mix n w p)
 mix-again m n v w p = simp pick-again
 
-pub mix-both : (m n : Mask) (v w p : Pen)
-    → mix m v (mix n w p) ≡ mix (λ i. m i || n i) (mix m v w) p
+pub mix-both : (m n : Mask) (v w p : Pen) → mix m v (mix n w p) ≡ mix (λ i. m i || n i) (mix m v w) p
 mix-both m n v w p = simp pick-both
 
 pub mix-within : (m n : Mask) (v w p : Pen) → ((i : ℕ) → (m i || n i) ≡ m i)
@@ -155,8 +153,7 @@ mix-differs m v p i =
 
 -- what the table does not know does nothing
 pub unknown-nothing : (c : ℕ) → is_unknown (kind_of_code c) ≡ true → (p : Pen) → with_code c p ≡ p
-unknown-nothing c is p =
-    ap (λ b. cond b (with_code c p) p) (sym is) ∙ (row c).unknown p
+unknown-nothing c is p = ap (λ b. cond b (with_code c p) p) (sym is) ∙ (row c).unknown p
 
 -- and what ends nothing does something
 pub other-something : (c : ℕ) → is_unknown (kind_of_code c) ≡ false → is_color_code c ≡ false
@@ -186,16 +183,15 @@ changes-then act later one two = record {
       ∙ mix-both two.fields one.fields two.values one.values p;
 }
 
-pub changes-if : (b : Bool) (act other : Pen → Pen) → Changes act → Changes other
+pub changes-if : (b : Bool) {act other : Pen → Pen} → Changes act → Changes other
     → Changes (λ p. cond b (act p) (other p))
-changes-if true act other one two = one
-changes-if false act other one two = two
+changes-if true one two = one
+changes-if false one two = two
 
 -- ---- fields of parameters
 
 code-changes : (c : ℕ) → Changes (with_code c)
-code-changes c =
-    record { fields = touches c; values = with_code c plain_pen; is = (row c).sets }
+code-changes c = record { fields = touches c; values = with_code c plain_pen; is = (row c).sets }
 
 color-changes : (c : ℕ) (color : Color) → Changes (with_color c color)
 unfolding with_color
@@ -208,15 +204,13 @@ color-changes c color = record {
 parts-changes : (c : ℕ) (parts : List ℕ) → Changes (with_parts c parts)
 unfolding with_parts
 parts-changes c parts =
-    changes-if (c == 4) (λ p. record p { underline = first_of parts })
-    (λ p. cond ((c == 38) || (c == 48) || (c == 58)) (with_color c (color_of parts) p) p)
-    (record {
+    let underline : Changes (λ p. record p { underline = first_of parts }) = record {
       fields = λ i. 5 == i;
       values = record plain_pen { underline = first_of parts };
       is = λ p. refl;
-    })
-    (changes-if ((c == 38) || (c == 48) || (c == 58)) (with_color c (color_of parts)) (λ p. p)
-    (color-changes c (color_of parts)) nothing)
+    } in
+    changes-if (c == 4) underline
+    (changes-if ((c == 38) || (c == 48) || (c == 58)) (color-changes c (color_of parts)) nothing)
 
 -- with a field more: the colour that has begun does not hang on the pen
 pub record Steps (act : Pen → Reading) : Type 0 where
@@ -225,43 +219,31 @@ pub record Steps (act : Pen → Reading) : Type 0 where
   pub changes : Changes pen
   pub is : (p : Pen) → act p ≡ record { pen = pen p; color = color }
 
-steps-if : (b : Bool) (act other : Pen → Reading) → Steps act → Steps other
+steps-if : (b : Bool) {act other : Pen → Reading} → Steps act → Steps other
     → Steps (λ p. cond b (act p) (other p))
-steps-if true act other one two = one
-steps-if false act other one two = two
+steps-if true one two = one
+steps-if false one two = two
 
 abbrev at : List ℕ → Pen → Reading
 at color p = record { pen = p; color = color }
 
-steps-by : (color : List ℕ) (act : Pen → Pen) → Changes act
-    → Steps (λ p. at color (act p))
-steps-by color act changes =
-    record { color = color; pen = act; changes = changes; is = λ p. refl }
+steps-by : (color : List ℕ) {act : Pen → Pen} → Changes act → Steps (λ p. at color (act p))
+steps-by color {act} changes = record { color = color; pen = act; changes = changes; is = λ p. refl }
 
 field-steps : (color field : List ℕ) → Steps (λ p. with_field (at color p) field)
 unfolding with_field
 field-steps color field =
     let code = first_of field in
     let numbers = color ++ code ∷ [] in
-    let whole = with_color (first_of numbers) (color_of (drop 1 numbers)) in
-    let parts = with_parts code (drop 1 field) in
-    let is_color = (code == 38) || (code == 48) || (code == 58) in
+    let whole = color-changes (first_of numbers) (color_of (drop 1 numbers)) in
     steps-if (not (length color == 0))
-    (λ p. cond (is_whole_color (drop 1 numbers)) (at [] (whole p)) (at numbers p))
-    (λ p. cond (not (length field == 1)) (at [] (parts p))
-    (cond is_color (at numbers p) (at [] (with_code code p))))
-    (steps-if (is_whole_color (drop 1 numbers)) (λ p. at [] (whole p)) (at numbers)
-    (steps-by [] whole (color-changes (first_of numbers) (color_of (drop 1 numbers))))
-    (steps-by numbers (λ p. p) nothing))
-    (steps-if (not (length field == 1)) (λ p. at [] (parts p))
-    (λ p. cond is_color (at numbers p) (at [] (with_code code p)))
-    (steps-by [] parts (parts-changes code (drop 1 field)))
-    (steps-if is_color (at numbers) (λ p. at [] (with_code code p))
-    (steps-by numbers (λ p. p) nothing) (steps-by [] (with_code code) (code-changes code))))
+    (steps-if (is_whole_color (drop 1 numbers)) (steps-by [] whole) (steps-by numbers nothing))
+    (steps-if (not (length field == 1)) (steps-by [] (parts-changes code (drop 1 field)))
+    (steps-if ((code == 38) || (code == 48) || (code == 58)) (steps-by numbers nothing)
+    (steps-by [] (code-changes code))))
 
-fields-steps : (fs : List (List ℕ)) (color : List ℕ)
-    → Steps (λ p. fold with_field (at color p) fs)
-fields-steps [] color = steps-by color (λ p. p) nothing
+fields-steps : (fs : List (List ℕ)) (color : List ℕ) → Steps (λ p. fold with_field (at color p) fs)
+fields-steps [] color = steps-by color nothing
 fields-steps (f ∷ fs) color =
     let one = field-steps color f in
     let others = fields-steps fs one.color in

@@ -1,27 +1,22 @@
 -- Pens after parameters are pens after their settings, one after another, and the settings that are
 -- open give the pen that all of them gave.
 use Rattle.std.proofs.lemmas.Slice.Eq.{bytes_eq-Decides}
-use Rattle.textwrap_styles.proofs.Common.{Kind, Pen, Reset, apply, fields, fold-append, in_effect}
-use Rattle.textwrap_styles.proofs.Common.{latest, open_settings, plain_pen, settings}
-use Rattle.textwrap_styles.proofs.OpenSettings.{Sets, after-more, all-latest, known-below}
-use Rattle.textwrap_styles.proofs.OpenSettings.{none-latest, resets, unknown-number}
-use Rattle.textwrap_styles.proofs.PenCodes.{Changes, apply-changes, changes-then, mix, mix-again}
-use Rattle.textwrap_styles.proofs.PenCodes.{mix-swap, mix-within, nothing, sets}
-use Rattle.textwrap_styles.proofs.PenSettings.{all-known, among, kind-code, many-end}
-use Rattle.textwrap_styles.proofs.SettingTexts.{InRange, IsSetting, are-settings, between-append}
-use Rattle.textwrap_styles.proofs.SettingTexts.{drop-all, fields-split, first-take, settings-next}
-use Rattle.textwrap_styles.proofs.SettingTexts.{settings-one, taken-again}
-use Rattle.textwrap_styles.specs.Pen.{read}
-use Rattle.textwrap_styles.specs.Settings.{code, first_setting, is_color_code, is_end}
-use Rattle.textwrap_styles.specs.Settings.{is_ending_code, is_unknown, kind_of, kind_of_code}
-use Rattle.textwrap_styles.specs.Settings.{number, replaces, taken_fields, takes_back}
-use Rattle.textwrap_text.proofs.Common.{All, All-append, All-cons, All-head, All-nil, All-tail}
-use Rattle.textwrap_text.proofs.Common.{All-weaker, List, [], after_last, ap, arith, cases_Bool}
-use Rattle.textwrap_text.proofs.Common.{cond, cond_both, drop, eqb-true, false, fold, inl, inr}
-use Rattle.textwrap_text.proofs.Common.{length, length-drop, list_any, map-append, nat_tests, refl}
-use Rattle.textwrap_text.proofs.Common.{rules, subst, suc, sym, take_all, true, true≢false, zero, ℕ}
-use Rattle.textwrap_text.proofs.Common.{⊤, ◌&&◌, ◌++◌, ◌+◌, ◌<◌, ◌==◌, ◌||◌, ◌∙◌, ◌∷◌, ◌≡◌, ◌≤◌}
-use Rattle.textwrap_text.proofs.Lists.Parts.{after_last-push}
+use Rattle.textwrap_styles.proofs.Common.{apply, fields, fold-append, in_effect, Kind, latest, open_settings}
+use Rattle.textwrap_styles.proofs.{Common.{Pen, plain_pen, Reset, settings}, OpenSettings.unknown-number}
+use Rattle.textwrap_styles.proofs.OpenSettings.{all-latest, all-since, known-below, latest-in_effect}
+use Rattle.textwrap_styles.proofs.OpenSettings.{left-after, next_left, none-latest, resets, Sets}
+use Rattle.textwrap_styles.proofs.PenCodes.{apply-changes, Changes, changes-then, mix, mix-again, mix-swap}
+use Rattle.textwrap_styles.proofs.{PenCodes.{mix-within, nothing, sets}, SettingTexts.taken-again}
+use Rattle.textwrap_styles.{proofs.PenSettings.{all-known, among, kind-code, many-end}, specs.Pen.read}
+use Rattle.textwrap_styles.proofs.SettingTexts.{are-settings, between-append, drop-all, fields-split}
+use Rattle.textwrap_styles.proofs.SettingTexts.{first-take, InRange, IsSetting, settings-next, settings-one}
+use Rattle.textwrap_styles.specs.Settings.{first_setting, is_color_code, is_end, is_ending_code, is_unknown}
+use Rattle.textwrap_styles.specs.Settings.{kind_of, kind_of_code, number, replaces, taken_fields, takes_back}
+use Rattle.textwrap_text.proofs.Common.{◌&&◌, ◌+◌, ◌++◌, ◌<◌, ◌==◌, [], after_last, All, All-drop, All-head}
+use Rattle.textwrap_text.proofs.Common.{All-tail, ap, arith, cases_Bool, cond_both, drop, eqb-true, false}
+use Rattle.textwrap_text.proofs.Common.{fold, inl, inr, length, length-drop, List, list_any, map-append}
+use Rattle.textwrap_text.proofs.Common.{nat_tests, refl, rules, subst, suc, sym, take_all, true, true≢false}
+use Rattle.textwrap_text.proofs.Common.{zero, ◌||◌, ℕ, ◌∙◌, ◌∷◌, ◌≡◌, ◌≤◌, ⊤}
 
 -- ---- settings one after another, of which each sets its own fields
 
@@ -33,8 +28,7 @@ run-append p xs ys = fold-append (λ q t. apply t q) p xs ys
 
 run-changes : (ss : List (List ℕ)) → Changes (λ p. pen_by p ss)
 run-changes [] = nothing
-run-changes (s ∷ ss) =
-    changes-then (apply s) (λ p. pen_by p ss) (apply-changes s) (run-changes ss)
+run-changes (s ∷ ss) = changes-then (apply s) (λ p. pen_by p ss) (apply-changes s) (run-changes ss)
 
 -- once more, one makes the first time do nothing
 again : (s : List ℕ) (ss : List (List ℕ)) (p : Pen)
@@ -59,21 +53,16 @@ kinds-apart : (later earlier : Kind) → takes_back later earlier ≡ false
 unfolding takes_back number
 kinds-apart later earlier other some one own i = grind (arith, cases_Bool, nat_tests)
 
-ending-code : (c : ℕ) → is_ending_code c ≡ true
+ending-code : (c : ℕ) → (is_ending_code c || (c == 4)) ≡ true
     → ((number (kind_of_code c) == 1) || (number (kind_of_code c) == 2)) ≡ false
 unfolding is_ending_code kind_of_code number
 ending-code c is = grind (arith, cases_Bool, nat_tests)
-
-four-kind : ((number (kind_of_code 4) == 1) || (number (kind_of_code 4) == 2)) ≡ false
-unfolding kind_of_code number
-four-kind = refl
 
 -- what ends something is of another kind than bold and faint
 end-kind : (t : List ℕ) → is_unknown (kind_of t) ≡ false → is_end t ≡ true
     → ((number (kind_of t) == 1) || (number (kind_of t) == 2)) ≡ false
 unfolding is_end
-end-kind t known end =
-    grind (arith, cases_Bool, nat_tests, kind-code, ending-code, eqb-true, four-kind)
+end-kind t known end = grind (arith, cases_Bool, nat_tests, kind-code, ending-code)
 
 -- a known one
 module _ (s t : List ℕ) (first : IsSetting s) (second : IsSetting t) where
@@ -117,8 +106,7 @@ left-out s before (t ∷ ss) p one all is =
     let rest = left-out s (before ++ t ∷ []) ss p one (All-tail IsSetting t ss all) in
     grind (arith, cases_Bool, setting-replaces s t one own, again s before p, run-append, rest)
 
-run-latest : (ss : List (List ℕ)) (p : Pen) → All IsSetting ss
-    → pen_by p (latest ss) ≡ pen_by p ss
+run-latest : (ss : List (List ℕ)) (p : Pen) → All IsSetting ss → pen_by p (latest ss) ≡ pen_by p ss
 run-latest [] p are = refl
 run-latest (s ∷ ss) p are =
     let rest = All-tail IsSetting s ss are in
@@ -132,9 +120,13 @@ abbrev pub AreLatest : List (List ℕ) → Type 0
 AreLatest [] = ⊤
 AreLatest (s ∷ ss) = (list_any (λ t. replaces t s) ss ≡ false) × AreLatest ss
 
-pub are-latest : (ss : List (List ℕ)) → AreLatest (latest ss)
+are-latest : (ss : List (List ℕ)) → AreLatest (latest ss)
 are-latest [] = tt
 are-latest (s ∷ ss) = grind (arith, cases_Bool, nat_tests, are-latest ss, none-latest)
+
+pub open-latest : (before : List (List ℕ)) → AreLatest (open_settings before)
+open-latest before =
+    subst AreLatest (latest-in_effect (after_last resets before)) (are-latest (open_settings before))
 
 -- what ends something ends nothing of this pen
 abbrev IsQuiet : Pen → List ℕ → Type 0
@@ -174,17 +166,11 @@ run-effect : (ss : List (List ℕ)) (p : Pen) → All Setter ss → AreLatest ss
 run-effect [] p are latest quiet = refl
 run-effect (s ∷ ss) p are (none, latest) (one, others) =
     let rest = All-tail Setter s ss are in
-    cond_both (is_unknown (kind_of s)) (s ∷ ss) (cond (is_end s) (in_effect ss) (s ∷ in_effect ss))
-    (λ l. pen_by p l ≡ pen_by p (s ∷ ss)) (λ unknown. refl) (λ is.
-    cond_both (is_end s) (in_effect ss) (s ∷ in_effect ss) (λ l. pen_by p l ≡ pen_by p (s ∷ ss))
-    (λ end. run-effect ss p rest latest others ∙ ap (λ q. pen_by q ss) (sym (one is end)))
-    (λ sets. run-effect ss (apply s p) rest latest
-    (stay-quiet s ss p (All-head Setter s ss are) is rest none others)))
+    let sets = λ (known : is_unknown (kind_of s) ≡ false). run-effect ss (apply s p) rest latest
+    (stay-quiet s ss p (All-head Setter s ss are) known rest none others) in
+    grind (arith, cases_Bool, sets, run-effect ss p rest latest others, one)
 
 -- ---- since all were taken back
-
-abbrev next_left : List (List ℕ) → List ℕ → List (List ℕ)
-next_left ss t = cond (resets t) [] (ss ++ t ∷ [])
 
 reset-plain : (t : List ℕ) → IsSetting t → resets t ≡ true → (p : Pen) → apply t p ≡ plain_pen
 unfolding number
@@ -195,49 +181,30 @@ reset-plain t is reset p =
     all.sets p ∙ ap (λ n. mix (sets n) (apply t plain_pen) p) (eqb-true (number (kind_of t)) 0 reset)
     ∙ all.ends (many-end t is known (ap (λ b. b || (number (kind_of t) == 3)) reset))
 
--- those since then set something, and give the pen that all give
-since-reset : (more before : List (List ℕ)) (p : Pen) → All IsSetting more → All Setter before
-    → pen_by plain_pen before ≡ p → All Setter (fold next_left before more)
-    × (pen_by plain_pen (fold next_left before more) ≡ pen_by p more)
-since-reset [] before p are setters same = (setters, same)
-since-reset (t ∷ more) before p are setters same =
+-- those since then give the pen that all give
+since-reset : (more before : List (List ℕ)) (p : Pen) → All IsSetting more → pen_by plain_pen before ≡ p
+    → pen_by plain_pen (fold next_left before more) ≡ pen_by p more
+since-reset [] before p are same = same
+since-reset (t ∷ more) before p are same =
     let is = All-head IsSetting t more are in
-    let one = cond_both (resets t) [] (before ++ t ∷ [])
-    (λ ss. All Setter ss × (pen_by plain_pen ss ≡ apply t p))
-    (λ all. (All-nil Setter, sym (reset-plain t is all p)))
-    (λ other. (
-      All-append Setter before (t ∷ []) setters
-          (All-cons Setter t [] (record { setting = is; sets = other }) (All-nil Setter)),
-      run-append plain_pen before (t ∷ []) ∙ ap (apply t) same,
-    )) in
-    since-reset more (next_left before t) (apply t p) (All-tail IsSetting t more are) one.0 one.1
+    since-reset more (next_left before t) (apply t p) (All-tail IsSetting t more are)
+    (cond_both (resets t) [] (before ++ t ∷ []) (λ ss. pen_by plain_pen ss ≡ apply t p)
+    (λ all. sym (reset-plain t is all p))
+    (λ other. run-append plain_pen before (t ∷ []) ∙ ap (apply t) same))
 
 -- what is open gives the pen that all gave
 pub open-pen : (before : List (List ℕ)) → All IsSetting before
     → pen_by plain_pen (open_settings before) ≡ pen_by plain_pen before
 open-pen before are =
-    let since = rw (← after-more (after_last resets) next_left (after_last-push resets) [] before)
-    at (since-reset before [] plain_pen are (All-nil Setter) refl) in
-    let settings : All IsSetting (after_last resets before) =
-    All-weaker Setter IsSetting (λ s is. is.setting) _ since.0 in
-    search (rules, arith, run-effect, all-latest, are-latest, plain-quiet, run-latest, since, settings)
-
-color-known : (c : ℕ) → is_color_code c ≡ true → is_unknown (kind_of_code c) ≡ false
-unfolding is_unknown kind_of_code
-color-known c is = among (λ n. is_unknown (kind_of_code n) ≡ false) c is refl refl refl
-
-four-known : (c : ℕ) → (c == 4) ≡ true → is_unknown (kind_of_code c) ≡ false
-unfolding is_unknown kind_of_code
-four-known c is = subst (λ n. is_unknown (kind_of_code n) ≡ false) (sym (eqb-true c 4 is)) refl
-
-taken-code : (t : List ℕ) → (taken_fields t == 0) ≡ false
-    → is_unknown (kind_of_code (code t)) ≡ false
-unfolding taken_fields
-taken-code t some = grind (arith, cases_Bool, nat_tests, color-known, four-known)
+    let since = rw (sym (left-after before)) at (since-reset before [] plain_pen are refl) in
+    let settings : All IsSetting (after_last resets before) = All-drop IsSetting _ before are in
+    let setters : All Setter (after_last resets before) =
+    λ k d within. record { setting = settings k d within; sets = all-since before k d within } in
+    search (rules, arith, run-effect, all-latest, are-latest, plain-quiet, run-latest, since, settings, setters)
 
 taken-known : (t : List ℕ) → (taken_fields t == 0) ≡ false → is_unknown (kind_of t) ≡ false
-unfolding kind_of
-taken-known t some = grind (arith, cases_Bool, nat_tests, taken-code)
+unfolding kind_of taken_fields is_color_code is_unknown kind_of_code
+taken-known t some = grind (arith, cases_Bool, nat_tests)
 
 -- ---- the first setting of parameters, where there are more
 
@@ -253,15 +220,9 @@ first-split t more = search (rules, arith, first-fields, fields-split)
 
 first-known : (t : List ℕ) → length (first_setting t) < length t
     → is_unknown (kind_of (first_setting t)) ≡ false
-first-known t more =
-    let parts = first-fields t more in
-    grind (arith, nat_tests, parts, taken-known, taken-again)
+first-known t more = grind (arith, nat_tests, first-fields t more, taken-known, taken-again)
 
-first-one : (t : List ℕ) → length t ≤ length (first_setting t) → first_setting t ≡ t
-first-one t all = sym (first-take t) ∙ take_all (length (first_setting t)) t all
-
-first-is : (t : List ℕ) → InRange t → length (first_setting t) < length t
-    → IsSetting (first_setting t)
+first-is : (t : List ℕ) → InRange t → length (first_setting t) < length t → IsSetting (first_setting t)
 first-is t range more =
     All-head IsSetting (first_setting t) (settings (drop (length (first_setting t) + 1) t))
     (subst (All IsSetting) (settings-next t more) (are-settings t range))
@@ -275,10 +236,10 @@ first-read t range more p =
 
 settings-pen : (n : ℕ) (t : List ℕ) → length t ≤ n → InRange t → (p : Pen)
     → apply t p ≡ pen_by p (settings t)
-settings-pen zero t short range p = search (rules, arith, first-one, pen_by, settings-one)
+settings-pen zero t short range p = search (rules, arith, pen_by, settings-one)
 settings-pen (suc n) t short range p =
     let rest = settings-pen n in
-    search (rules, arith, rest, first-read, length-drop, drop-all, settings-next, first-one, settings-one)
+    search (rules, arith, rest, first-read, length-drop, drop-all, settings-next, settings-one)
 
 pub parameters-pen : (t : List ℕ) → InRange t → (p : Pen) → apply t p ≡ pen_by p (settings t)
 parameters-pen t = settings-pen (length t) t (omega arith)

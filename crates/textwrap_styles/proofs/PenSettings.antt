@@ -1,47 +1,26 @@
 -- What a setting that the table knows does to a pen: it sets the fields of its kind, one that ends
 -- something as in the plain pen, and any other unlike it.
-use Rattle.textwrap_styles.proofs.Common.{Color, Pen, apply, between, digits_value, fields}
-use Rattle.textwrap_styles.proofs.Common.{first_of, is_ascii_digit, is_in_range, numbers_of}
-use Rattle.textwrap_styles.proofs.{Common.plain_pen, PenCodes.differs_at, PenCodes.is_own}
-use Rattle.textwrap_styles.proofs.PenCodes.{mix, row, sets}
-use Rattle.textwrap_styles.proofs.SettingTexts.{InRange, IsSetting, between-rest, between-some}
-use Rattle.textwrap_styles.proofs.SettingTexts.{code-first, colon-first, details-cons, details-nil}
-use Rattle.textwrap_styles.proofs.SettingTexts.{drop-all, fields-few, fields-many, first_field}
-use Rattle.textwrap_styles.proofs.SettingTexts.{first_number, first_text, first_text-first}
-use Rattle.textwrap_styles.proofs.SettingTexts.{has_colon}
-use Rattle.textwrap_styles.specs.Pen.{Reading, color_of, direct_color, is_whole_color, read}
-use Rattle.textwrap_styles.specs.Pen.{with_code, with_color, with_field, with_first, with_parts}
-use Rattle.textwrap_styles.specs.Settings.{code, color_fields, details, first_setting}
-use Rattle.textwrap_styles.specs.Settings.{is_color_code, is_end, is_ending_code, is_unknown}
-use Rattle.textwrap_styles.specs.Settings.{kind_of, kind_of_code, number, taken_fields}
-use Rattle.textwrap_text.proofs.Common.{List, [], ap, arith, cases_Bool, drop, eqb-true}
-use Rattle.textwrap_text.proofs.Common.{false, fold, inl, inr, length, length-map, map}
-use Rattle.textwrap_text.proofs.Common.{min, nat_tests, prefix_len, refl, rules, sym, true}
-use Rattle.textwrap_text.proofs.Common.{true≢false, ℕ, ◌+◌, ◌<◌, ◌==◌, ◌||◌, ◌∙◌, ◌∷◌, ◌≡◌, ◌≢◌}
-use Rattle.textwrap_text.proofs.Common.{◌≤◌, ◌⊎◌}
+use Rattle.textwrap_styles.proofs.Common.{apply, between, Color, digits_value, fields, first_of}
+use Rattle.textwrap_styles.proofs.Common.{is_ascii_digit, is_in_range, numbers_of, Pen, plain_pen}
+use Rattle.textwrap_styles.{proofs.PenCodes.{differs_at, is_own, mix, row, sets}, specs.Settings.taken_fields}
+use Rattle.textwrap_styles.proofs.SettingTexts.{between-rest, between-some, code-first, colon-first}
+use Rattle.textwrap_styles.proofs.SettingTexts.{details-cons, details-nil, drop-all, fields-few, fields-many}
+use Rattle.textwrap_styles.proofs.SettingTexts.{first_field, first_number, first_text, first_text-first}
+use Rattle.textwrap_styles.proofs.SettingTexts.{has_colon, InRange, IsSetting}
+use Rattle.textwrap_styles.specs.Pen.{color_of, direct_color, is_whole_color, read, Reading, with_code}
+use Rattle.textwrap_styles.specs.Pen.{with_color, with_field, with_first, with_parts}
+use Rattle.textwrap_styles.specs.Settings.{code, color_fields, details, first_setting, is_color_code, is_end}
+use Rattle.textwrap_styles.specs.Settings.{is_ending_code, is_unknown, kind_of, kind_of_code, number}
+use Rattle.textwrap_text.proofs.Common.{◌+◌, ◌<◌, ◌==◌, [], ap, arith, cases_Bool, drop, eqb-true, false}
+use Rattle.textwrap_text.proofs.Common.{fold, inl, inr, length, length-map, List, map, min, nat_tests}
+use Rattle.textwrap_text.proofs.Common.{prefix_len, refl, rules, sym, true, true≢false, ◌||◌, ℕ, ◌∙◌, ◌∷◌}
+use Rattle.textwrap_text.proofs.Common.{◌≡◌, ◌≢◌, ◌≤◌, ◌⊎◌}
 
 -- ---- one field
 
 -- what a number that stands by itself, or that colons join to others, does
 abbrev pub alone : Pen → Reading
 alone pen = record { pen = pen; color = [] }
-
-pub field-code : (p : Pen) (field : List ℕ) → length field ≡ 1
-    → is_color_code (first_of field) ≡ false
-    → with_field (alone p) field ≡ alone (with_code (first_of field) p)
-unfolding with_field is_color_code
-field-code p field one plain = grind (arith, cases_Bool)
-
-pub field-parts : (p : Pen) (field : List ℕ) → (length field == 1) ≡ false
-    → with_field (alone p) field ≡ alone (with_parts (first_of field) (drop 1 field) p)
-unfolding with_field
-field-parts p field more = grind (arith, cases_Bool)
-
-pub field-color : (p : Pen) (field : List ℕ) → length field ≡ 1
-    → is_color_code (first_of field) ≡ true
-    → with_field (alone p) field ≡ record { pen = p; color = first_of field ∷ [] }
-unfolding with_field is_color_code
-field-color p field one is = grind (arith, cases_Bool)
 
 -- ---- a colour behind semicolons
 
@@ -65,11 +44,7 @@ pub among : (P : ℕ → Type 0) (c : ℕ) → is_color_code c ≡ true → P 38
 unfolding is_color_code
 among P c is a b d = grind (arith, cases_Bool, nat_tests, eqb-true)
 
--- none of them ends anything, and each sets its own field
-pub color-open : (c : ℕ) → is_color_code c ≡ true → is_ending_code c ≡ false
-unfolding is_ending_code
-color-open c is = among (λ c. is_ending_code c ≡ false) c is refl refl refl
-
+-- each of them sets its own field
 pub color-sets : (c : ℕ) (color : Color) → is_color_code c ≡ true → (p : Pen)
     → with_color c color p ≡ mix (sets (number (kind_of_code c))) (with_color c color plain_pen) p
 unfolding with_color kind_of_code number
@@ -93,25 +68,6 @@ unfolding with_color kind_of_code number differs_at
 color-differs c color is other =
     among (λ c. differs_at (with_color c color plain_pen) (number (kind_of_code c)) ≡ true) c is
     (rw other refl) (rw other refl) (rw other refl)
-
-pub underline-sets : (parts : List ℕ) (p : Pen)
-    → with_parts 4 parts p ≡ mix (sets (number (kind_of_code 4))) (with_parts 4 parts plain_pen) p
-unfolding with_parts kind_of_code number
-underline-sets parts p = refl
-
-pub underline-ends : (parts : List ℕ) → first_of parts ≡ 0 → with_parts 4 parts plain_pen ≡ plain_pen
-unfolding with_parts
-underline-ends parts none = ap (λ n. record plain_pen { underline = n }) none
-
-underline-differs : (parts : List ℕ) → (first_of parts == 0) ≡ false
-    → differs_at (with_parts 4 parts plain_pen) (number (kind_of_code 4)) ≡ true
-unfolding with_parts kind_of_code number differs_at
-underline-differs parts other = rw other refl
-
-pub color-parts : (c : ℕ) (parts : List ℕ) (p : Pen) → is_color_code c ≡ true
-    → with_parts c parts p ≡ with_color c (color_of parts) p
-unfolding with_parts is_color_code
-color-parts c parts p is = grind (arith, cases_Bool, nat_tests)
 
 -- ---- what is known of a setting that the table knows
 
@@ -153,8 +109,7 @@ module _ (t : List ℕ) (is : IsSetting t) where
   field-len = length-map (between 0x3A (first_field t)) (digits_value 10)
 
   one-field : taken_fields t ≡ 1 → between 0x3B t ≡ first_field t ∷ []
-  one-field taken =
-      grind (arith, cases_Bool, nat_tests, one-of, between-some, fields-few, own-fields)
+  one-field taken = grind (arith, cases_Bool, nat_tests, one-of, between-some, fields-few, own-fields)
 
   pub read-one : taken_fields t ≡ 1 → (p : Pen) → read t p ≡ with_field (alone p) (numbers_of (first_field t))
   read-one taken p = ap (λ fs. fold with_field (alone p) (map numbers_of fs)) (one-field taken)
@@ -196,11 +151,7 @@ second-first : (t : List ℕ) → InRange t → has_colon t ≡ true
     → first_of (drop 1 (numbers_of (first_field t))) ≡ first_number (drop 1 (details t))
 second-first [] all colon = rw details-nil refl
 second-first (c ∷ cs) all colon =
-    let others = second-first cs in
-    grind (arith, cases_Bool, nat_tests, details-cons, first_text-first, later-values, others)
-
-min-none : (n : ℕ) → (min 255 n == 0) ≡ (n == 0)
-min-none n = grind (arith, cases_Bool, nat_tests)
+    grind (arith, cases_Bool, nat_tests, details-cons, first_text-first, later-values, second-first cs)
 
 colon-end : (t : List ℕ) → InRange t → has_colon t ≡ true → (code t == 4) ≡ true
     → is_end t ≡ (first_of (drop 1 (numbers_of (first_field t))) == 0)
@@ -208,8 +159,7 @@ unfolding is_end
 colon-end t range colon four =
     let rest = drop 1 (details t) in
     let value = code-first rest (rest-range t range) in
-    let second = second-first t range colon in
-    grind (arith, cases_Bool, value, second, min-none (first_number rest))
+    grind (arith, cases_Bool, nat_tests, value, second-first t range colon)
 
 colon-other : (t : List ℕ) → has_colon t ≡ true → (code t == 4) ≡ false → is_end t ≡ false
 unfolding is_end
@@ -234,9 +184,7 @@ module _ (t : List ℕ) (is : IsSetting t) (known : is_unknown (kind_of t) ≡ f
 
   plain-taken : has_colon t ≡ false → is_color_code (code t) ≡ false → taken_fields t ≡ 1
   unfolding taken_fields
-  plain-taken none plain =
-      let some = taken-some t known in
-      grind (arith, cases_Bool, nat_tests)
+  plain-taken none plain = grind (arith, cases_Bool, nat_tests, taken-some t known)
 
   plain-end : has_colon t ≡ false → is_end t ≡ is_ending_code (code t)
   unfolding is_end
@@ -249,16 +197,14 @@ module _ (t : List ℕ) (is : IsSetting t) (known : is_unknown (kind_of t) ≡ f
       → differs_at (with_code (code t) plain_pen) (number (kind_of t)) ≡ true
   plain-differs none plain stays =
       let all = (row (code t)).known in
-      let kind = kind-code t known in
       let end = plain-end none in
-      grind (arith, cases_Bool, all, kind, end)
+      grind (arith, cases_Bool, all, kind-code t known, end)
 
   plain-known : has_colon t ≡ false → is_color_code (code t) ≡ false → Known t
+  unfolding with_field is_color_code
   plain-known none plain =
-      known-by t (with_code (code t))
-      (λ p. read-one t is (plain-taken none plain) p
-      ∙ field-code p (numbers_of field) (field-one none) (ap is_color_code number-is ∙ plain)
-      ∙ ap (λ n. alone (with_code n p)) number-is)
+      known-by t (with_code (code t)) (λ p.
+      grind (arith, cases_Bool, read-one t is (plain-taken none plain) p, field-one none, number-is, plain))
       (λ p. rw (kind-code t known) (rw plain at (row (code t)).sets p))
       (λ end. rw (sym (plain-end none) ∙ end) at (row (code t)).ends)
       (plain-differs none plain)
@@ -275,43 +221,37 @@ module _ (t : List ℕ) (is : IsSetting t) (known : is_unknown (kind_of t) ≡ f
 
   -- ---- colons
 
-  colon-code : has_colon t ≡ true
-      → ((code t == 4) || is_color_code (code t)) ≡ true
+  colon-code : has_colon t ≡ true → ((code t == 4) || is_color_code (code t)) ≡ true
   unfolding taken_fields
-  colon-code colon =
-      let some = taken-some t known in
-      grind (arith, cases_Bool, nat_tests)
+  colon-code colon = grind (arith, cases_Bool, nat_tests, taken-some t known)
 
   colon-taken : has_colon t ≡ true → taken_fields t ≡ 1
   unfolding taken_fields
-  colon-taken colon =
-      let some = taken-some t known in
-      grind (arith, cases_Bool, nat_tests)
+  colon-taken colon = grind (arith, cases_Bool, nat_tests, taken-some t known)
 
   colon-read : has_colon t ≡ true → (p : Pen)
       → read t p ≡ alone (with_parts (code t) (drop 1 (numbers_of field)) p)
+  unfolding with_field
   colon-read colon p =
-      search (rules, arith, colon-first, field-len, read-one, colon-taken, field-parts, number-is)
+      search (rules, arith, cases_Bool, colon-first, field-len, read-one, colon-taken, number-is)
 
   colon-known : has_colon t ≡ true → Known t
+  unfolding with_parts kind_of_code number differs_at is_color_code
   colon-known colon = elim (cases_Bool (code t == 4)) [
     | inl four ↦
+        let parts = drop 1 (numbers_of field) in
         let same : code t ≡ 4 = eqb-true (code t) 4 four in
         let ends = colon-end t is.range colon four in
-        known-by t (with_parts 4 (drop 1 (numbers_of field)))
-        (λ p. colon-read colon p
-        ∙ ap (λ n. alone (with_parts n (drop 1 (numbers_of field)) p)) same)
-        (λ p. rw (kind-code t known, same) (underline-sets (drop 1 (numbers_of field)) p))
-        (λ end. underline-ends (drop 1 (numbers_of field))
-        (eqb-true (first_of (drop 1 (numbers_of field))) 0 (sym ends ∙ end)))
-        (λ stays. rw (kind-code t known, same)
-        (underline-differs (drop 1 (numbers_of field)) (sym ends ∙ stays)))
+        known-by t (with_parts 4 parts)
+        (λ p. colon-read colon p ∙ ap (λ n. alone (with_parts n parts p)) same)
+        (λ p. rw (kind-code t known, same) refl)
+        (λ end. ap (λ n. record plain_pen { underline = n }) (eqb-true (first_of parts) 0 (sym ends ∙ end)))
+        (λ stays. rw (kind-code t known, same, sym ends ∙ stays) refl)
     | inr other ↦
         let color : is_color_code (code t) ≡ true =
         ap (λ b. b || is_color_code (code t)) (sym other) ∙ colon-code colon in
         color-by (drop 1 (numbers_of field)) color (colon-other t colon other)
-        (λ p. colon-read colon p
-        ∙ ap alone (color-parts (code t) (drop 1 (numbers_of field)) p color))
+        (λ p. grind (arith, cases_Bool, nat_tests, colon-read colon p, color))
   ]
 
   -- ---- a colour behind semicolons
@@ -323,7 +263,8 @@ module _ (t : List ℕ) (is : IsSetting t) (known : is_unknown (kind_of t) ≡ f
 
   color-first : has_colon t ≡ false → is_color_code (code t) ≡ true → (p : Pen)
       → with_field (alone p) (numbers_of field) ≡ record { pen = p; color = code t ∷ [] }
-  color-first none color p = grind (arith, cases_Bool, nat_tests, field-color, field-one, number-is)
+  unfolding with_field is_color_code
+  color-first none color p = grind (arith, cases_Bool, nat_tests, color, field-one, number-is)
 
   abbrev rest : List ℕ
   rest = drop 1 (details t)
@@ -337,6 +278,7 @@ module _ (t : List ℕ) (is : IsSetting t) (known : is_unknown (kind_of t) ≡ f
   color-of : (n : ℕ) → has_colon t ≡ false → is_color_code (code t) ≡ true
       → taken_fields t ≡ n + 1 → 1 ≤ n → length (fields n t) < length t
       → (length (between 0x3B rest) ≡ n → IsColor (between 0x3B rest)) → Known t
+  unfolding is_ending_code
   color-of n none color taken some more makes =
       let many = fields-many n t some more in
       let few = fields-few (n + 1) t (omega arith)
@@ -345,7 +287,7 @@ module _ (t : List ℕ) (is : IsSetting t) (known : is_unknown (kind_of t) ≡ f
       let len : length (between 0x3B t) ≡ length (between 0x3B rest) + 1 =
       ap length all ∙ omega arith in
       color-by (map (λ f. first_of (numbers_of f)) (between 0x3B rest)) color
-      (plain-end none ∙ color-open (code t) color)
+      (plain-end none ∙ among (λ c. is_ending_code c ≡ false) (code t) color refl refl refl)
       (λ p. ap (λ fs. fold with_field (alone p) (map numbers_of fs)) all
       ∙ ap (λ r. fold with_field r (map numbers_of (between 0x3B rest))) (color-first none color p)
       ∙ behind p (code t) (between 0x3B rest) (makes (omega arith)))
@@ -367,6 +309,4 @@ module _ (t : List ℕ) (is : IsSetting t) (known : is_unknown (kind_of t) ≡ f
   pub many-end : ((number (kind_of t) == 0) || (number (kind_of t) == 3)) ≡ true → is_end t ≡ true
   unfolding is_color_code is_ending_code
   many-end many =
-      let codes = kind-many (code t) in
-      let kind = kind-code t known in
-      grind (arith, cases_Bool, nat_tests, codes, kind, colon-code, plain-end)
+      grind (arith, cases_Bool, nat_tests, kind-many (code t), kind-code t known, colon-code, plain-end)

@@ -1,9 +1,7 @@
 -- The lemmas that the laws are proved by.
-use Rattle.textwrap_styles.proofs.CarriedLines.{all-may_carry, carried, plain-stay}
-use Rattle.textwrap_styles.proofs.FewStyles.{few-known, styles-short}
-use Rattle.textwrap_styles.proofs.FewestSettings.{fewest, open-setters}
-use Rattle.textwrap_styles.proofs.PenCodes.{other-something, unknown-nothing}
-use Rattle.textwrap_styles.proofs.{PenStyles.styles-pen, WrittenSettings.styles-anew}
+use Rattle.textwrap_styles.proofs.{CarriedLines.{all-may_carry, carried, plain-stay}, PenStyles.styles-pen}
+use Rattle.textwrap_styles.proofs.{FewStyles.{few-known, styles-short}, FewestSettings.{fewest, open-setters}}
+use Rattle.textwrap_styles.proofs.{PenCodes.{other-something, unknown-nothing}, WrittenSettings.styles-anew}
 
 pub ruleset lines = (all-may_carry, carried, plain-stay, styles-short)
 

@@ -1,10 +1,10 @@
 -- What the wrong bodies of must-fail/ answer on worked rows, and that no pen allows it: each theorem
 -- bears the name of its edit.
 use Rattle.std.specs.Str.{chars}
-use Rattle.textwrap_styles.proofs.Common.{Pen, penned_lines, penned_text, plain_pen}
-use Rattle.textwrap_styles.proofs.{Common.plain_rendition, PenCodes.is_own}
-use Rattle.textwrap_styles.specs.{Pen.with_code, Pen.with_field, Penned.PennedCharacter}
-use Rattle.textwrap_text.proofs.Common.{List, [], ap, codes, map, true≢false, ℕ, ◌∷◌, ◌≡◌}
+use Rattle.textwrap_styles.proofs.Common.{Pen, penned_lines, penned_text, plain_pen, plain_rendition}
+use Rattle.textwrap_styles.{proofs.PenCodes.is_own, specs.Pen.{with_code, with_field}}
+use Rattle.textwrap_styles.specs.Penned.{PennedCharacter}
+use Rattle.textwrap_text.proofs.Common.{[], ap, codes, List, map, true≢false, ℕ, ◌∷◌, ◌≡◌}
 use lib.Utf8.{encode}
 
 abbrev first_pen : List PennedCharacter → Pen
@@ -33,5 +33,4 @@ pub background_ended_by_39 :
     shown (codes "\u{1b}[31;42ma\u{1b}[39mb\u{1b}[0m" ∷ codes "\u{1b}[31mc\u{1b}[0m" ∷ [])
     ≡ penned_lines [] [] plain_rendition (codes "\u{1b}[31;42ma\u{1b}[39mb" ∷ codes "c" ∷ []) → ⊥
 unfolding chars encode with_field with_code
-background_ended_by_39 same =
-    true≢false (ap (λ lines. is_own (last_pen lines).background) same)
+background_ended_by_39 same = true≢false (ap (λ lines. is_own (last_pen lines).background) same)

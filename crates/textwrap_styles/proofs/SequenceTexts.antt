@@ -1,20 +1,18 @@
 -- Texts of whole sequences and texts between them: their units, and what they show.
 use Rattle.std.{proofs.lemmas.Bool.agree_below_at, specs.Str.chars}
 use Rattle.textwrap_layout.proofs.Text.Paragraphs.{units-append}
-use Rattle.textwrap_styles.proofs.Common.{IsWhole, Rendition, closing, concat, link_end, open_link}
-use Rattle.textwrap_styles.proofs.Common.{open_styles, penned_text, plain_rendition, rendition_of}
-use Rattle.textwrap_styles.proofs.Common.{sequence_of, sequences, style_end, with_sequence}
-use Rattle.textwrap_styles.specs.{Penned.penned_units, Styled.IsWholeText}
-use Rattle.textwrap_text.proofs.Common.{All, All-append, All-cons, All-head, All-nil, All-tail}
-use Rattle.textwrap_text.proofs.Common.{Bool, IsUtf8, IsUtf8-append, IsUtf8-nil, List, Sequence}
-use Rattle.textwrap_text.proofs.Common.{TextUnit, Visible, [], ap, append-nil, arith, cases_Bool}
-use Rattle.textwrap_text.proofs.Common.{characters, chars-append, chars-nil, chars_from_encodes}
-use Rattle.textwrap_text.proofs.Common.{codes, cond, encode_utf8_all, encodes-chars, false}
-use Rattle.textwrap_text.proofs.Common.{flat_map, flat_map-append, fold, inl, length, map, refl}
-use Rattle.textwrap_text.proofs.Common.{rules, subst, sym, take, true, units, visible_of, ℕ, ◌++◌}
-use Rattle.textwrap_text.proofs.{Common.◌==◌, Common.◌∙◌, Common.◌∷◌, Common.◌≡◌, Texts.utf8-back}
-use Rattle.textwrap_text.proofs.{Texts.utf8-front, Units.Texts.units-tile, Units.Texts.units_unique}
-use Rattle.textwrap_text.specs.Units.{ends, visible}
+use Rattle.textwrap_styles.proofs.Common.{closing, concat, IsWhole, link_end, open_link, open_styles}
+use Rattle.textwrap_styles.proofs.Common.{penned_text, plain_rendition, Rendition, rendition_of, sequence_of}
+use Rattle.textwrap_styles.{proofs.Common.{sequences, style_end, with_sequence}, specs.Penned.penned_units}
+use Rattle.textwrap_styles.specs.Styled.{IsWholeText}
+use Rattle.textwrap_text.proofs.Common.{◌++◌, ◌==◌, [], All, All-append, All-cons, All-head, All-nil}
+use Rattle.textwrap_text.proofs.Common.{All-tail, ap, append-nil, arith, Bool, cases_Bool, characters}
+use Rattle.textwrap_text.proofs.Common.{chars-append, chars-nil, chars_from_encodes, codes, cond}
+use Rattle.textwrap_text.proofs.Common.{encode_utf8_all, encodes-chars, false, flat_map, flat_map-append}
+use Rattle.textwrap_text.proofs.Common.{fold, inl, IsUtf8, IsUtf8-append, IsUtf8-nil, length, List, map, refl}
+use Rattle.textwrap_text.proofs.Common.{rules, Sequence, subst, sym, take, TextUnit, true, units, Visible}
+use Rattle.textwrap_text.proofs.{Common.{visible_of, ℕ, ◌∙◌, ◌∷◌, ◌≡◌}, Texts.{utf8-back, utf8-front}}
+use Rattle.textwrap_text.{proofs.Units.Texts.{units-tile, units_unique}, specs.Units.{ends, visible}}
 use lib.Utf8.{encode}
 
 -- ---- the units of texts of whole sequences that are put together
@@ -39,8 +37,7 @@ pub record IsSequence (s : List ℕ) : Type 0 where
   pub unit : units (chars s) ≡ Sequence (chars s) ∷ []
   pub whole : IsWhole (Sequence (chars s))
 
-pub unit-sequence : (s cs : List ℕ) → IsUtf8 s → chars s ≡ cs → IsWhole (Sequence cs)
-    → IsSequence s
+pub unit-sequence : (s cs : List ℕ) → IsUtf8 s → chars s ≡ cs → IsWhole (Sequence cs) → IsSequence s
 unit-sequence s cs utf8 are whole =
     let own : Sequence cs ∷ [] ≡ units cs =
     (units_unique cs (Sequence cs ∷ [])).0 (append-nil cs, inl whole) in
@@ -124,16 +121,16 @@ link_end-is =
     unit-sequence link_end link_end (link_end, (refl, refl)) refl
     (body, refl, refl, λ k. agree_below_at (λ i. ends (take i body)) (λ i. false) 6 k refl)
 
+one-sequence : (s : List ℕ) (b : Bool) → IsSequence s → All IsSequence (cond b [] (s ∷ []))
+one-sequence s true is = All-nil IsSequence
+one-sequence s false is = All-cons IsSequence s [] is (All-nil IsSequence)
+
 pub closing-sequences : (before : List (List ℕ)) → All IsSequence (closing_sequences before)
 closing-sequences before =
     let plain = length (open_styles before) == 0 in
     let unlinked = length (open_link before) == 0 in
     All-append IsSequence (cond plain [] (style_end ∷ [])) (cond unlinked [] (link_end ∷ []))
-    (one style_end style_end-is plain) (one link_end link_end-is unlinked)
-  where
-    one : (s : List ℕ) → IsSequence s → (b : Bool) → All IsSequence (cond b [] (s ∷ []))
-    one s is true = All-nil IsSequence
-    one s is false = All-cons IsSequence s [] is (All-nil IsSequence)
+    (one-sequence style_end plain style_end-is) (one-sequence link_end unlinked link_end-is)
 
 -- ---- what units show
 
@@ -143,12 +140,10 @@ pub penned-append : (us vs : List TextUnit) (now : Rendition)
 penned-append [] vs now = refl
 penned-append (Visible c ∷ us) vs now =
     ap (λ shown. record { character = c; rendition = now } ∷ shown) (penned-append us vs now)
-penned-append (Sequence cs ∷ us) vs now =
-    penned-append us vs (with_sequence now (encode_utf8_all cs))
+penned-append (Sequence cs ∷ us) vs now = penned-append us vs (with_sequence now (encode_utf8_all cs))
 
 -- sequences show nothing
-pub sequences-show : (xs : List (List ℕ)) (now : Rendition)
-    → penned_units now (sequence_units xs) ≡ []
+pub sequences-show : (xs : List (List ℕ)) (now : Rendition) → penned_units now (sequence_units xs) ≡ []
 sequences-show [] now = refl
 sequences-show (s ∷ xs) now = sequences-show xs (with_sequence now (encode_utf8_all (chars s)))
 
@@ -164,8 +159,7 @@ module _ (front text : List ℕ) (starts ends : List (List ℕ)) (front_whole : 
     (are_ends : All IsSequence ends) where
   parts-units : units (chars (front ++ concat starts ++ text ++ concat ends))
       ≡ units (chars front) ++ sequence_units starts ++ units (chars text) ++ sequence_units ends
-  parts-units =
-      search (rules, arith, concat-whole, whole_text-append, text_units-append, concat-units)
+  parts-units = search (rules, arith, concat-whole, whole_text-append, text_units-append, concat-units)
 
   pub parts-sequences : sequences (front ++ concat starts ++ text ++ concat ends)
       ≡ sequences front ++ starts ++ sequences text ++ ends

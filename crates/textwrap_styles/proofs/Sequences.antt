@@ -1,27 +1,24 @@
 -- Escape sequences, what they do, the reader of them, and the link that is open after some.
 use Rattle.std.proofs.lemmas.{List.Elements.filter_passes, Str.IsCharBoundary-from_rest}
-use Rattle.std.specs.{Option.MatchOption, Option.option_or, Prelude.encode_utf8, Str.NoCharPasses}
-use Rattle.std.specs.Str.{NonePass, Pattern.FindsTextSuffix, Pattern.StripsSuffix}
-use Rattle.textwrap_styles.proofs.Common.{All-filter, chars, has_target, is_in_range, is_link}
-use Rattle.textwrap_styles.proofs.Common.{is_style, open_link, sequence_of, sequences}
-use Rattle.textwrap_styles.{proofs.Common.style_parameters, specs.Styles.link_fields}
-use Rattle.textwrap_text.proofs.Common.{All, All-drop, All-weaker, Bool, Bor, IsCharBoundary}
-use Rattle.textwrap_text.proofs.Common.{IsUtf8, IsUtf8-drop, List, None, Option, Some, []}
-use Rattle.textwrap_text.proofs.Common.{and_parts, ap, append-nil, append_assoc, arith, cases_Bool}
-use Rattle.textwrap_text.proofs.Common.{chars-append, chars_from_encodes, chars_past_char, codes}
-use Rattle.textwrap_text.proofs.Common.{cond, drop, drop-append-add, drop-drop, drop_at}
-use Rattle.textwrap_text.proofs.Common.{encode_ascii, encode_utf8_all, ends_with, eqb, escape_len}
-use Rattle.textwrap_text.proofs.Common.{false, filter, filter-append, flat_map, length}
-use Rattle.textwrap_text.proofs.Common.{length-append, list_all, list_any, nat_eq, next_of, refl}
-use Rattle.textwrap_text.proofs.Common.{rules, slice_range, subst, sym, take, take-append-drop}
-use Rattle.textwrap_text.proofs.Common.{take_all, take_at, taken_in, true, units, ℕ, ◌++◌, ◌+◌}
-use Rattle.textwrap_text.proofs.Common.{◌==◌, ◌||◌, ◌∙◌, ◌∷◌, ◌≡◌, ◌≢◌}
-use Rattle.textwrap_text.proofs.Lists.Parts.{ends_with-after, ends_with-other, ends_with-true}
-use Rattle.textwrap_text.proofs.Lists.Parts.{last_one-push, starts_with-rest, stripped_suffix}
-use Rattle.textwrap_text.proofs.Texts.{AsciiSeam, IsCut, ascii_seam, cut_text}
-use Rattle.textwrap_text.proofs.Units.Reading.{IsRead, read-ahead, read-all, read-next, read-none}
-use Rattle.textwrap_text.proofs.Units.Reading.{read-start, taken-step}
-use Rattle.textwrap_text.specs.declared.escapes.State.{State, TheVariants.Escape, TheVariants.Text}
+use Rattle.std.specs.{Option.{MatchOption, option_or}, Prelude.encode_utf8, Str.{NoCharPasses, NonePass}}
+use Rattle.std.specs.Str.Pattern.{FindsTextSuffix, StripsSuffix}
+use Rattle.textwrap_styles.proofs.Common.{All-filter, chars, has_target, is_in_range, is_link, is_style}
+use Rattle.textwrap_styles.proofs.Common.{open_link, sequence_of, sequences, style_parameters}
+use Rattle.textwrap_styles.specs.Styles.{link_fields}
+use Rattle.textwrap_text.proofs.Common.{◌+◌, ◌++◌, ◌-◌, ◌==◌, [], All, All-drop, All-head, All-tail}
+use Rattle.textwrap_text.proofs.Common.{and_parts, ap, append-nil, append_assoc, arith, Bool, Bor, cases_Bool}
+use Rattle.textwrap_text.proofs.Common.{chars-append, chars_from_encodes, chars_past_char, codes, cond}
+use Rattle.textwrap_text.proofs.Common.{cond_both, drop, drop-append-add, drop-drop, drop_at, encode_ascii}
+use Rattle.textwrap_text.proofs.Common.{encode_utf8_all, ends_with, eqb, escape_len, false, filter}
+use Rattle.textwrap_text.proofs.Common.{filter-append, flat_map, IsCharBoundary, IsUtf8, IsUtf8-drop, length}
+use Rattle.textwrap_text.proofs.Common.{length-append, List, list_all, list_any, nat_eq, next_of, None}
+use Rattle.textwrap_text.proofs.Common.{Option, refl, rules, slice_range, Some, subst, suc, sym, take}
+use Rattle.textwrap_text.proofs.Common.{take-append-drop, take_all, take_at, taken_in, true, units, ◌||◌, ℕ}
+use Rattle.textwrap_text.proofs.{Common.{◌∙◌, ◌∷◌, ◌≡◌, ◌≢◌}, Lists.Parts.{starts_with-rest, stripped_suffix}}
+use Rattle.textwrap_text.proofs.Lists.Parts.{ends_with-after, ends_with-other, ends_with-true, last_one-push}
+use Rattle.textwrap_text.proofs.{Texts.{ascii_seam, AsciiSeam, cut_text, IsCut}, Units.Reading.taken-step}
+use Rattle.textwrap_text.proofs.Units.Reading.{IsRead, read-ahead, read-all, read-next, read-none, read-start}
+use Rattle.textwrap_text.specs.declared.escapes.State.{State, TheVariants.{Escape, Text}}
 use Rattle.textwrap_words.proofs.Word.Breaking.{units_past-skip}
 
 -- ---- a style is no link
@@ -121,8 +118,7 @@ link-cases sequence rest None (Some fields) whole none strips =
     let is = whole
     ∙ ap (λ l. link_start ++ l) (stripped_suffix terminator rest fields.now strips) in
     subst (λ l. IsAround l fields.now) (sym is) (around-terminator fields.now)
-link-cases sequence rest None None whole no_bell none =
-    ap is_link whole ∙ not_link rest no_bell none
+link-cases sequence rest None None whole no_bell none = ap is_link whole ∙ not_link rest no_bell none
 
 -- ---- the reader of an escape sequence, after its ESC: where it stands, and what it has still
 -- to take
@@ -182,8 +178,7 @@ sequences_in cs = flat_map sequence_of (units cs)
 sequences_in-plain : (front rest : List ℕ) → NonePass (λ c. eqb c 27) front
     → sequences_in (front ++ rest) ≡ sequences_in rest
 sequences_in-plain [] rest plain = refl
-sequences_in-plain (c ∷ front) rest plain =
-    rw plain.0 (sequences_in-plain front rest plain.1)
+sequences_in-plain (c ∷ front) rest plain = rw plain.0 (sequences_in-plain front rest plain.1)
 
 -- at an ESC one begins, and the next ones are those of what it leaves
 sequences_in-escape : (cs : List ℕ) → sequences_in (27 ∷ cs)
@@ -259,14 +254,19 @@ pub open_link-push : (before : List (List ℕ)) (s : List ℕ)
     → open_link (before ++ s ∷ []) ≡ next_link (open_link before) s
 open_link-push before s = grind (arith, cases_Bool, filter-append, last_one-push, append-nil)
 
--- it is one of the sequences, so what holds of these holds of it
-pub link-among : (P : List ℕ → Type 0) (before : List (List ℕ)) → All P (filter is_link before)
-    → All P (open_link before)
-link-among P before all = search (rules, arith, All-filter, All-drop)
-
--- and it sets no style
-pub link-plain : (before : List (List ℕ)) → All (λ s. is_style s ≡ false) (open_link before)
-link-plain before =
-    link-among (λ s. is_style s ≡ false) before
-    (All-weaker (λ s. is_link s ≡ true) (λ s. is_style s ≡ false) (λ s is. link-no_style s is)
-    (filter is_link before) (filter_passes is_link before))
+-- it is one of the links, or there is none: what holds of all sequences holds of it
+pub open_link-cases : (Q : List ℕ → Type 0) (P : List (List ℕ) → Type 0) (before : List (List ℕ))
+    → All Q before → P [] → ((s : List ℕ) → is_link s ≡ true → Q s → P (s ∷ []))
+    → P (open_link before)
+open_link-cases Q P before all none one =
+    by (filter is_link before) (filter_passes is_link before) (All-filter is_link Q before all)
+  where
+    by : (ls : List (List ℕ)) → All (λ s. is_link s ≡ true) ls → All Q ls
+        → P (filter has_target (drop (length ls - 1) ls))
+    by [] are all = none
+    by (s ∷ []) are all =
+        cond_both (has_target s) (s ∷ []) [] P
+        (λ _. one s (All-head (λ s. is_link s ≡ true) s [] are) (All-head Q s [] all)) (λ _. none)
+    by (s ∷ t ∷ ls) are all =
+        let next : length (s ∷ t ∷ ls) - 1 ≡ suc (length (t ∷ ls) - 1) = omega arith in
+        rw next (by (t ∷ ls) (All-tail (λ s. is_link s ≡ true) s (t ∷ ls) are) (All-tail Q s (t ∷ ls) all))

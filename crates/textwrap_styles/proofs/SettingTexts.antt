@@ -1,18 +1,17 @@
 -- The fields of parameters, as the table of the settings and as a pen read them, and settings, each
 -- of which is its own first one.
-use Rattle.std.proofs.lemmas.List.Sums.{AllPass-from_list_all, list_all-from_AllPass}
-use Rattle.std.{proofs.lemmas.List.Sums.take_while-cons, specs.Prelude.nat_le}
+use Rattle.std.proofs.lemmas.List.Sums.{AllPass-from_list_all, list_all-from_AllPass, take_while-cons}
+use Rattle.std.specs.Prelude.{nat_le}
 use Rattle.textwrap_styles.proofs.Common.{between, digits_value, fields, first_of, is_ascii_digit}
-use Rattle.textwrap_styles.proofs.Common.{is_in_range, numbers_of, settings}
-use Rattle.textwrap_styles.specs.{Pen.with_first, Settings.code, Settings.color_fields}
-use Rattle.textwrap_styles.specs.Settings.{details, first_setting, settings_past, taken_fields}
-use Rattle.textwrap_text.proofs.Common.{All, All-cons, All-drop, All-nil, All-take, Bool, List, []}
-use Rattle.textwrap_text.proofs.Common.{and_parts, ap, arith, cases_Bool, codes, cond, cond_both}
-use Rattle.textwrap_text.proofs.Common.{drop, drop_all, drop_more, false, length, length-take}
-use Rattle.textwrap_text.proofs.Common.{list_all, map, min, nat_eq, nat_tests, not, refl, rules}
-use Rattle.textwrap_text.proofs.Common.{starts_with, subst, suc, sym, take, take_all, take_while}
-use Rattle.textwrap_text.proofs.Common.{true, zero, ℕ, ◌++◌, ◌+◌, ◌-◌, ◌<◌, ◌==◌, ◌∙◌, ◌∷◌, ◌≡◌}
-use Rattle.textwrap_text.proofs.Common.{◌≢◌, ◌≤◌}
+use Rattle.textwrap_styles.{proofs.Common.{is_in_range, numbers_of, settings}, specs.Pen.with_first}
+use Rattle.textwrap_styles.specs.Settings.{code, color_fields, details, first_setting, settings_past}
+use Rattle.textwrap_styles.specs.Settings.{taken_fields}
+use Rattle.textwrap_text.proofs.Common.{◌+◌, ◌++◌, ◌-◌, ◌<◌, ◌==◌, [], All, All-cons, All-drop, All-nil}
+use Rattle.textwrap_text.proofs.Common.{All-take, and_parts, ap, arith, Bool, cases_Bool, codes, cond}
+use Rattle.textwrap_text.proofs.Common.{cond_both, drop, drop_all, drop_more, false, length, length-take}
+use Rattle.textwrap_text.proofs.Common.{List, list_all, map, min, nat_eq, nat_tests, not, refl, rules}
+use Rattle.textwrap_text.proofs.Common.{starts_with, subst, suc, sym, take, take_all, take_while, true, zero}
+use Rattle.textwrap_text.proofs.Common.{ℕ, ◌∙◌, ◌∷◌, ◌≡◌, ◌≢◌, ◌≤◌}
 
 -- ---- the first fields of parameters
 
@@ -95,16 +94,7 @@ color-least t mode some = grind (arith, cases_Bool, nat_tests)
 pub taken-again : (t : List ℕ) (n : ℕ) → n ≡ taken_fields t → n ≢ 0 → taken_fields (fields n t) ≡ n
 unfolding taken_fields
 taken-again t n is some =
-    search (
-      rules,
-      arith,
-      fields-code,
-      fields-details,
-      fields-colon,
-      fields-mode,
-      color-again,
-      color-least,
-    )
+    search (rules, arith, fields-code, fields-details, fields-colon, fields-mode, color-again, color-least)
 
 pub first-again : (t : List ℕ) → first_setting (first_setting t) ≡ first_setting t
 unfolding first_setting
@@ -119,18 +109,15 @@ first-len t = omega (arith, ap length (first-take t), length-take (length (first
 
 -- ---- characters that pass a test
 
-pub take-all : (p : ℕ → Bool) (n : ℕ) (s : List ℕ) → list_all p s ≡ true
-    → list_all p (take n s) ≡ true
+pub take-all : (p : ℕ → Bool) (n : ℕ) (s : List ℕ) → list_all p s ≡ true → list_all p (take n s) ≡ true
 take-all p n s all =
     list_all-from_AllPass p (take n s) (All-take (λ c. p c ≡ true) n s (AllPass-from_list_all p s all))
 
-pub drop-all : (p : ℕ → Bool) (n : ℕ) (s : List ℕ) → list_all p s ≡ true
-    → list_all p (drop n s) ≡ true
+pub drop-all : (p : ℕ → Bool) (n : ℕ) (s : List ℕ) → list_all p s ≡ true → list_all p (drop n s) ≡ true
 drop-all p n s all =
     list_all-from_AllPass p (drop n s) (All-drop (λ c. p c ≡ true) n s (AllPass-from_list_all p s all))
 
-first-all : (p : ℕ → Bool) (t : List ℕ) → list_all p t ≡ true
-    → list_all p (first_setting t) ≡ true
+first-all : (p : ℕ → Bool) (t : List ℕ) → list_all p t ≡ true → list_all p (first_setting t) ≡ true
 first-all p t all =
     subst (λ s. list_all p s ≡ true) (first-take t) (take-all p (length (first_setting t)) t all)
 
@@ -141,12 +128,11 @@ past-drop zero t = refl
 past-drop (suc n) [] = refl
 past-drop (suc n) (c ∷ cs) = past-drop n cs
 
-past-all : (n : ℕ) (t : List ℕ) → length t ≤ n → settings_past n t ≡ []
-past-all n t all = past-drop n t ∙ ap (settings_past 0) (drop_all n t all)
-
-pub settings-one : (s : List ℕ) → length s ≤ length (first_setting s)
-    → settings s ≡ first_setting s ∷ []
-settings-one s all = ap (λ ss. first_setting s ∷ ss) (past-all (length (first_setting s)) s all)
+pub settings-one : (s : List ℕ) → length s ≤ length (first_setting s) → settings s ≡ s ∷ []
+settings-one s all =
+    let n = length (first_setting s) in
+    ap (λ ss. first_setting s ∷ ss) (past-drop n s ∙ ap (settings_past 0) (drop_all n s all))
+    ∙ ap (λ f. f ∷ []) (sym (first-take s) ∙ take_all n s all)
 
 pub settings-next : (s : List ℕ) → length (first_setting s) < length s
     → settings s ≡ first_setting s ∷ settings (drop (length (first_setting s) + 1) s)
@@ -159,16 +145,21 @@ pub record IsSetting (s : List ℕ) : Type 0 where
   pub own : first_setting s ≡ s
   pub range : list_all (is_in_range 0x30 0x3B) s ≡ true
 
-past-settings : (n : ℕ) (t : List ℕ) → list_all (is_in_range 0x30 0x3B) t ≡ true
-    → All IsSetting (settings_past n t)
-past-settings n [] all = All-nil IsSetting
-past-settings zero (c ∷ cs) all =
-    search (rules, arith, All-cons, first-again, first-all, past-settings (length (first_setting cs)) cs)
-past-settings (suc n) (c ∷ cs) all = search (rules, arith, past-settings n cs)
+past-each : (P : List ℕ → Type 0) (n : ℕ) (t : List ℕ) → ((k : ℕ) → P (first_setting (drop (suc k) t)))
+    → All P (settings_past n t)
+past-each P n [] each = All-nil P
+past-each P zero (c ∷ cs) each =
+    All-cons P (first_setting cs) (settings_past (length (first_setting cs)) cs) (each 0)
+    (past-each P (length (first_setting cs)) cs (λ k. each (suc k)))
+past-each P (suc n) (c ∷ cs) each = past-each P n cs (λ k. each (suc k))
 
-pub are-settings : (t : List ℕ) → list_all (is_in_range 0x30 0x3B) t ≡ true
-    → All IsSetting (settings t)
-are-settings t all = past-settings 0 (0x3B ∷ t) all
+-- what holds of the first setting wherever one may begin
+pub each-setting : (P : List ℕ → Type 0) (t : List ℕ) → ((k : ℕ) → P (first_setting (drop k t)))
+    → All P (settings t)
+each-setting P t each = past-each P 0 (0x3B ∷ t) each
+
+pub are-settings : (t : List ℕ) → list_all (is_in_range 0x30 0x3B) t ≡ true → All IsSetting (settings t)
+are-settings t all = each-setting IsSetting t (λ k. search (rules, first-again, first-all, drop-all))
 
 -- ---- texts between characters
 
@@ -186,8 +177,7 @@ first-append : (c : ℕ) (xs ys : List (List ℕ)) → 1 ≤ length xs
 first-append c [] ys some = absurd (omega arith)
 first-append c (t ∷ texts) ys some = refl
 
-pub between-append : (a b : List ℕ)
-    → between 0x3B (a ++ 0x3B ∷ b) ≡ between 0x3B a ++ between 0x3B b
+pub between-append : (a b : List ℕ) → between 0x3B (a ++ 0x3B ∷ b) ≡ between 0x3B a ++ between 0x3B b
 between-append [] b = refl
 between-append (c ∷ a) b = search (rules, arith, between-append a b, between-some, first-append)
 
@@ -204,8 +194,7 @@ fields-many n [] some more = absurd (omega arith)
 fields-many n (c ∷ cs) some more =
     search (rules, arith, fields-many n cs some, fields-many (n - 1) cs, texts-len, between-some)
 
-drop-past : (c : ℕ) (xs cs : List ℕ)
-    → drop (length (c ∷ xs) + 1) (c ∷ cs) ≡ drop (length xs + 1) cs
+drop-past : (c : ℕ) (xs cs : List ℕ) → drop (length (c ∷ xs) + 1) (c ∷ cs) ≡ drop (length xs + 1) cs
 drop-past c xs cs = grind (arith, cases_Bool, nat_tests)
 
 -- a semicolon follows them, where they are not all

@@ -1,22 +1,18 @@
 -- Settings that are open, each written as a sequence: what the sequences set, and that each is a text
 -- by itself.
 use Rattle.std.proofs.lemmas.{List.Sums.AllPass-from_list_all, Str.Ascii.IsAscii-from_all}
-use Rattle.textwrap_styles.proofs.Common.{is_in_range, is_link, is_style}
-use Rattle.textwrap_styles.proofs.Common.{open_settings, open_styles, settings, settings_of}
-use Rattle.textwrap_styles.proofs.Common.{style_parameters, written}
+use Rattle.textwrap_styles.proofs.Common.{is_in_range, is_link, is_style, open_settings, open_styles}
+use Rattle.textwrap_styles.proofs.Common.{settings, settings_of, style_parameters, written}
 use Rattle.textwrap_styles.proofs.OpenSettings.{all-open, settings-again}
 use Rattle.textwrap_styles.proofs.SequenceTexts.{IsSequence, unit-sequence}
 use Rattle.textwrap_styles.proofs.Sequences.{style-is, style-no_link, style_parameters-is}
-use Rattle.textwrap_styles.proofs.SettingTexts.{IsSetting, are-settings, settings-one, take-all}
-use Rattle.textwrap_text.proofs.Common.{All, All-append, All-cons, All-head, All-map, All-nil}
-use Rattle.textwrap_text.proofs.Common.{All-tail, All-weaker, IsUtf8-from_ascii, List}
-use Rattle.textwrap_text.proofs.Common.{[], ap, arith, cases_Bool}
-use Rattle.textwrap_text.proofs.Common.{chars-IsAscii, cond_both, false, flat_map, length}
-use Rattle.textwrap_text.proofs.Common.{length-append, list_all, map, nat_tests, refl, rules}
-use Rattle.textwrap_text.proofs.Common.{take, take-append-le, true, ℕ, ◌++◌, ◌<◌, ◌∙◌}
-use Rattle.textwrap_text.proofs.{Common.◌∷◌, Common.◌≡◌, Lists.Parts.last-append}
-use Rattle.textwrap_text.{specs.Lists.last, specs.Units.ends}
-use Rattle.textwrap_text.specs.Units.{is_control_end}
+use Rattle.textwrap_styles.proofs.SettingTexts.{are-settings, IsSetting, settings-one, take-all}
+use Rattle.textwrap_text.proofs.Common.{◌++◌, ◌<◌, [], All, All-append, All-cons, All-head, All-map, All-nil}
+use Rattle.textwrap_text.proofs.Common.{All-tail, All-weaker, ap, arith, cases_Bool, chars-IsAscii, cond_both}
+use Rattle.textwrap_text.proofs.Common.{false, flat_map, IsUtf8-from_ascii, length, length-append, List}
+use Rattle.textwrap_text.proofs.Common.{list_all, map, nat_tests, refl, rules, take, take-append-le, true, ℕ}
+use Rattle.textwrap_text.{proofs.Common.{◌∙◌, ◌∷◌, ◌≡◌}, proofs.Lists.Parts.last-append, specs.Lists.last}
+use Rattle.textwrap_text.specs.Units.{ends, is_control_end}
 
 -- ---- a setting that is written as a sequence
 
@@ -59,8 +55,7 @@ open-written P each before =
     All-map P written ss (All-weaker IsSetting (λ s. P (written s)) each ss
     (all-open IsSetting (flat_map settings_of before) (all-settings before)))
 
-pub styles-no_link : (before : List (List ℕ))
-    → All (λ s. is_link s ≡ false) (open_styles before)
+pub styles-no_link : (before : List (List ℕ)) → All (λ s. is_link s ≡ false) (open_styles before)
 styles-no_link = open-written (λ s. is_link s ≡ false)
     (λ s is. style-no_link (written s) (written-is_style s is))
 
@@ -71,8 +66,7 @@ small s all = All-weaker (λ c. is_in_range 0x30 0x3B c ≡ true) (λ b. b < 128
     (λ c range. grind (arith, cases_Bool, nat_tests, range)) s
     (AllPass-from_list_all (is_in_range 0x30 0x3B) s all)
 
-last-open : (s : List ℕ) → list_all (is_in_range 0x30 0x3B) s ≡ true
-    → is_control_end (last s) ≡ false
+last-open : (s : List ℕ) → list_all (is_in_range 0x30 0x3B) s ≡ true → is_control_end (last s) ≡ false
 last-open [] all = refl
 last-open (c ∷ []) all = grind (arith, cases_Bool, nat_tests)
 last-open (c ∷ d ∷ cs) all = grind (arith, cases_Bool, nat_tests, last-open (d ∷ cs), last-append)
@@ -94,6 +88,5 @@ pub styles-sequences : (before : List (List ℕ)) → All IsSequence (open_style
 styles-sequences = open-written IsSequence written-sequence
 
 -- what is open is open again once it is set anew
-pub styles-anew : (before : List (List ℕ))
-    → open_styles (open_styles before) ≡ open_styles before
+pub styles-anew : (before : List (List ℕ)) → open_styles (open_styles before) ≡ open_styles before
 styles-anew before = grind (arith, open-back before, settings-again [] (flat_map settings_of before) refl)

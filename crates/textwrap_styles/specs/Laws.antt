@@ -45,7 +45,7 @@ StylesAreSetAnew =
 abbrev pub LinksKeepAnId : Type 0
 LinksKeepAnId =
     (before more : List (List ℕ))
-    → All (λ s. names_id true (drop 4 s) ≡ true) (reopened_link before)
+    → All (λ s. names_id (drop 4 s) ≡ true) (reopened_link before)
     × (filter is_link more ≡ [] → reopened_link (before ++ more) ≡ reopened_link before)
 
 -- of the settings that are open, those that the table knows, and the others

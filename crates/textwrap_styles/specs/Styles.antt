@@ -2,10 +2,10 @@
 -- begins, and ends plain.
 use Rattle.std.specs.Prelude.{ℕ, ◌-◌, Bool, ◌&&◌, ◌||◌, ◌==◌, nat_eq, nat_lt, List, [], ◌∷◌, ◌++◌}
 use Rattle.std.specs.Prelude.{length, take, drop, filter, chars, encode_utf8_all, codes}
-use Rattle.std.specs.Prelude.{decimal, false, if◌then◌else◌, map, true}
+use Rattle.std.specs.Prelude.{decimal, if◌then◌else◌, map}
 use Rattle.std.specs.Int.{is_in_range}
-use Rattle.std.specs.List.{after_first, concat, ends_with, flat_map, list_all, list_any}
-use Rattle.std.specs.List.{starts_with}
+use Rattle.std.specs.List.{after_first, before_first, concat, ends_with, flat_map, list_all}
+use Rattle.std.specs.List.{list_any, slice_split, starts_with}
 use Rattle.std.specs.declared.borrow.CowStr.{CowStr}
 use Rattle.textwrap_text.specs.LentText.{as_len}
 use Rattle.textwrap_text.specs.Units.{TextUnit, Visible, Sequence, units}
@@ -55,13 +55,11 @@ link_target sequence = after_first (λ c. c == 0x3B) (link_fields sequence)
 abbrev pub has_target : List ℕ → Bool
 has_target sequence = nat_lt 0 (length (link_target sequence))
 
--- whether one of the parameters, which colons part and a semicolon ends, is an id; `begins` says that
--- one begins here
-abbrev pub names_id : Bool → List ℕ → Bool
-names_id begins [] = false
-names_id begins (c ∷ cs) =
-    if c == 0x3B then false
-    else begins && starts_with nat_eq (c ∷ cs) (codes "id=") || names_id (c == 0x3A) cs
+-- whether one of the parameters is an id: colons part them, and the first semicolon ends them
+abbrev pub names_id : List ℕ → Bool
+names_id fields =
+    let parameters = slice_split (λ c. c == 0x3A) (before_first (λ c. c == 0x3B) fields) in
+    list_any (λ parameter. starts_with nat_eq parameter (codes "id=")) parameters
 
 -- the parameter that is the id of this number, before the others
 abbrev pub id_before : ℕ → List ℕ → List ℕ
@@ -73,7 +71,7 @@ id_before number fields =
 unfoldable pub with_id : ℕ → List ℕ → List ℕ
 with_id number link =
     let fields = drop 4 link in
-    if names_id true fields then link else take 4 link ++ id_before number fields ++ fields
+    if names_id fields then link else take 4 link ++ id_before number fields ++ fields
 
 -- the settings of a style
 abbrev pub settings_of : List ℕ → List (List ℕ)

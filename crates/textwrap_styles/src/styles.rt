@@ -288,7 +288,7 @@ fn push_id<A: Allocator>(
 
 /// Whether one of the parameters, which colons part and a semicolon ends, is an id.
 fn names_id(fields: &[u8]) -> bool
-    ensures { result ≡ names_id true fields.now }
+    ensures { result ≡ names_id fields.now }
 {
     let mut begins = true;
     let mut left = fields;

@@ -1,6 +1,6 @@
 use Rattle.textwrap_styles.proofs.indents.indent_end.Goals as goal
 use Rattle.std.proofs.lemmas.Str.Pattern.{starts_text}
-use Rattle.textwrap_text.proofs.Common.{IsCharBoundary-start, arith, rules}
+use Rattle.textwrap_text.proofs.Common.{arith, IsCharBoundary-start, rules}
 
 pub returns-then-starts_with-clause-len : goal.returns-then-starts_with-clause-len
 returns-then-starts_with-clause-len c =

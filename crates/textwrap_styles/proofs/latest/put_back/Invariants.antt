@@ -1,6 +1,6 @@
 use Rattle.textwrap_styles.proofs.latest.put_back.Given as goal
 use Rattle.textwrap_styles.proofs.{Common.in_effect, OpenSettings.texts}
-use Rattle.textwrap_text.proofs.Common.{cond, reverse, vec_len, ◌++◌, ◌≡◌}
+use Rattle.textwrap_text.proofs.Common.{◌++◌, cond, reverse, vec_len, ◌≡◌}
 
 -- what was put back, and what will be of those that are left
 abbrev pub invariant-loop-setting : goal.invariant-loop-setting

@@ -1,7 +1,6 @@
 use Rattle.textwrap_styles.proofs.latest.take_latest.Given as goal
-use Rattle.textwrap_styles.proofs.{Common.latest, OpenSettings.texts}
-use Rattle.textwrap_styles.specs.OpenStyles.{AreLater}
-use Rattle.textwrap_text.proofs.Common.{Bor, List, reverse, ℕ, ◌++◌, ◌≡◌}
+use Rattle.textwrap_styles.{proofs.Common.latest, proofs.OpenSettings.texts, specs.OpenStyles.AreLater}
+use Rattle.textwrap_text.proofs.Common.{◌++◌, Bor, List, reverse, ℕ, ◌≡◌}
 
 -- some were taken from the end, and of these the latest were kept
 abbrev pub invariant-loop-setting : goal.invariant-loop-setting

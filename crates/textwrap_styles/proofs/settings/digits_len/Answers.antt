@@ -7,30 +7,18 @@ pub returns-then-not-is_ascii_digit : goal.returns-then-not-is_ascii_digit
 returns-then-not-is_ascii_digit c =
     let next = at_drop_more (prefix_len is_ascii_digit) c.args.parameters.now c.loop-at.at 0
     c.loop-at-test.true in
-    grind (
-      arith,
-      cases_Bool,
-      next,
-      c.loop-at.invariant,
-      c.is_ascii_digit.ensures.value,
-      c.if-not-is_ascii_digit.true,
-    )
+    grind (arith, cases_Bool, next, c.loop-at.invariant, c.is_ascii_digit.ensures.value, c)
 
 pub loop-at-preserved : goal.loop-at-preserved
 loop-at-preserved c =
     let next = at_drop_more (prefix_len is_ascii_digit) c.args.parameters.now c.loop-at.at 0
     c.loop-at-test.true in
-    grind (
-      arith,
-      cases_Bool,
-      next,
-      c.loop-at.invariant,
-      c.is_ascii_digit.ensures.value,
-      c.if-not-is_ascii_digit.false,
-    )
+    grind (arith, cases_Bool, next, c.loop-at.invariant, c.is_ascii_digit.ensures.value, c)
 
 pub returns : goal.returns
 returns c =
-    let all = at_drop_all (prefix_len is_ascii_digit) c.args.parameters.now c.loop-at.at
-    c.loop-at-test.false in
-    omega (arith, all, c.loop-at.invariant, c.loop-at.auto.at-end, c.loop-at-test.false)
+    omega (
+      arith,
+      at_drop_all (prefix_len is_ascii_digit) c.args.parameters.now c.loop-at.at c.loop-at-test.false,
+      c.loop-at.invariant,
+    )

@@ -1,9 +1,8 @@
 use Rattle.textwrap_styles.proofs.settings.next_setting.Goals as goal
-use Rattle.textwrap_styles.proofs.Common.{is_in_range, settings}
+use Rattle.textwrap_styles.{proofs.Common.{is_in_range, settings}, specs.Settings.first_setting}
 use Rattle.textwrap_styles.proofs.SettingTexts.{drop-all, first-take, settings-next, settings-one}
-use Rattle.textwrap_styles.specs.Settings.{first_setting}
-use Rattle.textwrap_text.proofs.Common.{List, [], ap, arith, drop, length, sym, take, take_all, ℕ}
-use Rattle.textwrap_text.proofs.Common.{◌+◌, ◌-◌, ◌<◌, ◌∙◌, ◌∷◌, ◌≡◌, ◌≤◌}
+use Rattle.textwrap_text.proofs.Common.{◌+◌, ◌-◌, ◌<◌, [], ap, arith, drop, length, List, sym, take, take_all}
+use Rattle.textwrap_text.proofs.Common.{ℕ, ◌∙◌, ◌∷◌, ◌≡◌, ◌≤◌}
 
 -- the first setting, where it ends at a place, and those behind the next one
 next : (s first rest : List ℕ) (n : ℕ) → n ≡ length (first_setting s) → n < length s
@@ -11,13 +10,6 @@ next : (s first rest : List ℕ) (n : ℕ) → n ≡ length (first_setting s) �
 next s first rest n is more front back =
     let own : n - 0 ≡ n = omega arith in
     grind (arith, settings-next, first-take, own)
-
--- where it takes all
-only : (s : List ℕ) (n : ℕ) → n ≡ length (first_setting s) → length s ≤ n → settings s ≡ s ∷ []
-only s n is all =
-    let own : first_setting s ≡ s =
-    sym (first-take s) ∙ take_all (length (first_setting s)) s (omega (arith, is, all)) in
-    settings-one s (omega (arith, is, all)) ∙ ap (λ f. f ∷ []) own
 
 pub returns-then-len-parameters-clause-settings : goal.returns-then-len-parameters-clause-settings
 returns-then-len-parameters-clause-settings c =
@@ -32,6 +24,5 @@ returns-then-len-parameters-clause-rest c =
 
 pub returns-else-len-parameters-clause-settings : goal.returns-else-len-parameters-clause-settings
 returns-else-len-parameters-clause-settings c =
-    only c.args.parameters.now c.first_len-len.result
-    (c.first_len-len.ensures ∙ ap (λ s. length (first_setting s)) c.as_bytes.ensures.value)
-    c.if-len-parameters.false
+    let len = ap (λ s. length (first_setting s)) c.as_bytes.ensures.value in
+    settings-one c.args.parameters.now (omega (arith, len, c.first_len-len.ensures, c.if-len-parameters.false))

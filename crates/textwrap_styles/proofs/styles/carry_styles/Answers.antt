@@ -1,7 +1,7 @@
 use Rattle.textwrap_styles.proofs.styles.carry_styles.Goals as goal
-use Rattle.textwrap_styles.proofs.CarriedLines.{carries-more, line-is}
-use Rattle.textwrap_styles.{proofs.Common.closing, proofs.Common.sequences, specs.Styles.opening}
-use Rattle.textwrap_text.proofs.Common.{ap, drop, rules, ◌++◌, ◌∙◌, ◌≡◌}
+use Rattle.textwrap_styles.proofs.{CarriedLines.{carries-more, line-is}, Common.{closing, sequences}}
+use Rattle.textwrap_styles.specs.Styles.{opening}
+use Rattle.textwrap_text.proofs.Common.{◌++◌, ap, drop, rules, ◌∙◌, ◌≡◌}
 
 pub loop-line-preserved : goal.loop-line-preserved
 loop-line-preserved g c =

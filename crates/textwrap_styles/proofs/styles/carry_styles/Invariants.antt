@@ -1,8 +1,7 @@
 use Rattle.textwrap_styles.proofs.styles.carry_styles.Given as goal
 use Rattle.textwrap_layout.specs.Paragraph.{line_view}
-use Rattle.textwrap_styles.proofs.Common.{IsKeptAfter, carried_lines}
-use Rattle.textwrap_styles.specs.Styles.{texts_of}
-use Rattle.textwrap_text.proofs.Common.{List, Utf8, [], drop, map, shadow, ℕ, ◌++◌, ◌≡◌}
+use Rattle.textwrap_styles.{proofs.Common.{carried_lines, IsKeptAfter}, specs.Styles.texts_of}
+use Rattle.textwrap_text.proofs.Common.{◌++◌, [], drop, List, map, shadow, Utf8, ℕ, ◌≡◌}
 
 -- the lines so far, and those of what is left after some sequences, are all lines
 abbrev pub invariant-loop-line : goal.invariant-loop-line

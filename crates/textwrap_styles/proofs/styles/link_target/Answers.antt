@@ -1,10 +1,8 @@
 use Rattle.textwrap_styles.proofs.styles.link_target.Goals as goal
-use Rattle.std.{proofs.lemmas.Str.Pattern.split_once_first, specs.List.after_first}
-use Rattle.std.specs.Option.{MatchOption}
-use Rattle.textwrap_styles.proofs.{Common.is_link, Sequences.IsAround, Sequences.link-cases}
+use Rattle.std.{proofs.lemmas.Str.Pattern.split_once_first, specs.List.after_first, specs.Option.MatchOption}
+use Rattle.textwrap_styles.proofs.{Common.is_link, Sequences.{IsAround, link-cases}}
 use Rattle.textwrap_styles.proofs.styles.link_target.Goals.{After-or}
-use Rattle.textwrap_text.proofs.Common.{ap, arith, codes, false, length, nat_lt, nat_tests}
-use Rattle.textwrap_text.proofs.Common.{position_or_len, subst, sym, true, ◌==◌, ◌∙◌, ◌≡◌}
+use Rattle.textwrap_text.proofs.Common.{◌==◌, ap, arith, codes, false, nat_tests, subst, sym, ◌∙◌, ◌≡◌}
 use Rattle.textwrap_text.proofs.Lists.Parts.{any-position, stripped_prefix}
 
 -- what is found of either end says whether it is a link
@@ -25,34 +23,29 @@ returns-in_err-fields-2-clause-link c =
     (cases (goal.at.returns-in_err-fields-2-clause-link c).After-or) in
     rw c.from_residual-in_err-fields-2.ensures (sym none)
 
+-- a semicolon is found where the fields have one
 pub returns-in_err-target-clause-link : goal.returns-in_err-target-clause-link
 returns-in_err-target-clause-link c =
     let fields = c.in_ok-fields-2.fields.now in
     let whole = rw c.in_ok-fields-2.was at
     (cases (goal.at.returns-in_err-target-clause-link c).After-or) in
-    let found = split_once_first 59 fields c.split_once.result c.split_once.ensures.cases
-    (omega arith) in
-    let none = rw c.in_err-target.was at found in
-    let at = position_or_len (λ b. b == 59) fields in
-    let past : nat_lt at (length fields) ≡ false = grind (arith, nat_tests) in
+    let found = rw c.in_err-target.was at
+    (split_once_first 59 fields c.split_once.result c.split_once.ensures.cases (omega arith)) in
     rw c.from_residual-in_err-target.ensures
-    (sym (whole.is ∙ any-position (λ b. b == 59) fields ∙ past))
+    (grind (arith, nat_tests, found, whole.is, any-position (λ b. b == 59) fields))
 
 pub returns-clause-link : goal.returns-clause-link
 returns-clause-link c =
     let fields = c.in_ok-fields-2.fields.now in
     let whole = rw c.in_ok-fields-2.was at (cases (goal.at.returns-clause-link c).After-or) in
-    let found = split_once_first 59 fields c.split_once.result c.split_once.ensures.cases
-    (omega arith) in
-    let there = rw c.in_ok-target.was at found in
-    let at = position_or_len (λ b. b == 59) fields in
-    let before : nat_lt at (length fields) ≡ true = grind (arith, nat_tests, there.0) in
-    sym (whole.is ∙ any-position (λ b. b == 59) fields ∙ before)
+    let found = rw c.in_ok-target.was at
+    (split_once_first 59 fields c.split_once.result c.split_once.ensures.cases (omega arith)) in
+    grind (arith, nat_tests, found.0, whole.is, any-position (λ b. b == 59) fields)
 
 pub returns-clause-target : goal.returns-clause-target
 returns-clause-target c =
     let whole = rw c.in_ok-fields-2.was at (cases (goal.at.returns-clause-target c).After-or) in
-    let found = split_once_first 59 c.in_ok-fields-2.fields.now c.split_once.result
-    c.split_once.ensures.cases (omega arith) in
-    let there = rw c.in_ok-target.was at found in
-    there.2 ∙ ap (after_first (λ b. b == 59)) (sym whole.are)
+    let found = rw c.in_ok-target.was at
+    (split_once_first 59 c.in_ok-fields-2.fields.now c.split_once.result c.split_once.ensures.cases
+    (omega arith)) in
+    found.2 ∙ ap (after_first (λ b. b == 59)) (sym whole.are)

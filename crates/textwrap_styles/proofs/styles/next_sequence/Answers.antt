@@ -1,10 +1,9 @@
 use Rattle.textwrap_styles.proofs.styles.next_sequence.Goals as goal
 use Rattle.std.{proofs.lemmas.Str.Pattern.split_parts, specs.Str.NoCharPasses}
-use Rattle.textwrap_styles.proofs.Common.{sequences}
+use Rattle.textwrap_styles.proofs.{Common.sequences, styles.next_sequence.Goals.In_ok-before}
 use Rattle.textwrap_styles.proofs.Sequences.{end-boundary, no_sequences, sequences-next, tail_len}
-use Rattle.textwrap_styles.proofs.styles.next_sequence.Goals.{In_ok-before}
-use Rattle.textwrap_text.proofs.Common.{IsCharBoundary, arith, drop, eqb, length, slice_range}
-use Rattle.textwrap_text.proofs.Common.{subst, sym, ℕ, ◌++◌, ◌+◌, ◌∷◌, ◌≡◌}
+use Rattle.textwrap_text.proofs.Common.{◌+◌, ◌++◌, arith, drop, eqb, IsCharBoundary, length, slice_range}
+use Rattle.textwrap_text.proofs.Common.{subst, sym, ℕ, ◌∷◌, ◌≡◌}
 
 pub returns-in_err-before-clause-sequences : goal.returns-in_err-before-clause-sequences
 returns-in_err-before-clause-sequences c =
@@ -27,19 +26,15 @@ boundary c n is =
 
 pub overflow_add-end-2 : goal.overflow_add-end-2
 overflow_add-end-2 c =
-    let cut = boundary (goal.at.overflow_add-end-2 c).In_ok-before c.sequence_tail_len.result
-    c.sequence_tail_len.ensures in
-    omega (arith, cut.0)
+    omega (arith, (boundary (goal.at.overflow_add-end-2 c).In_ok-before _ c.sequence_tail_len.ensures).0)
 
 pub range-requires-clause-end_boundary : goal.range-requires-clause-end_boundary
 range-requires-clause-end_boundary c =
-    boundary (goal.at.range-requires-clause-end_boundary c).In_ok-before c.sequence_tail_len.result
-    c.sequence_tail_len.ensures
+    boundary (goal.at.range-requires-clause-end_boundary c).In_ok-before _ c.sequence_tail_len.ensures
 
 pub range_from-requires : goal.range_from-requires
 range_from-requires c = λ _.
-    boundary (goal.at.range_from-requires c).In_ok-before c.sequence_tail_len.result
-    c.sequence_tail_len.ensures
+    boundary (goal.at.range_from-requires c).In_ok-before _ c.sequence_tail_len.ensures
 
 pub returns-clause-sequences : goal.returns-clause-sequences
 returns-clause-sequences c =

@@ -19,5 +19,4 @@ loop-at-preserved c =
     (read_to-step c.args.after.now _ _ _ c.loop-at.invariant _ c.in-Some.ch _ inside s.1 s.2)
 
 pub returns : goal.returns
-returns c =
-    read_to-end c.args.after.now _ _ _ c.loop-at.invariant c.in-None.ensures.steps.0
+returns c = read_to-end c.args.after.now _ _ _ c.loop-at.invariant c.in-None.ensures.steps.0

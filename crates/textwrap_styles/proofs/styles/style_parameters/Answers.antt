@@ -1,6 +1,5 @@
 use Rattle.textwrap_styles.proofs.styles.style_parameters.Goals as goal
-use Rattle.textwrap_styles.proofs.Common.{is_in_range, is_style}
-use Rattle.textwrap_styles.proofs.Sequences.{not_style, style-is}
+use Rattle.textwrap_styles.proofs.{Common.{is_in_range, is_style}, Sequences.{not_style, style-is}}
 use Rattle.textwrap_styles.proofs.styles.style_parameters.Goals.{In_ok-parameters}
 use Rattle.textwrap_text.proofs.Common.{ap, arith, codes, list_all, sym, ◌∙◌, ◌≡◌}
 use Rattle.textwrap_text.proofs.Lists.Parts.{stripped_prefix, stripped_suffix}
@@ -18,17 +17,16 @@ style : (c : In_ok-parameters)
     ≡ is_style c.args.sequence.now
 style c =
     let front = c.in_ok-strip_prefix.ensures.cases in
-    let back = c.in_ok-parameters.ensures.cases in
-    grind (arith, stripped_prefix, stripped_suffix, style-is, front, back)
+    grind (arith, stripped_prefix, stripped_suffix, style-is, front, c.in_ok-parameters.ensures.cases)
 
 pub returns-then-are_style_parameters-clause-style :
     goal.returns-then-are_style_parameters-clause-style
 returns-then-are_style_parameters-clause-style c =
-    let at = goal.at.returns-then-are_style_parameters-clause-style c in
-    c.if-are_style_parameters.ensures ∙ style at.In_ok-parameters
+    c.if-are_style_parameters.ensures
+    ∙ style (goal.at.returns-then-are_style_parameters-clause-style c).In_ok-parameters
 
 pub returns-else-are_style_parameters-clause-style :
     goal.returns-else-are_style_parameters-clause-style
 returns-else-are_style_parameters-clause-style c =
-    let at = goal.at.returns-else-are_style_parameters-clause-style c in
-    c.if-are_style_parameters.ensures ∙ style at.In_ok-parameters
+    c.if-are_style_parameters.ensures
+    ∙ style (goal.at.returns-else-are_style_parameters-clause-style c).In_ok-parameters

@@ -1,18 +1,15 @@
 use Rattle.textwrap_styles.proofs.latest.Later.insert.Goals as goal
 use Rattle.std.proofs.lemmas.Map.Text.{is_eq-slice_cmp}
-use Rattle.textwrap_styles.proofs.Common.{kind_of}
-use Rattle.textwrap_styles.proofs.OpenSettings.{any-replaces, any-unknown, unknown-other}
-use Rattle.textwrap_styles.specs.Settings.{is_unknown, number, takes_back}
-use Rattle.textwrap_text.proofs.Common.{ap, arith, cases_Bool, false, list_any, not, sym, true}
-use Rattle.textwrap_text.proofs.Common.{◌&&◌, ◌==◌, ◌||◌, ◌∙◌, ◌≡◌}
+use Rattle.textwrap_styles.proofs.{Common.kind_of, OpenSettings.{any-replaces, any-unknown, unknown-other}}
+use Rattle.textwrap_styles.specs.Settings.{is_unknown, takes_back}
+use Rattle.textwrap_text.proofs.Common.{◌&&◌, ap, arith, cases_Bool, false, list_any, not, sym, true, ◌∙◌}
+use Rattle.textwrap_text.proofs.Common.{◌≡◌}
 
 pub returns-then-is_unknown-clause-fresh : goal.returns-then-is_unknown-clause-fresh
 returns-then-is_unknown-clause-fresh g c = λ later are.
-    let s = c.args.setting.now in
-    let unknown : is_unknown (kind_of s) ≡ true =
-    sym (c.if-is_unknown.ensures ∙ ap is_unknown c.kind_of-kind.ensures) in
-    c.in_ok-insert.ensures.added
-    ∙ ap not (are.unknown c.args.setting ∙ sym (any-unknown s later unknown))
+    let same = any-unknown c.args.setting.now later in
+    let fresh = are.unknown c.args.setting in
+    grind (arith, same, fresh, c.if-is_unknown.ensures, c.kind_of-kind.ensures, c.in_ok-insert.ensures.added)
 
 pub returns-then-is_unknown-clause-added : goal.returns-then-is_unknown-clause-added
 returns-then-is_unknown-clause-added g c = λ later are.
@@ -20,20 +17,10 @@ returns-then-is_unknown-clause-added g c = λ later are.
     let unknown : is_unknown (kind_of s) ≡ true =
     sym (c.if-is_unknown.ensures ∙ ap is_unknown c.kind_of-kind.ensures) in
     record {
-      kinds = λ n below.
-          are.kinds n below
-          ∙ ap (λ b. b || list_any (λ t. number (kind_of t) == n) later)
-          (sym (unknown-other (kind_of s) n unknown below));
+      kinds = λ n below. grind (arith, are.kinds n below, unknown-other (kind_of s) n unknown below);
       unknown = λ t.
           let same = is_eq-slice_cmp s t.now in
-          grind (
-            arith,
-            cases_Bool,
-            c.in_ok-insert.ensures.updates.0 t,
-            same,
-            are.unknown t,
-            unknown,
-          );
+          grind (arith, cases_Bool, c.in_ok-insert.ensures.updates.0 t, same, are.unknown t, unknown);
     }
 
 pub returns-clause-fresh : goal.returns-clause-fresh

@@ -1,5 +1,5 @@
 use Rattle.textwrap_styles.proofs.settings.Kind.number.Goals as goal
-use Rattle.textwrap_styles.{proofs.Common.Kind, proofs.Common.Reset, specs.Settings.number}
+use Rattle.textwrap_styles.{proofs.Common.{Kind, Reset}, specs.Settings.number}
 use Rattle.textwrap_styles.specs.contracts.settings.Kind.{the_type}
 use Rattle.textwrap_text.proofs.Common.{refl, ◌≡◌}
 use denote.Enum.Declared.{tag_of}

@@ -1,14 +1,11 @@
 use Rattle.textwrap_styles.proofs.styles.OpenStyles.push_opening.Goals as goal
+use Rattle.std.{proofs.lemmas.List.Folds.concat-append, specs.Option.{option_copied, option_to_list}}
+use Rattle.textwrap_styles.proofs.{Common.{concat, open_styles, written}, LinkIds.kept-link}
+use Rattle.textwrap_styles.{proofs.OpenSettings.texts, specs.Styles.reopened_link}
 use Rattle.textwrap_styles.proofs.styles.OpenStyles.push_opening.Goals.{in-Some+in_ok-push_link, in_default}
-use Rattle.std.specs.Option.{option_copied, option_to_list}
-use Rattle.textwrap_styles.proofs.LinkIds.{kept-link}
-use Rattle.textwrap_styles.proofs.Common.{open_styles}
-use Rattle.textwrap_styles.specs.Styles.{reopened_link, with_id}
-use Rattle.std.proofs.lemmas.List.Folds.{concat-append}
-use Rattle.textwrap_styles.proofs.{Common.concat, Common.written, OpenSettings.texts}
-use Rattle.textwrap_text.proofs.Common.{Bor, List, append-nil, append_assoc, arith, codes, get_or}
-use Rattle.textwrap_text.proofs.Common.{length, map, map-append, take, take_more, ℕ, ◌++◌, ◌+◌, ◌<◌}
-use Rattle.textwrap_text.proofs.Common.{[], ap, rules, string_bytes, sym, take_all, ◌∙◌, ◌∷◌, ◌≡◌}
+use Rattle.textwrap_text.proofs.Common.{◌+◌, ◌++◌, ◌<◌, ap, append-nil, append_assoc, arith, Bor, codes}
+use Rattle.textwrap_text.proofs.Common.{get_or, length, List, map, map-append, rules, string_bytes, sym, take}
+use Rattle.textwrap_text.proofs.Common.{take_all, take_more, ℕ, ◌∙◌, ◌≡◌}
 
 -- the settings so far, one after the other, and one more
 written-more : (ss : List (Bor (List ℕ))) (n : ℕ) (d : Bor (List ℕ))
@@ -17,8 +14,7 @@ written-more : (ss : List (Bor (List ℕ))) (n : ℕ) (d : Bor (List ℕ))
     → filled ≡ begun ++ (get_or ss n d).now → new ≡ filled ++ codes "m"
     → new ≡ front ++ concat (map written (texts (take (n + 1) ss)))
 written-more ss n d front old begun filled new within is starts sets ends =
-    let next = take_more ss n d within in
-    grind (arith, append-nil, append_assoc, map-append, concat-append, next)
+    grind (arith, append-nil, append_assoc, map-append, concat-append, take_more ss n d within)
 
 pub loop-setting-preserved : goal.loop-setting-preserved
 loop-setting-preserved g c =

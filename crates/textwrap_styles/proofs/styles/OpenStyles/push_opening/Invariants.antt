@@ -1,6 +1,6 @@
 use Rattle.textwrap_styles.proofs.styles.OpenStyles.push_opening.Given as goal
-use Rattle.textwrap_styles.proofs.{Common.concat, Common.written, OpenSettings.texts}
-use Rattle.textwrap_text.proofs.Common.{map, string_bytes, take, ◌++◌, ◌≡◌}
+use Rattle.textwrap_styles.proofs.{Common.{concat, written}, OpenSettings.texts}
+use Rattle.textwrap_text.proofs.Common.{◌++◌, map, string_bytes, take, ◌≡◌}
 
 -- the settings so far were added
 abbrev pub invariant-loop-setting : goal.invariant-loop-setting

@@ -1,13 +1,11 @@
 use Rattle.textwrap_styles.proofs.styles.OpenStyles.read.Goals as goal
 use Rattle.textwrap_layout.proofs.Text.Sinks.{on_ok_both}
-use Rattle.textwrap_styles.proofs.Common.{IsKeptAfter, in_effect, is_link, latest, open_link}
-use Rattle.textwrap_styles.proofs.Common.{open_settings}
-use Rattle.textwrap_styles.proofs.Common.{sequences, settings_of}
-use Rattle.textwrap_styles.proofs.OpenSettings.{effect-again, resets}
+use Rattle.textwrap_styles.proofs.Common.{in_effect, is_link, IsKeptAfter, latest, open_link, open_settings}
+use Rattle.textwrap_styles.proofs.{Common.{sequences, settings_of}, OpenSettings.{effect-again, resets}}
 use Rattle.textwrap_styles.specs.{OpenStyles.IsReadTo, declared.styles.OpenStyles.OpenStyles}
-use Rattle.textwrap_text.proofs.Common.{List, [], after_last, ap, append-nil, append_assoc}
+use Rattle.textwrap_text.proofs.Common.{◌++◌, [], after_last, ap, append-nil, append_assoc, filter, flat_map}
+use Rattle.textwrap_text.proofs.Common.{length, List, refl, rules, subst, sym, ℕ, ◌∙◌, ◌∷◌, ◌≡◌}
 use Rattle.textwrap_text.specs.LentText.{as_len}
-use Rattle.textwrap_text.proofs.Common.{filter, flat_map, length, refl, rules, subst, sym, ℕ, ◌++◌, ◌∙◌, ◌∷◌, ◌≡◌}
 
 -- what is kept where a line begins is read up to there
 kept-read : {Z : Type 0} (before : List (List ℕ)) (state : OpenStyles Z)

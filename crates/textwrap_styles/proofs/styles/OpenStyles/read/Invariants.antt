@@ -1,7 +1,6 @@
 use Rattle.textwrap_styles.proofs.styles.OpenStyles.read.Given as goal
-use Rattle.textwrap_styles.proofs.Common.{IsKeptAfter, sequences}
-use Rattle.textwrap_styles.specs.OpenStyles.{IsReadTo}
-use Rattle.textwrap_text.proofs.Common.{List, Utf8, length, shadow, ℕ, ◌++◌, ◌≡◌}
+use Rattle.textwrap_styles.{proofs.Common.{IsKeptAfter, sequences}, specs.OpenStyles.IsReadTo}
+use Rattle.textwrap_text.proofs.Common.{◌++◌, length, List, shadow, Utf8, ℕ, ◌≡◌}
 
 -- some sequences were taken, and those of what is left follow them
 abbrev pub invariant-loop-sequence : goal.invariant-loop-sequence

@@ -1,7 +1,6 @@
 use Rattle.textwrap_styles.proofs.styles.OpenStyles.read_parameters.Given as goal
-use Rattle.textwrap_styles.proofs.Common.{is_in_range, open_settings, settings}
-use Rattle.textwrap_styles.specs.OpenStyles.{AreOpen}
-use Rattle.textwrap_text.proofs.Common.{List, Utf8, length, list_all, shadow, true, ℕ, ◌++◌, ◌≡◌}
+use Rattle.textwrap_styles.{proofs.Common.{is_in_range, open_settings, settings}, specs.OpenStyles.AreOpen}
+use Rattle.textwrap_text.proofs.Common.{◌++◌, length, List, list_all, shadow, true, Utf8, ℕ, ◌≡◌}
 
 -- some settings were taken, and those of what is left follow them
 abbrev pub invariant-loop-rest : goal.invariant-loop-rest

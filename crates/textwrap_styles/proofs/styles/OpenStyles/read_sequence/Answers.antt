@@ -1,9 +1,8 @@
 use Rattle.textwrap_styles.proofs.styles.OpenStyles.read_sequence.Goals as goal
-use Rattle.textwrap_styles.proofs.Common.{open_settings, settings, settings_of}
+use Rattle.textwrap_styles.{proofs.Common.{open_settings, settings, settings_of}, specs.OpenStyles.AreOpen}
 use Rattle.textwrap_styles.proofs.Sequences.{open_link-push, style-no_link}
-use Rattle.textwrap_styles.specs.OpenStyles.{AreOpen}
-use Rattle.textwrap_text.proofs.Common.{[], append-nil, arith, cases_Bool, filter-append, flat_map}
-use Rattle.textwrap_text.proofs.Common.{flat_map-append, subst, sym, ◌++◌, ◌∷◌, ◌≡◌}
+use Rattle.textwrap_text.proofs.Common.{◌++◌, [], append-nil, arith, cases_Bool, filter-append, flat_map}
+use Rattle.textwrap_text.proofs.Common.{flat_map-append, subst, sym, ◌∷◌, ◌≡◌}
 
 pub returns-in_ok-read_parameters : goal.returns-in_ok-read_parameters
 returns-in_ok-read_parameters g c = λ before state.

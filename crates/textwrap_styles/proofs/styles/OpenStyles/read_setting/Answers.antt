@@ -1,20 +1,13 @@
 use Rattle.textwrap_styles.proofs.styles.OpenStyles.read_setting.Goals as goal
-use Rattle.textwrap_styles.proofs.Common.{Reset, in_effect, latest, open_settings}
-use Rattle.textwrap_styles.proofs.OpenSettings.{effect-push, open_settings-push, resets, texts}
-use Rattle.textwrap_styles.{proofs.OpenSettings.with_setting, specs.Settings.number}
-use Rattle.textwrap_text.proofs.Common.{Bor, List, [], ap, cond, false, map-append, sym, ℕ, ◌++◌}
-use Rattle.textwrap_text.proofs.Common.{◌==◌, ◌∙◌, ◌∷◌, ◌≡◌}
+use Rattle.textwrap_styles.proofs.OpenSettings.{effect-push, open_settings-push, texts}
+use Rattle.textwrap_text.proofs.Common.{[], ap, arith, Bor, cases_Bool, List, map-append, ℕ, ◌∙◌, ◌∷◌}
 
 pub returns-in_ok-push-clause-settings : goal.returns-in_ok-push-clause-settings
 returns-in_ok-push-clause-settings g c = λ before state.
     let s = c.args.setting.now in
     let old = c.args.self.now.settings.items in
-    let sets : resets s ≡ false =
-    sym (c.if-is_reset.ensures ∙ ap (λ k. number k == number Reset) c.kind_of.ensures) in
-    let pushed : texts c.push.new.self.items ≡ texts old ++ s ∷ [] =
-    ap texts c.in_ok-push.ensures.items
+    let pushed = ap texts c.in_ok-push.ensures.items
     ∙ map-append (λ (t : Bor (List ℕ)). t.now) old (c.args.setting ∷ []) in
-    ap (λ ss. in_effect (latest ss)) pushed ∙ effect-push (texts old) s
-    ∙ ap (λ now. with_setting now s) state
-    ∙ sym (open_settings-push before s
-    ∙ ap (λ b. cond b [] (with_setting (open_settings before) s)) sets)
+    let push = effect-push (texts old) s in
+    let open_push = open_settings-push before s in
+    grind (arith, cases_Bool, pushed, push, open_push, state, c.if-is_reset.ensures, c.kind_of.ensures)

@@ -111,8 +111,8 @@ module _ (settings : Settings) where
 
 -- ---- a text that is filled with its lines justified, one paragraph after another
 
+-- with right lines of the paragraphs that are left, it is the whole
 module _ (settings : Settings) (Divides : Bool → List ℕ → List (List WordText) → Type 0) where
-  -- with right lines of the paragraphs that are left, it is the whole
   pub record IsJustifiedSoFar (text filled : List ℕ) (is_later : Bool) (left : List (List ℕ))
       : Type 0 where
     pub done : List (List ℕ)
@@ -121,20 +121,21 @@ module _ (settings : Settings) (Divides : Bool → List ℕ → List (List WordT
         → AreGroups (AreParagraphParts settings Divides) is_later left groups
         → IsJustifiedText settings Divides text (filled ++ rows settings is_later groups)
 
+module _ {settings : Settings} {Divides : Bool → List ℕ → List (List WordText) → Type 0} where
   pub so_far-start : (text filled : List ℕ) → filled ≡ []
-      → IsJustifiedSoFar text filled false (paragraphs_of settings.line_ending text)
+      → IsJustifiedSoFar settings Divides text filled false (paragraphs_of settings.line_ending text)
   so_far-start text filled none = search (rules, arith, join-on)
 
   -- the lines of one more paragraph
-  pub so_far-more : (text filled new : List ℕ) (is_later then_later : Bool) (paragraph : List ℕ)
-      (after : List (List ℕ)) (parts : List LineParts)
-      → IsJustifiedSoFar text filled is_later (paragraph ∷ after)
+  pub so_far-more : {text filled new : List ℕ} {is_later then_later : Bool} {paragraph : List ℕ}
+      {after : List (List ℕ)} (parts : List LineParts)
+      → IsJustifiedSoFar settings Divides text filled is_later (paragraph ∷ after)
       → AreParagraphParts settings Divides is_later paragraph parts
       → new ≡ filled ++ added_lines settings is_later (map line_bytes (map line_from parts))
       → then_later ≡ is_later || nat_lt 0 (length parts)
-      → IsJustifiedSoFar text new then_later after
-  so_far-more text filled new is_later then_later paragraph after parts so_far
-      (division, laid_out, are) is then = record {
+      → IsJustifiedSoFar settings Divides text new then_later after
+  so_far-more {text = text} {filled = filled} {new = new} {is_later = is_later} {then_later = then_later}
+      {paragraph = paragraph} {after = after} parts so_far (division, laid_out, are) is then = record {
         done = so_far.done ++ paragraph ∷ [];
         paragraphs = so_far.paragraphs ∙ sym (append_assoc so_far.done (paragraph ∷ []) after);
         whole = λ groups rest.
@@ -144,9 +145,9 @@ module _ (settings : Settings) (Divides : Bool → List ℕ → List (List WordT
             (so_far.whole (parts ∷ groups) ((division, laid_out, are), rw then at rest));
       }
 
-  pub so_far-end : (text filled : List ℕ) (is_later : Bool)
-      → IsJustifiedSoFar text filled is_later [] → IsJustifiedText settings Divides text filled
-  so_far-end text filled is_later so_far =
+  pub so_far-end : {text filled : List ℕ} {is_later : Bool}
+      → IsJustifiedSoFar settings Divides text filled is_later [] → IsJustifiedText settings Divides text filled
+  so_far-end {text = text} {filled = filled} so_far =
       subst (IsJustifiedText settings Divides text) (append-nil filled) (so_far.whole [] refl)
 
 -- the same text, where all parts are built in and can be named

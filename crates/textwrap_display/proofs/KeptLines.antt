@@ -1,12 +1,14 @@
 -- The longest beginning of a line that may be kept, and the first lines as they are.
+use Rattle.textwrap_display.proofs.KeptWords.{BlankAhead, IsLatest, ahead-blank, before-character, blank-ahead}
+use Rattle.textwrap_display.proofs.KeptWords.{latest-here, latest-on, latest-past}
+use Rattle.textwrap_text.proofs.Common.{IsCharBoundary}
 use Rattle.std.specs.declared.borrow.CowStr.TheVariants.{Borrowed, Owned}
 use Rattle.textwrap_display.proofs.Common.{AreShortened, Built, CowStr, IsShortened, Line, Slice}
 use Rattle.textwrap_display.proofs.Common.{State, String, can_end, cow_str_bytes, encode_utf8}
 use Rattle.textwrap_display.proofs.Common.{line_bytes, line_bytes-line_view, line_view, read-all}
-use Rattle.textwrap_display.proofs.{Common.texts_of, KeptWords.IsReadTo, KeptWords.is_after_blank}
-use Rattle.textwrap_display.proofs.KeptWords.{may_end-blanks, may_end-boundary, may_end-here}
-use Rattle.textwrap_display.proofs.KeptWords.{may_end-other, may_end-past, may_end-whole}
-use Rattle.textwrap_display.proofs.KeptWords.{may_end-within, read-more, read-width}
+use Rattle.textwrap_display.proofs.{Common.texts_of, KeptWords.IsReadTo}
+use Rattle.textwrap_display.proofs.KeptWords.{may_end-boundary, may_end-here, may_end-other}
+use Rattle.textwrap_display.proofs.KeptWords.{may_end-within}
 use Rattle.textwrap_display.proofs.WholeBeginnings.{read-whole, whole-read}
 use Rattle.textwrap_display.specs.Shortening.{CanEnd, IsKeptBeginning}
 use Rattle.textwrap_layout.specs.Text.{HasWholeSequences}
@@ -21,54 +23,53 @@ use Rattle.textwrap_text.specs.declared.escapes.State.TheVariants.{Text}
 
 -- ---- what the reader has found of a line up to a place: the longest beginning that may be kept
 
--- the columns of a beginning have room
-abbrev pub HasRoom : ℕ → List ℕ → ℕ → Type 0
-HasRoom room line n = text_width (take n line) ≤ room
-
--- the longest beginning before the place that may be kept
-pub record IsFound (room : ℕ) (line : List ℕ) (place kept : ℕ) : Type 0 where
-  pub ends : CanEnd line kept
-  pub fits : (kept ≡ 0) ⊎ HasRoom room line kept
-  pub longest : (m : ℕ) → m < place → CanEnd line m → HasRoom room line m → m ≤ kept
+abbrev pub IsFound : ℕ → List ℕ → ℕ → ℕ → Type 0
+IsFound room line = IsLatest (CanEnd line) room line
 
 -- nothing may be kept
 pub none-kept : (line : List ℕ) → CanEnd line 0
 none-kept line = (refl, nil-whole.1)
 
-pub found-none : (room : ℕ) (line : List ℕ) (place : ℕ) → place ≡ 0 → IsFound room line place 0
-found-none room line place start = record {
-  ends = none-kept line;
-  fits = inl refl;
-  longest = λ m before may room. omega (arith, before, start);
-}
-
 -- what is found at the end is kept, where this is the room beside the placeholder
 pub found-kept : {room width : ℕ} {placeholder line : List ℕ} {n : ℕ}
     → room + text_width placeholder ≡ width → IsFound room line (length line + 1) n
     → IsKeptBeginning width placeholder line n
-found-kept {line = line} {n = n} is h = record {
-  within = may_end-within line n h.ends.0;
-  ends = h.ends;
-  room = elim h.fits [ inl none ↦ inl none | inr has ↦ inr (omega (arith, has, is)) ];
-  longest = λ m may has. h.longest m (omega (arith, may_end-within line m may.0)) may
-      (omega (arith, has, is));
-}
+found-kept {line = line} {n = n} is h =
+    let ends : CanEnd line n = elim h.fits [
+      | inl none ↦ rw none (none-kept line)
+      | inr (may, has) ↦ may
+    ] in
+    record {
+      within = may_end-within line n ends.0;
+      ends = ends;
+      room = elim h.fits [ inl none ↦ inl none | inr (may, has) ↦ inr (omega (arith, has, is)) ];
+      longest = λ m may has. h.latest m (omega (arith, may_end-within line m may.0)) may
+          (omega (arith, has, is));
+    }
 
 module _ {room : ℕ} {line : List ℕ} (utf8 : IsUtf8 line) {place : ℕ} {rest : List ℕ}
     {state : State} {taken kept : ℕ} {after_blank : Bool}
     (read : IsReadTo line place rest state taken after_blank)
     (found : IsFound room line place kept) where
-  -- what else may have room before a later place is before this one
-  found-until : (end : ℕ)
-      → ((m : ℕ) → place ≤ m → m < end → CanEnd line m → HasRoom room line m → m ≡ 0)
-      → IsFound room line end kept
-  found-until end none = search (rules, arith)
+  boundary : (m : ℕ) → CanEnd line m → IsCharBoundary line m
+  boundary m may = may_end-boundary line m utf8 may.0
+
+  ends-here : after_blank ≡ false → state ≡ Text → BlankAhead line place → CanEnd line place
+  ends-here some outside ahead =
+      (may_end-here line place (sym read.blank ∙ some) ahead, read-whole read outside)
+
+  ends-other : (BlankAhead line place → after_blank ≡ false → state ≢ Text) → CanEnd line place
+      → place ≤ kept
+  ends-other other may =
+      let start = may_end-other line place may.0 (λ ahead. sym read.blank ∙ elim (cases_Bool after_blank) [
+        | inl is ↦ is
+        | inr some ↦ absurd (other ahead some (whole-read read may.1))
+      ]) in
+      omega (arith, start)
 
   -- past the room nothing has room
   pub found-past : room < taken → IsFound room line (length line + 1) kept
-  found-past past = found-until (length line + 1) (λ m later before may has.
-      let more = read-more utf8 read m later (may_end-boundary line m utf8 may.0) in
-      absurd (omega (arith, has, past, more)))
+  found-past over = latest-past utf8 read found (length line + 1) boundary over
 
   module _ (c : ℕ) (after : List ℕ) (is : rest ≡ encode_utf8 c ++ after) (end : ℕ)
       (past : end ≡ place + length (encode_utf8 c)) where
@@ -76,69 +77,38 @@ module _ {room : ℕ} {line : List ℕ} (utf8 : IsUtf8 line) {place : ℕ} {rest
     whole = read.read.place ∙ is
 
     -- in the character no beginning ends
-    outside : (m : ℕ) → m < end → CanEnd line m → m ≤ place
-    outside m before may = search (rules, arith, cases_lt, may_end-past, whole)
+    within : (m : ℕ) → m < end → CanEnd line m → m ≤ place
+    within m before may = before-character line utf8 place c after read.read.boundary whole m
+        (omega (arith, before, past)) (boundary m may)
 
     -- one may end before it
     pub found-here : taken ≤ room → c ≡ 32 → after_blank ≡ false → state ≡ Text
         → IsFound room line end place
-    found-here has blank some ended = record {
-      ends = (
-        may_end-here line utf8 place c after read.read.boundary whole (ap (λ x. eqb x 32) blank)
-            (sym read.blank ∙ some),
-        read-whole read ended,
-      );
-      fits = inr (omega (arith, has, read-width utf8 read));
-      longest = λ m before may room. outside m before may;
-    }
+    found-here has blank some outside = latest-here utf8 read found end within has (ends-here some outside
+        (blank-ahead line utf8 place c after read.read.boundary whole (ap (λ x. eqb x 32) blank)))
 
     -- none may
     pub found-on : (c ≡ 32 → after_blank ≡ false → state ≢ Text) → IsFound room line end kept
-    found-on other = found-until end (λ m later before may has.
-        let here : m ≡ place = omega (arith, later, outside m before may) in
-        let ended = whole-read read (subst (λ n. HasWholeSequences (take n line)) here may.1) in
-        here ∙ may_end-other line utf8 place c after read.read.boundary whole
-        (λ blank. sym read.blank ∙ elim (cases_Bool after_blank) [
-          | inl is ↦ is
-          | inr some ↦ absurd (other (eqb-true c 32 blank) some ended)
-        ])
-        (subst (λ n. can_end line n ≡ true) here may.0))
+    found-on other = latest-on utf8 read found end within (λ has. ends-other (λ ahead.
+        other (eqb-true c 32 (ahead-blank line utf8 place c after read.read.boundary whole ahead))))
 
   module _ (ended : length rest ≡ 0) where
     at_end : place ≡ length line
     at_end = read-all read.read ended
 
-    after_last : after_blank ≡ is_after_blank line (length line)
-    after_last = read.blank ∙ ap (is_after_blank line) at_end
+    last : (m : ℕ) → m < length line + 1 → CanEnd line m → m ≤ place
+    last m before may = omega (arith, before, at_end)
 
     -- the whole line may be kept
     pub found-whole : taken ≤ room → after_blank ≡ false → state ≡ Text
         → IsFound room line (length line + 1) (length line)
-    found-whole has some outside = record {
-      ends = (
-        may_end-whole line (sym after_last ∙ some),
-        subst (λ n. HasWholeSequences (take n line)) at_end (read-whole read outside),
-      );
-      fits = inr (subst (HasRoom room line) at_end
-          (omega (arith, has, read-width utf8 read)));
-      longest = λ m before may room. omega (arith, before);
-    }
+    found-whole has some outside = subst (IsFound room line (length line + 1)) at_end
+        (latest-here utf8 read found (length line + 1) last has (ends-here some outside (inl at_end)))
 
-    at_last : (m : ℕ) → place ≤ m → m < length line + 1 → m ≡ length line
-    at_last m later before = search (rules, arith, at_end)
-
-    -- it ends in a blank
-    pub found-blank : after_blank ≡ true → IsFound room line (length line + 1) kept
-    found-blank blank = found-until (length line + 1) (λ m later before may has.
-        let here = at_last m later before in
-        here ∙ may_end-blanks line (sym after_last ∙ blank)
-        (subst (λ n. can_end line n ≡ true) here may.0))
-
-    -- it ends in a sequence
-    pub found-open : state ≢ Text → IsFound room line (length line + 1) kept
-    found-open inside = found-until (length line + 1) (λ m later before may has.
-        absurd (inside (whole-read read
-        (subst (λ n. HasWholeSequences (take n line)) (at_last m later before ∙ sym at_end) may.1))))
+    -- it ends in a blank or in a sequence
+    pub found-rest : (after_blank ≡ false → state ≢ Text) → IsFound room line (length line + 1) kept
+    found-rest other =
+        latest-on utf8 read found (length line + 1) last (λ has. ends-other (λ ahead. other))
 
 -- ---- the first lines as they are, and the one after them cut
 

@@ -3,7 +3,8 @@
 use Rattle.std.proofs.lemmas.{List.Sums.prefix_len-le-length, Str.IsCharBoundary-from_rest}
 use Rattle.std.specs.Prelude.{chars}
 use Rattle.textwrap_display.proofs.Common.{IsWhole, IsWholeText, indent_len, is_blank}
-use Rattle.textwrap_display.proofs.{Common.text_width-append, Common.units, CutWords.no_columns}
+use Rattle.textwrap_display.proofs.{Common.text_width-append, Common.units}
+use Rattle.textwrap_words.proofs.Word.Words.{text_width-nil}
 use Rattle.textwrap_display.proofs.{KeptLines.none-kept, KeptWords.may_end-boundary}
 use Rattle.textwrap_display.proofs.Widths.{indent-blanks}
 use Rattle.textwrap_display.specs.Shortening.{CanCut, IsCut, IsKeptBeginning, IsKeptLength}
@@ -96,7 +97,7 @@ module _ {width : ℕ} {placeholder line : List ℕ} (utf8 : IsUtf8 line) {words
   to-word k may =
       record {
         after = omega arith;
-        behind = omega (arith, may.behind, longer-width k, no_columns);
+        behind = omega (arith, may.behind, longer-width k, text_width-nil);
         place = IsCharBoundary-from_drop word k
             (omega (arith, may.place.0, length-drop start line, start-within))
             (subst IsUtf8 (rest-of k) (IsUtf8-drop line (start + k) utf8 may.place));
@@ -117,14 +118,14 @@ module _ {width : ℕ} {placeholder line : List ℕ} (utf8 : IsUtf8 line) {words
         let at : m ≡ start + (m - start) = omega (arith, may.after) in
         let own = to-word (m - start) (subst (CanCut line start) at may) in
         let wide = ap (λ n. text_width (take n line)) at ∙ longer-width (m - start) in
-        let up = h.latest (m - start) own (omega (arith, room, wide, fits, no_columns)) in
+        let up = h.latest (m - start) own (omega (arith, room, wide, fits, text_width-nil)) in
         omega (arith, up, may.after)
 
     pub cut-no : k ≡ 0 → IsCut width placeholder line words start words
     cut-no none = search (rules, arith, cut-latest)
 
     pub cut-some : k ≢ 0 → IsCut width placeholder line words start (start + k)
-    cut-some some = search (rules, arith, to-line, longer-width, no_columns, cut-latest)
+    cut-some some = search (rules, arith, to-line, longer-width, text_width-nil, cut-latest)
 
     pub cut-within : k ≤ length word
     cut-within = elim h.cut [ inl none ↦ omega (arith, none) | inr (may, room) ↦ may.place.0 ]

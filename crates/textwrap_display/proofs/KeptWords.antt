@@ -25,9 +25,16 @@ use Rattle.textwrap_words.proofs.Word.Texts.{final_blanks-blank}
 -- ---- where a beginning of a line may end: these places are within the line, and characters end
 -- there
 
+-- a blank follows, or nothing
+abbrev pub BlankAhead : List ℕ → ℕ → Type 0
+BlankAhead line n = (n ≡ length line) ⊎ (is_blank (get_or line n 0) ≡ true)
+
+-- whether nothing or a blank stands before the place
+abbrev pub is_after_blank : List ℕ → ℕ → Bool
+is_after_blank line n = (eqb n 0) || is_blank (get_or line (n - 1) 0)
+
 pub may_end-cases : (line : List ℕ) (n : ℕ) → can_end line n ≡ true
-    → (n ≡ 0) ⊎ ((is_blank (get_or line (n - 1) 0) ≡ false)
-    × ((n ≡ length line) ⊎ (is_blank (get_or line n 0) ≡ true)))
+    → (n ≡ 0) ⊎ ((is_blank (get_or line (n - 1) 0) ≡ false) × BlankAhead line n)
 may_end-cases line n may = grind (arith, cases_Bool, eqb-true)
 
 pub may_end-within : (line : List ℕ) (n : ℕ) → can_end line n ≡ true → n ≤ length line
@@ -38,11 +45,15 @@ pub may_end-boundary : (line : List ℕ) (n : ℕ) → IsUtf8 line → can_end l
 may_end-boundary line n utf8 may =
     search (rules, arith, may_end-cases, IsCharBoundary-start, IsCharBoundary-end, eqb-true, may_end-within)
 
--- ---- where a character begins
+pub may_end-here : (line : List ℕ) (n : ℕ) → is_after_blank line n ≡ false → BlankAhead line n
+    → can_end line n ≡ true
+may_end-here line n some ahead = grind (arith, cases_Bool, nat_tests)
 
--- whether nothing or a blank stands before the place
-abbrev pub is_after_blank : List ℕ → ℕ → Bool
-is_after_blank line n = (eqb n 0) || is_blank (get_or line (n - 1) 0)
+pub may_end-other : (line : List ℕ) (n : ℕ) → can_end line n ≡ true
+    → (BlankAhead line n → is_after_blank line n ≡ true) → n ≡ 0
+may_end-other line n may none = grind (arith, may_end-cases, cases_Bool)
+
+-- ---- where a character begins
 
 module _ (line : List ℕ) (utf8 : IsUtf8 line) (place c : ℕ) (after : List ℕ)
     (here : IsCharBoundary line place) (is : drop place line ≡ encode_utf8 c ++ after) where
@@ -62,32 +73,24 @@ module _ (line : List ℕ) (utf8 : IsUtf8 line) (place c : ℕ) (after : List �
   first-blank : is_blank (get_or line place 0) ≡ eqb c 32
   first-blank = byte-blank place (omega arith) (omega (arith, some-bytes c))
 
-  pub may_end-here : eqb c 32 ≡ true → is_after_blank line place ≡ false
-      → can_end line place ≡ true
-  may_end-here blank some = grind (arith, first-blank, cases_Bool)
+  pub blank-ahead : eqb c 32 ≡ true → BlankAhead line place
+  blank-ahead blank = inr (first-blank ∙ blank)
 
-  pub may_end-other : (eqb c 32 ≡ true → is_after_blank line place ≡ true)
-      → can_end line place ≡ true → place ≡ 0
-  may_end-other none may = grind (arith, first-blank, may_end-cases, cases_Bool, starts-within)
+  pub ahead-blank : BlankAhead line place → eqb c 32 ≡ true
+  ahead-blank ahead = search (rules, arith, first-blank, starts-within)
 
-  -- inside a character no line may end
-  pub may_end-past : (m : ℕ) → place < m → can_end line m ≡ true
-      → place + length (encode_utf8 c) ≤ m
-  may_end-past m past may = search (rules, arith, character-within, may_end-boundary)
+  -- inside it nothing ends
+  pub before-character : (m : ℕ) → m < place + length (encode_utf8 c) → IsCharBoundary line m
+      → m ≤ place
+  before-character m before cut = elim (cases_lt place m) [
+    | inl later ↦
+        absurd (omega (arith, before, character-within line utf8 place c after here is m later cut))
+    | inr up ↦ up
+  ]
 
   pub after_blank-past : (end : ℕ) → end ≡ place + length (encode_utf8 c)
       → is_after_blank line end ≡ eqb c 32
   after_blank-past end past = search (rules, arith, byte-blank, some-bytes, cases_Bool)
-
--- ---- the end of the line
-
-pub may_end-whole : (line : List ℕ) → is_after_blank line (length line) ≡ false
-    → can_end line (length line) ≡ true
-may_end-whole line some = grind (arith, cases_Bool, nat_tests)
-
-pub may_end-blanks : (line : List ℕ) → is_after_blank line (length line) ≡ true
-    → can_end line (length line) ≡ true → length line ≡ 0
-may_end-blanks line blank may = grind (arith, may_end-cases, cases_Bool)
 
 -- ---- the words of a line's beginning, where blanks follow it, are the first words of the line
 
@@ -226,3 +229,51 @@ module _ {line : List ℕ} (utf8 : IsUtf8 line) {place : ℕ} {rest : List ℕ} 
       (IsUtf8-take line place utf8 h.read.boundary))
       ∙ h.columns (chars between) in
       omega (arith, parts)
+
+-- ---- the latest place before another at which a part of the line may end, by what `May` says, so
+-- that it has room; or 0
+
+abbrev pub HasRoom : ℕ → List ℕ → ℕ → Type 0
+HasRoom room line n = text_width (take n line) ≤ room
+
+pub record IsLatest (May : ℕ → Type 0) (room : ℕ) (line : List ℕ) (place kept : ℕ) : Type 0 where
+  pub fits : (kept ≡ 0) ⊎ (May kept × HasRoom room line kept)
+  pub latest : (m : ℕ) → m < place → May m → HasRoom room line m → m ≤ kept
+
+pub latest-none : (May : ℕ → Type 0) (room : ℕ) (line : List ℕ) → IsLatest May room line 0 0
+latest-none May room line =
+    record { fits = inl refl; latest = λ m before may has. absurd (omega (arith, before)) }
+
+module _ {May : ℕ → Type 0} {room : ℕ} {line : List ℕ} (utf8 : IsUtf8 line) {place : ℕ}
+    {rest : List ℕ} {state : State} {taken kept : ℕ} {after_blank : Bool}
+    (read : IsReadTo line place rest state taken after_blank)
+    (found : IsLatest May room line place kept) (end : ℕ) where
+  latest-until : ((m : ℕ) → place ≤ m → m < end → May m → HasRoom room line m → m ≤ kept)
+      → IsLatest May room line end kept
+  latest-until none = record {
+    fits = found.fits;
+    latest = λ m before may has. elim (cases_lt m place) [
+      | inl less ↦ found.latest m less may has
+      | inr later ↦ none m later before may has
+    ];
+  }
+
+  -- past the room nothing has room
+  pub latest-past : ((m : ℕ) → May m → IsCharBoundary line m) → room < taken
+      → IsLatest May room line end kept
+  latest-past boundary over = latest-until (λ m later before may has.
+      absurd (omega (arith, has, over, read-more utf8 read m later (boundary m may))))
+
+  -- where no place between may be one
+  module _ (within : (m : ℕ) → m < end → May m → m ≤ place) where
+    pub latest-here : taken ≤ room → May place → IsLatest May room line end place
+    latest-here has may = record {
+      fits = inr (may, omega (arith, has, read-width utf8 read));
+      latest = λ m before own room. within m before own;
+    }
+
+    pub latest-on : (taken ≤ room → May place → place ≤ kept) → IsLatest May room line end kept
+    latest-on none = latest-until (λ m later before may has.
+        let here : m ≡ place = omega (arith, later, within m before may) in
+        let wide = ap (λ n. text_width (take n line)) here in
+        omega (arith, here, none (omega (arith, has, wide, read-width utf8 read)) (subst May here may)))

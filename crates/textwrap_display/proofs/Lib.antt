@@ -15,4 +15,3 @@ pub mod TableRows
 pub mod WidenedWords
 pub mod Widths
 pub mod TabTexts
-pub mod PennedLines

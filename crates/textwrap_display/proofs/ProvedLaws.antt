@@ -2,7 +2,7 @@
 use Rattle.textwrap_display.proofs.FittingWidths.{fitting-least, fitting-most, fitting-scarce}
 use Rattle.textwrap_display.proofs.FittingWidths.{fitting-sum, fitting-within}
 use Rattle.textwrap_display.proofs.KeptWords.{word_texts-take}
-use Rattle.textwrap_display.proofs.PennedLines.{aligned-pens, justified-pens, rows-apart}
+use Rattle.textwrap_display.proofs.Widths.{aligned-pens, justified-pens, rows-apart}
 use Rattle.textwrap_display.proofs.TabTexts.{expanded-cut, expanded-free, expanded-lines}
 use Rattle.textwrap_display.proofs.TabTexts.{expanded-twice, no_tab-left, tab-reaches}
 use Rattle.textwrap_display.proofs.TableRows.{each-line-shown, rows-even}

@@ -3,7 +3,8 @@
 use Rattle.std.specs.Prelude.{chars}
 use Rattle.textwrap_display.proofs.Common.{IsShortened, IsWholeText, Line, closing, concat}
 use Rattle.textwrap_display.proofs.Common.{line_bytes, sequences, text_width-append, units}
-use Rattle.textwrap_display.proofs.{CutWords.no_columns, KeptParts.kept-room, KeptParts.kept-whole}
+use Rattle.textwrap_display.proofs.{KeptParts.kept-room, KeptParts.kept-whole}
+use Rattle.textwrap_words.proofs.Word.Words.{text_width-nil}
 use Rattle.textwrap_display.specs.Shortening.{IsCut, IsKeptBeginning, IsKeptLength}
 use Rattle.textwrap_styles.proofs.{PenStyles.ended, SequenceTexts.IsSequence}
 use Rattle.textwrap_styles.proofs.SequenceTexts.{closing-is, closing-sequences, closing_sequences}
@@ -101,7 +102,7 @@ module _ (breaks : Bool) (width : ℕ) (placeholder line : List ℕ) (short : Li
           sum,
           room,
           ap (λ n. text_width (take n line)) none,
-          no_columns,
+          text_width-nil,
         )
         | inr has ↦ omega (arith, sum, has)
       ]

@@ -1,5 +1,8 @@
 -- Texts with blanks in the place of their tabs: what stands behind the last line feed, one part
 -- after another, and the laws of them.
+use Rattle.std.proofs.lemmas.{List.Folds.list_any-append, List.Folds.list_any_none}
+use Rattle.std.proofs.lemmas.Str.Pattern.{drop_at_char}
+use Rattle.textwrap_text.proofs.Common.{◌||◌, cond, false_from_ne_true, take, take-append-drop}
 use Rattle.std.proofs.{Common.◌%◌, Math.Nat.add-mul, Math.Nat.suc-mul}
 use Rattle.std.proofs.lemmas.List.{Elements.All-replicate, Splits.length-slice_split}
 use Rattle.std.proofs.lemmas.List.Splits.{slice_split_at, slice_split_first, slice_split_none}
@@ -26,32 +29,54 @@ use Rattle.textwrap_words.proofs.Word.Words.{text_width-nil}
 
 -- ---- what stands behind the last line feed
 
-abbrev is_other : ℕ → Bool
-is_other b = not (b == 10)
+abbrev is_feed : ℕ → Bool
+is_feed b = b == 10
+
+-- of a text and more
+last_line-append : (text more : List ℕ) → last_line (text ++ more)
+    ≡ cond (list_any is_feed more) (last_line more) (last_line text ++ more)
+last_line-append text [] = ap last_line (append-nil text) ∙ sym (append-nil (last_line text))
+last_line-append text (c ∷ cs) =
+    ap last_line (sym (append_assoc text (c ∷ []) cs)) ∙ last_line-append (text ++ c ∷ []) cs
+    ∙ rw (
+      after_last-push is_feed text c,
+      last_line-append (c ∷ []) cs,
+      after_last-push is_feed [] c,
+    ) (by (is_feed c) (list_any is_feed cs))
+  where
+    by : (feed later : Bool)
+        → cond later (last_line cs) (cond feed [] (last_line text ++ c ∷ []) ++ cs)
+        ≡ cond (feed || later) (cond later (last_line cs) (cond feed [] (c ∷ []) ++ cs))
+        (last_line text ++ c ∷ cs)
+    by true true = refl
+    by true false = refl
+    by false true = refl
+    by false false = append_assoc (last_line text) (c ∷ []) cs
+
+last_line-free : (text more : List ℕ) → list_any is_feed more ≡ false
+    → last_line (text ++ more) ≡ last_line text ++ more
+last_line-free text more lacks = rw lacks at (last_line-append text more)
+
+last_line-past : (text more : List ℕ) → last_line (text ++ 10 ∷ more) ≡ last_line more
+last_line-past text more =
+    let own = last_line-append (10 ∷ []) more in
+    grind (arith, cases_Bool, last_line-append text (10 ∷ more), own, last_line-append [] more)
+
+lacks-any : (c : ℕ) (text : List ℕ) → c < 128 → NoCharPasses (λ d. d == c) text
+    → list_any (λ b. b == c) text ≡ false
+lacks-any c text low none = false_from_ne_true _ (λ some.
+    let (k, within, is) = any-contains c text some in
+    NoCharPasses-char c text k none low within (get_or_default text k 0 c within ∙ is))
 
 pub last_line-none : (text : List ℕ) → NoCharPasses (λ d. d == 10) text → text ≡ last_line text
-last_line-none text none =
-    let others : (k : ℕ) → 0 ≤ k → k < length text → is_other (get_or text k 0) ≡ true =
-    λ k from within. ap not (ne_eqb (get_or text k 0) 10
-    (NoCharPasses-char 10 text k none (omega arith) within)) in
-    let all = suffix_len_is is_other text 0 0 (omega arith) others (λ some. absurd (omega arith)) in
-    grind (arith, all)
+last_line-none text none = sym (last_line-free [] text (lacks-any 10 text (omega arith) none))
 
 pub last_line-behind : (text : List ℕ) (i j : ℕ) → NoCharPasses (λ d. d == 10) (drop j text)
     → HasCharAt 10 text i j → j ≤ length text → drop j text ≡ last_line text
 last_line-behind text i j none feed within =
-    let others : (k : ℕ) → j ≤ k → k < length text → is_other (get_or text k 0) ≡ true =
-    λ k from below.
-    let at : j + (k - j) ≡ k = omega (arith, from) in
-    ap not (ne_eqb (get_or text k 0) 10 (subst (λ b. b ≢ 10)
-    (get_or-drop j text (k - j) 0 ∙ ap (λ n. get_or text n 0) at)
-    (NoCharPasses-char 10 (drop j text) (k - j) none (omega arith)
-    (omega (arith, length-drop j text, from, below))))) in
-    let place : j - 1 ≡ i = omega (arith, feed.ends) in
-    let stop : is_other (get_or text (j - 1) 0) ≡ false =
-    rw (place, feed.byte (omega arith)) refl in
-    let some = suffix_len_is is_other text j 0 within others (λ _. stop) in
-    let left : length text - (length text - j) ≡ j = omega (arith, within) in search (rules, arith)
+    let after = drop_at_char 10 text i j feed (omega arith) in
+    last_line-none (drop j text) none ∙ sym (last_line-past (take i text) (drop j text))
+    ∙ ap (λ l. last_line (take i text ++ l)) (sym after) ∙ ap last_line (take-append-drop i text)
 
 -- ---- whether a text has a tab
 
@@ -64,12 +89,7 @@ pub has-tab : (text : List ℕ) (r : Bool)
 has-tab text true found =
     let (k, within, is) = (contains_char 9 text true found (omega arith)).0 refl in
     sym (contains-any 9 text (k, within, get_or_default text k 9 0 within ∙ is))
-has-tab text false none = elim (cases_Bool (list_any is_tab text)) [
-  | inl some ↦ let (k, within, is) = any-contains 9 text some in
-      absurd (false≢true ((contains_char 9 text false none (omega arith)).1 k within
-      (get_or_default text k 0 9 within ∙ is)))
-  | inr lacks ↦ sym lacks
-]
+has-tab text false none = sym (lacks-any 9 text (omega arith) none)
 
 -- ---- one part after another
 
@@ -134,42 +154,7 @@ module _ (P : List ℕ → Type 0) (whole : (part : List ℕ) → Lacks 9 part �
   by-parts : (text : List ℕ) → P text
   by-parts text = parts-past [] text (All-nil (λ b. b ≢ 9))
 
--- ---- what stands behind the last line feed of a longer text
-
-last_line-free : (text more : List ℕ) → Lacks 10 more
-    → last_line (text ++ more) ≡ last_line text ++ more
-last_line-free text [] lacks = ap last_line (append-nil text) ∙ sym (append-nil (last_line text))
-last_line-free text (c ∷ cs) lacks =
-    let other = ne_eqb c 10 (All-head (λ b. b ≢ 10) c cs lacks) in
-    let push = after_last-push (λ b. b == 10) text c in
-    let others = last_line-free (text ++ c ∷ []) cs (All-tail (λ b. b ≢ 10) c cs lacks) in
-    grind (arith, cases_Bool, append_assoc, push, other, others)
-
-behind-feed : (text more : List ℕ) → Lacks 10 more → last_line (text ++ 10 ∷ more) ≡ more
-behind-feed text more lacks =
-    grind (arith, append_assoc, last_line-free (text ++ 10 ∷ []) more lacks, after_last-push)
-
--- a text has no line feed, or its last line is that of each text that ends with it
-last_line-cases : (more : List ℕ)
-    → ((text : List ℕ) → last_line (text ++ more) ≡ last_line more) ⊎ Lacks 10 more
-last_line-cases [] = inr (All-nil (λ b. b ≢ 10))
-last_line-cases (c ∷ cs) = elim (last_line-cases cs) [
-  | inl later ↦ inl (λ text. ap last_line (sym (append_assoc text (c ∷ []) cs))
-      ∙ later (text ++ c ∷ []) ∙ sym (later (c ∷ [])))
-  | inr lacks ↦ elim (cases_Bool (c == 10)) [
-    | inl here ↦ inl (subst
-        (λ d. (text : List ℕ) → last_line (text ++ d ∷ cs) ≡ last_line (d ∷ cs))
-        (sym (eqb-true c 10 here))
-        (λ text. behind-feed text cs lacks ∙ sym (behind-feed [] cs lacks)))
-    | inr other ↦ inr (lacks-one 10 c cs (eqb-false c 10 other) lacks)
-  ]
-]
-
-last_line-past : (text more : List ℕ) → last_line (text ++ 10 ∷ more) ≡ last_line more
-last_line-past text more = elim (last_line-cases more) [
-  | inl later ↦ ap last_line (sym (append_assoc text (10 ∷ []) more)) ∙ later (text ++ 10 ∷ [])
-  | inr lacks ↦ behind-feed text more lacks ∙ sym (last_line-free [] more lacks)
-]
+-- ---- parts between tabs, and lines
 
 module _ (stop : ℕ) where
   pub expanded-free : (text : List ℕ) → Lacks 9 text → expanded_tabs stop text ≡ text
@@ -273,12 +258,15 @@ module _ (stop : ℕ) (some : stop ≢ 0) where
 
   reaches-more : (part rest : List ℕ) → EndsWhole part → Reaches rest
       → Reaches (filled_up stop part ++ rest)
-  reaches-more part rest whole reaches = elim (last_line-cases rest) [
-    | inl later ↦ rw (later (filled_up stop part)) reaches
+  reaches-more part rest whole reaches = elim (cases_Bool (list_any is_feed rest)) [
+    | inl some ↦ rw (rw some at (last_line-append (filled_up stop part) rest)) reaches
     | inr lacks ↦
         let n = tab_blanks stop (text_width (last_line part)) in
-        let free = last_line-free part (replicate n blank ++ rest)
-        (lacks-both 10 (replicate n blank) rest (lacks-blanks 10 n (omega arith)) lacks) in
+        let none : list_any is_feed (replicate n blank) ≡ false =
+        list_any_none is_feed (replicate n blank) (All-replicate (λ b. is_feed b ≡ false) n blank refl) in
+        let more : list_any is_feed (replicate n blank ++ rest) ≡ false =
+        rw (list_any-append, none, lacks) refl in
+        let free = last_line-free part (replicate n blank ++ rest) more in
         rw (append_assoc, free, text_width-append _ _ whole.0 whole.1, more-blanks n rest)
         (filled-columns stop (text_width (last_line part)) (text_width rest) some
         (rw (last_line-free [] rest lacks) at reaches))

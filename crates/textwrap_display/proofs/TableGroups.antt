@@ -119,7 +119,7 @@ module _ {X : Type 0} (Makes : X → List ℕ → List Line → Type 0) where
     )
 
 -- what holds of items place by place, of which more holds
-AllZip-weaker : {A B : Type 0} (R S : A → B → Type 0) → ((x : A) (y : B) → R x y → S x y)
+pub AllZip-weaker : {A B : Type 0} (R S : A → B → Type 0) → ((x : A) (y : B) → R x y → S x y)
     → (xs : List A) (ys : List B) → AllZip R xs ys → AllZip S xs ys
 AllZip-weaker R S more (x ∷ xs) (y ∷ ys) (one, all) = (more x y one, AllZip-weaker R S more xs ys all)
 AllZip-weaker R S more _ _ all = all

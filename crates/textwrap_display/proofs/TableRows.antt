@@ -1,6 +1,7 @@
 -- The rows of a table: their text, that they are even, and that they show each line once.
 use Rattle.std.proofs.{Common.replicate, Math.Nat.suc-mul, lemmas.Simd.map-map}
 use Rattle.textwrap.proofs.Text.Tables.{lines-kept}
+use Rattle.std.proofs.lemmas.Slice.Zip.{length-zip}
 use Rattle.textwrap_display.proofs.TableGroups.{length-padded, length-shown, shown-at}
 use Rattle.textwrap_display.{proofs.Widths.aligned-before, specs.Laws.KeepToColumns}
 use Rattle.textwrap_display.specs.Laws.{ShowsEachLineOnce, cell_shown, row_of, row_width}
@@ -106,11 +107,7 @@ padded-keep [] cells count keep = All-nil KeepTo
 padded-keep (column ∷ columns) [] zero keep = All-nil KeepTo
 padded-keep (column ∷ columns) [] (suc count) keep =
     All-cons KeepTo (column, []) (zip columns (replicate count [])) (All-nil (Keeps column))
-    (padded-keep columns [] count (nothing columns))
-  where
-    nothing : (columns : List Shape) → KeepToColumns columns []
-    nothing [] = All-nil KeepTo
-    nothing (column ∷ columns) = All-nil KeepTo
+    (padded-keep columns [] count (λ k d within. absurd (omega (arith, within, length-zip {B = List (List ℕ)} columns []))))
 padded-keep (column ∷ columns) (lines ∷ cells) count keep =
     All-cons KeepTo (column, lines) (zip columns (cells ++ replicate count []))
     (All-head KeepTo (column, lines) (zip columns cells) keep)

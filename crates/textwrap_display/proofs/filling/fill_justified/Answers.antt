@@ -12,17 +12,14 @@ use Rattle.textwrap_text.proofs.Common.{[], ap, length-map, map, nat_lt, refl, s
 use Rattle.textwrap_text.proofs.Common.{◌++◌, ◌||◌, ◌∙◌}
 
 pub loop-rest-init : goal.loop-rest-init
-loop-rest-init g c =
-    let settings = layout_view c.args.layout in record {
-      so_far = so_far-start settings (DividesWith (g.P.Parts.may c.args.parts.now) settings)
-          c.args.text.now _ c.in_ok-filled.ensures.bytes;
-      waits = refl;
-      layout_is = refl;
-    }
+loop-rest-init g c = record {
+  so_far = so_far-start c.args.text.now _ c.in_ok-filled.ensures.bytes;
+  waits = refl;
+  layout_is = refl;
+}
 
 pub loop-rest-preserved : goal.loop-rest-preserved
 loop-rest-preserved g c =
-    let settings = layout_view c.args.layout in
     let ending = c.args.layout.line_ending in
     let first = c.loop-rest.lines in
     let paragraph = c.split_paragraph.result.0.now in
@@ -36,10 +33,7 @@ loop-rest-preserved g c =
     (pushed.held first 0 [] (justified-none first so_far.waits)))
     c.in_ok-end_paragraph.ensures.written c.in_ok-end_paragraph.ensures.none in
     record {
-      so_far = so_far-more settings (DividesWith (g.P.Parts.may c.args.parts.now) settings)
-          c.args.text.now (string_bytes first.text) (string_bytes c.end_paragraph.new.self.text)
-          first.has_lines c.end_paragraph.new.self.has_lines paragraph (paragraphs_left ending after)
-          own (rw (
+      so_far = so_far-more own (rw (
             c.in-Some.is,
             paragraphs_left-split ending c.in-Some.text.now after paragraph
                 c.split_paragraph.ensures.paragraphs,
@@ -53,10 +47,7 @@ loop-rest-preserved g c =
     }
 
 pub returns-clause-filled : goal.returns-clause-filled
-returns-clause-filled g c =
-    let settings = layout_view c.args.layout in
-    so_far-end settings (DividesWith (g.P.Parts.may c.args.parts.now) settings) c.args.text.now _ _
-    (rw c.in_default.is at c.loop-rest.invariant.so_far)
+returns-clause-filled g c = so_far-end (rw c.in_default.is at c.loop-rest.invariant.so_far)
 
 pub returns-in_err-push_paragraph_by-clause-no_overflow :
     goal.returns-in_err-push_paragraph_by-clause-no_overflow

@@ -1,16 +1,67 @@
--- Widths that fit: shares in proportion, what rounding leaves over, and that they add up.
-use Rattle.std.proofs.Common.{sum}
-use Rattle.std.proofs.Math.Nat.{div-lt_iff_lt-mul, le_of_mul-le-mul_left, lt-div-mul-add, mul-add}
-use Rattle.std.proofs.Math.Nat.{mul-div-le, mul-le-mul_right, mul-lt-mul_of_pos_left, mul_comm}
-use Rattle.std.{proofs.Math.Nat.zero-div, specs.List.AllZip, specs.Prelude.nat_le}
-use Rattle.textwrap_display.proofs.TableGroups.{AllZip-weaker}
+-- What columns need: the widest of some texts, part by part; and widths that fit: shares in
+-- proportion, what rounding leaves over, and that they add up.
+use Rattle.std.proofs.{Common.sum, Math.Nat.div-lt_iff_lt-mul, Math.Nat.le_of_mul-le-mul_left}
+use Rattle.std.proofs.Math.Nat.{lt-div-mul-add, mul-add, mul-div-le, mul-le-mul_right}
+use Rattle.std.proofs.Math.Nat.{mul-lt-mul_of_pos_left, mul_comm, zero-div}
+use Rattle.std.{proofs.lemmas.List.Sums.fold-append, specs.List.AllZip, specs.List.flat_map}
+use Rattle.std.specs.{List.fold, Prelude.nat_le}
+use Rattle.textwrap_display.proofs.{Common.text_width, TableGroups.AllZip-weaker}
+use Rattle.textwrap_display.proofs.TableGroups.{IsFirstGroup, groups-more}
 use Rattle.textwrap_display.specs.Fitting.{fitting_widths, lacking, rounded_up, shared, widest_line}
-use Rattle.textwrap_display.specs.Fitting.{widest_word}
+use Rattle.textwrap_display.specs.{Fitting.widest_word, Needs.column_texts, Needs.widest}
 use Rattle.textwrap_display.specs.Sharing.{Shares, rounded_down, sure, weight}
 use Rattle.textwrap_display.specs.declared.{fitting.Sharing.Sharing, needs.Need.Need}
-use Rattle.textwrap_text.proofs.Common.{List, [], arith, cases_lt, if◌then◌else◌, length, min, refl}
-use Rattle.textwrap_text.proofs.Common.{rules, subst, sum_by, sum_by-cons, ℕ, ⊎_elim, ◌*◌, ◌+◌, ◌-◌}
-use Rattle.textwrap_text.proofs.Common.{◌/◌, ◌<◌, ◌==◌, ◌∷◌, ◌≡◌, ◌≤◌}
+use Rattle.textwrap_text.proofs.Common.{List, [], ap, arith, cases_lt, get_or, if◌then◌else◌}
+use Rattle.textwrap_text.proofs.Common.{length, map, max, min, refl, rules, subst, sum_by}
+use Rattle.textwrap_text.proofs.Common.{sum_by-cons, ℕ, ⊎_elim, ◌*◌, ◌++◌, ◌+◌, ◌-◌, ◌/◌, ◌<◌, ◌==◌}
+use Rattle.textwrap_text.proofs.Common.{◌∙◌, ◌∷◌, ◌≡◌, ◌≤◌}
+
+-- what is wider already stays
+widest-from : (most : ℕ) (texts : List (List ℕ))
+    → fold (λ most text. max most (text_width text)) most texts ≡ max most (widest texts)
+widest-from most [] = omega arith
+widest-from most (text ∷ texts) =
+    omega (
+      arith,
+      widest-from (max most (text_width text)) texts,
+      widest-from (max 0 (text_width text)) texts,
+    )
+
+pub widest-append : (first second : List (List ℕ))
+    → widest (first ++ second) ≡ max (widest first) (widest second)
+widest-append first second =
+    fold-append (λ most text. max most (text_width text)) 0 first second
+    ∙ widest-from (widest first) second
+
+module _ {X : Type 0} (parts : X → List (List ℕ)) where
+  widest-parts_from : (most : ℕ) (xs : List X)
+      → fold (λ most x. max most (widest (parts x))) most xs ≡ max most (widest (flat_map parts xs))
+  widest-parts_from most [] = omega arith
+  widest-parts_from most (x ∷ xs) =
+      omega (
+        arith,
+        widest-parts_from (max most (widest (parts x))) xs,
+        widest-append (parts x) (flat_map parts xs),
+      )
+
+  -- the widest part of all is the widest of the widest parts of each
+  pub widest-parts : (xs : List X)
+      → fold (λ most x. max most (widest (parts x))) 0 xs ≡ widest (flat_map parts xs)
+  widest-parts xs = omega (arith, widest-parts_from 0 xs)
+
+-- with one row more
+pub column_texts-more : (columns at : ℕ) (cells row rest : List (List ℕ))
+    → IsFirstGroup columns cells row rest
+    → column_texts columns cells at ≡ get_or row at [] ∷ column_texts columns rest at
+column_texts-more columns at cells row rest first =
+    ap (map (λ texts. get_or texts at [])) (groups-more columns cells row rest first)
+
+module _ (parts : List ℕ → List (List ℕ)) (columns at most : ℕ) where
+  pub widest-more : (cells row rest : List (List ℕ)) → IsFirstGroup columns cells row rest
+      → max (max most (widest (parts (get_or row at []))))
+      (widest (flat_map parts (column_texts columns rest at)))
+      ≡ max most (widest (flat_map parts (column_texts columns cells at)))
+  widest-more cells row rest first = search (rules, arith, column_texts-more, widest-append)
 
 -- ---- shares in proportion
 

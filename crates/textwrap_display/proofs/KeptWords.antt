@@ -1,23 +1,31 @@
--- The beginning of a line that is kept: its words, where it may end, and the reader that finds it.
+-- The beginning of a line that is kept: its words, where it may end, and the reader that finds it,
+-- which is outside of sequences where the beginning ends in none.
 use Rattle.std.{proofs.Math.Seq.take-add, proofs.lemmas.Str.IsCharBoundary-end, specs.Prelude.chars}
-use Rattle.textwrap_display.proofs.Common.{AreBlanks, IsCharBoundary-start, IsRead, State, added}
-use Rattle.textwrap_display.proofs.Common.{can_end, chunks, chunks-from, encode_ascii, encode_utf8}
-use Rattle.textwrap_display.proofs.Common.{is_blank, is_cut, read-next, read-start, word_of}
-use Rattle.textwrap_display.proofs.Common.{word_texts}
-use Rattle.textwrap_text.proofs.Common.{All-cons, All-head, All-nil, All-tail, Bool, IsCharBoundary}
-use Rattle.textwrap_text.proofs.Common.{IsUncut, IsUtf8, IsUtf8-take, List, [], add-zero, ap}
-use Rattle.textwrap_text.proofs.Common.{append-nil, append_assoc, arith, cases_Bool, cases_lt}
-use Rattle.textwrap_text.proofs.Common.{chars-append, chars-nil, drop, drop_all, eqb, eqb-false}
-use Rattle.textwrap_text.proofs.Common.{eqb-true, false, get_or, get_or-drop, get_or_past, inl, inr}
+use Rattle.textwrap_display.proofs.Common.{AreBlanks, IsCharBoundary-start, IsRead, IsWhole, State}
+use Rattle.textwrap_display.proofs.Common.{added, can_end, chunks, chunks-from, encode_ascii}
+use Rattle.textwrap_display.proofs.Common.{encode_utf8, ends, is_blank, is_cut, read-next}
+use Rattle.textwrap_display.proofs.Common.{read-start, units, units-append, word_of, word_texts}
+use Rattle.{textwrap_layout.specs.Text.HasWholeSequences, textwrap_text.proofs.Common.All}
+use Rattle.textwrap_text.proofs.Common.{All-cons, All-head, All-nil, All-tail, AreUnits, Bool}
+use Rattle.textwrap_text.proofs.Common.{IsCharBoundary, IsUncut, IsUtf8, IsUtf8-take, List}
+use Rattle.textwrap_text.proofs.Common.{Sequence, TextUnit, Visible, [], add-zero, ap, append-nil}
+use Rattle.textwrap_text.proofs.Common.{append_assoc, arith, cases_Bool, cases_lt, characters}
+use Rattle.textwrap_text.proofs.Common.{chars-append, chars-nil, columns, drop, drop_all, eqb}
+use Rattle.textwrap_text.proofs.Common.{eqb-false, eqb-true, escape, false, flat_map}
+use Rattle.textwrap_text.proofs.Common.{flat_map-append, get_or, get_or-drop, get_or_past, inl, inr}
 use Rattle.textwrap_text.proofs.Common.{length, length-map, length-take-le, length_push, map}
 use Rattle.textwrap_text.proofs.Common.{nat_tests, next_of, refl, reverse-append, rules}
-use Rattle.textwrap_text.proofs.Common.{slice_range, subst, sym, take, take-append-drop}
-use Rattle.textwrap_text.proofs.Common.{take-append-le, take_at, text_width, true, ℕ, ◌++◌, ◌+◌}
-use Rattle.textwrap_text.proofs.Common.{◌-◌, ◌<◌, ◌||◌, ◌∙◌, ◌∷◌, ◌≡◌, ◌≤◌, ◌⊎◌}
+use Rattle.textwrap_text.proofs.Common.{slice_range, subst, sum_by, sum_by-append, sym, take}
+use Rattle.textwrap_text.proofs.Common.{take-append-drop, take-append-le, take_all, take_at}
+use Rattle.textwrap_text.proofs.Common.{text_width, true, visible_of, ℕ, ◌++◌, ◌+◌, ◌-◌, ◌<◌, ◌||◌}
+use Rattle.textwrap_text.proofs.Common.{◌∙◌, ◌∷◌, ◌≡◌, ◌≢◌, ◌≤◌, ◌⊎◌}
 use Rattle.textwrap_text.proofs.{Lists.Parts.take_slice, Texts.ascii-here, Texts.ends-within}
 use Rattle.textwrap_text.proofs.{Texts.some-bytes, Texts.starts-within, Units.Reading.chars-push}
-use Rattle.textwrap_text.proofs.Units.Reading.{columns_in, columns_in-step, text_width-le}
+use Rattle.textwrap_text.proofs.Units.Reading.{columns-printable, columns_in, columns_in-step}
+use Rattle.textwrap_text.proofs.Units.Reading.{text_width-le, units_in-inside}
+use Rattle.textwrap_text.proofs.Units.Texts.{IsInUnits-units, units-tile, units_unique}
 use Rattle.textwrap_text.specs.Blanks.{final_blanks, trimmed_len, without_final_blanks}
+use Rattle.textwrap_text.specs.Units.{IsOpen, visible}
 use Rattle.textwrap_text.specs.declared.escapes.State.TheVariants.{Text}
 use Rattle.textwrap_words.proofs.Word.Ahead.{character-within, plain-bytes}
 use Rattle.textwrap_words.proofs.Word.Texts.{final_blanks-blank}
@@ -277,3 +285,112 @@ module _ {May : ℕ → Type 0} {room : ℕ} {line : List ℕ} (utf8 : IsUtf8 li
         let here : m ≡ place = omega (arith, later, within m before may) in
         let wide = ap (λ n. text_width (take n line)) here in
         omega (arith, here, none (omega (arith, has, wide, read-width utf8 read)) (subst May here may)))
+
+-- ---- units of which the last has no end
+
+record EndsOpen (us : List TextUnit) : Type 0 where
+  front : List TextUnit
+  body : List ℕ
+  are : us ≡ front ++ Sequence (escape ∷ body) ∷ []
+  whole : All IsWhole front
+  opens : (k : ℕ) → k ≤ length body → ends (take k body) ≡ false
+
+whole-or-open : (us : List TextUnit) → AreUnits us → All IsWhole us ⊎ EndsOpen us
+whole-or-open [] are = inl (All-nil IsWhole)
+whole-or-open (u ∷ []) (inl whole) = inl (All-cons IsWhole u [] whole (All-nil IsWhole))
+whole-or-open (Visible c ∷ []) (inr impossible) = absurd impossible
+whole-or-open (Sequence cs ∷ []) (inr (body, is, none)) = inr (record {
+  front = [];
+  body = body;
+  are = ap (λ l. Sequence l ∷ []) is;
+  whole = All-nil IsWhole;
+  opens = none;
+})
+whole-or-open (u ∷ v ∷ us) (whole, rest) = elim (whole-or-open (v ∷ us) rest) [
+  | inl all ↦ inl (All-cons IsWhole u (v ∷ us) whole all)
+  | inr h ↦ inr (record {
+    front = u ∷ h.front;
+    body = h.body;
+    are = ap (λ l. u ∷ l) h.are;
+    whole = All-cons IsWhole u h.front whole h.whole;
+    opens = h.opens;
+  })
+]
+
+-- one more unit after whole ones
+units-push : (us : List TextUnit) (u : TextUnit) → All IsWhole us → IsWhole u ⊎ IsOpen u
+    → AreUnits (us ++ u ∷ [])
+units-push [] u whole is = is
+units-push (v ∷ []) u whole is = search (rules, arith, All-head)
+units-push (v ∷ w ∷ us) u whole is = search (rules, arith, All-head, All-tail, units-push (w ∷ us))
+
+-- one more character belongs to the last one, whether it ends it or not
+longer-unit : (body : List ℕ) (c : ℕ)
+    → ((k : ℕ) → k ≤ length body → ends (take k body) ≡ false)
+    → IsWhole (Sequence (escape ∷ (body ++ c ∷ []))) ⊎ IsOpen (Sequence (escape ∷ (body ++ c ∷ [])))
+longer-unit body c opens =
+    let more = body ++ c ∷ [] in
+    let len = length_push body c in
+    let earlier : (k : ℕ) → k ≤ length body → ends (take k more) ≡ false =
+    λ k within. ap ends (take-append-le k body (c ∷ []) within) ∙ opens k within in
+    elim (cases_Bool (ends more)) [
+      | inl ended ↦ inl (more, refl, ended, λ k below. earlier k (omega (arith, below, len)))
+      | inr on ↦ inr (
+        more,
+        refl,
+        λ k within. elim (cases_lt (length body) k) [
+          | inl past ↦ ap ends (take_all k more (omega (arith, past, len))) ∙ on
+          | inr up ↦ earlier k up
+        ],
+      )
+    ]
+
+open-takes : (cs : List ℕ) (c : ℕ) → EndsOpen (units cs) → visible (cs ++ c ∷ []) ≡ visible cs
+open-takes cs c h =
+    let new = Sequence (escape ∷ (h.body ++ c ∷ [])) in
+    let tile : flat_map characters (h.front ++ new ∷ []) ≡ cs ++ c ∷ [] =
+    grind (arith, units-tile cs, h.are, flat_map-append, append-nil, append_assoc) in
+    let same = (units_unique (cs ++ c ∷ []) (h.front ++ new ∷ [])).0
+    (tile, units-push h.front new h.whole (longer-unit h.body c h.opens)) in
+    grind (arith, same, h.are, flat_map-append)
+
+-- ---- the reader of the characters of a text
+
+state-cases : (s : State) → (s ≡ Text) ⊎ (s ≢ Text)
+state-cases _ = search (rules, arith)
+
+-- a letter, which has a column outside of sequences alone
+letter-outside : columns_in Text (120 ∷ []) ≡ 1
+letter-outside = omega (arith, columns-printable 120 (omega arith, omega arith))
+
+letter-inside : (s : State) → s ≢ Text → columns_in s (120 ∷ []) ≡ 0
+letter-inside s inside = ap (λ us. sum_by columns (flat_map visible_of us))
+    (units_in-inside s 120 [] inside)
+
+module _ {line : List ℕ} {place : ℕ} {rest : List ℕ} {state : State} {taken : ℕ}
+    {after_blank : Bool} (h : IsReadTo line place rest state taken after_blank) where
+  pub read-whole : state ≡ Text → HasWholeSequences (take place line)
+  read-whole is =
+      let cs = chars (take place line) in
+      elim (whole-or-open (units cs) (IsInUnits-units cs).1) [
+        | inl whole ↦ whole
+        | inr opens ↦
+            let own = ap (columns_in Text) (append-nil cs) in
+            let none = ap (sum_by columns) (open-takes cs 120 opens) in
+            let one = ap (λ s. columns_in s (120 ∷ [])) is in
+            let nothing : columns_in state [] ≡ 0 = refl in
+            absurd (omega (arith, h.columns (120 ∷ []), h.columns [], own, none, one, letter-outside))
+      ]
+
+  pub whole-read : HasWholeSequences (take place line) → state ≡ Text
+  whole-read whole =
+      let cs = chars (take place line) in
+      elim (state-cases state) [
+        | inl is ↦ is
+        | inr inside ↦
+            let own = ap (columns_in Text) (append-nil cs) in
+            let one : columns_in Text (cs ++ 120 ∷ [])
+            ≡ columns_in Text cs + columns_in Text (120 ∷ []) =
+            grind (arith, units-append cs (120 ∷ []) whole, flat_map-append, sum_by-append) in
+            absurd (omega (arith, h.columns (120 ∷ []), h.columns [], own, one, letter-outside, letter-inside state inside))
+      ]

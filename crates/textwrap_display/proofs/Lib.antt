@@ -1,17 +1,11 @@
 pub mod Common
 pub mod ProvedLaws
-pub mod ColumnNeeds
 pub mod FittingWidths
 pub mod JustifiedLines
-pub mod JustifiedSinks
 pub mod KeptLines
 pub mod KeptWords
-pub mod WholeBeginnings
-pub mod CutWords
-pub mod KeptParts
 pub mod ShortenedLines
 pub mod TableGroups
-pub mod TableRows
 pub mod WidenedWords
 pub mod Widths
 pub mod TabTexts

@@ -1,8 +1,8 @@
 use Rattle.textwrap_display.proofs.needs.column_need.Goals as goal
-use Rattle.std.specs.Slice.Iter.{chunks_rest}
-use Rattle.textwrap_display.proofs.{ColumnNeeds.widest-more, TableGroups.group-map}
-use Rattle.textwrap_display.specs.Needs.{lines_in, words_in}
-use Rattle.textwrap_text.proofs.Common.{arith, ◌∙◌}
+use Rattle.{std.specs.Slice.Iter.chunks_rest, textwrap_display.proofs.FittingWidths.widest-more}
+use Rattle.textwrap_display.{proofs.TableGroups.group-map, specs.Needs.lines_in}
+use Rattle.{textwrap_display.specs.Needs.words_in, textwrap_text.proofs.Common.arith}
+use Rattle.textwrap_text.proofs.Common.{◌∙◌}
 
 pub loop-row-preserved : goal.loop-row-preserved
 loop-row-preserved c =

@@ -1,9 +1,9 @@
 use Rattle.textwrap_display.proofs.shortening.broken_len.Goals as goal
-use Rattle.textwrap_display.proofs.Common.{encode_utf8}
-use Rattle.textwrap_display.proofs.CutWords.{IsFoundCut, IsReadWord, found-cut, found-past}
-use Rattle.textwrap_display.proofs.CutWords.{read_word-start, turn-end, turn-full}
-use Rattle.textwrap_display.proofs.CutWords.{turn-hidden, turn-le, turn-wide, turn-word, word-all}
-use Rattle.textwrap_display.proofs.shortening.broken_len.Goals.{In-Some, Joined-taken-gt0}
+use Rattle.textwrap_display.proofs.{Common.encode_utf8, KeptLines.IsFoundCut, KeptLines.IsReadWord}
+use Rattle.textwrap_display.proofs.KeptLines.{cut-here, cut-past, read_word-start, turn-end}
+use Rattle.textwrap_display.proofs.KeptLines.{turn-full, turn-hidden, turn-le, turn-wide, turn-word}
+use Rattle.textwrap_display.proofs.{KeptLines.word-all, shortening.broken_len.Goals.In-Some}
+use Rattle.textwrap_display.proofs.shortening.broken_len.Goals.{Joined-taken-gt0}
 use Rattle.textwrap_text.proofs.Common.{arith, characters_left, length, ◌+◌, ◌∷◌}
 
 pub loop-character-init : goal.loop-character-init
@@ -44,10 +44,10 @@ found c =
     let wide = c.columns-width.ensures in
     elim c.if-taken-gt0.branch [
       | goal.then-taken-gt0+then-taken-left+then-width-gt0 w ↦ rw w.cut-is
-          (found-cut c.utf8.text h c.if-character.true (omega (arith, w.if-width-gt0.true, wide))
+          (cut-here c.utf8.text h c.if-character.true (omega (arith, w.if-width-gt0.true, wide))
           w.if-taken-gt0.true w.if-taken-left.true)
       | goal.else-taken-gt0 w ↦ rw w.cut-is
-          (found-past c.utf8.text h (λ shown columns some room. elim w.else-taken-gt0.branch [
+          (cut-past c.utf8.text h (λ shown columns some room. elim w.else-taken-gt0.branch [
             | goal.else-taken-gt0-via-then-taken-gt0+then-taken-left+else-width-gt0 w' ↦
                 absurd (omega (arith, columns, w'.if-width-gt0.false, wide))
             | goal.else-taken-gt0-via-then-taken-gt0+else-taken-left w' ↦

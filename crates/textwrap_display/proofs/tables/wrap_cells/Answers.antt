@@ -25,20 +25,21 @@ turn g c =
     let (some, within, text_is, column_is) = zip_turn c.args.texts.now c.args.columns.now
     c.loop-text.yielded _ _ c.next.new.self _ first second c.loop-text.yielded_by
     (c.in-Some.text, c.in-Some.column) c.in-Some.is c.next.ensures.steps in
-    (within, column_is, cell-at c.args.columns.now c.args.texts.now (length c.loop-text.yielded)
-    c.in-Some.column.now c.in-Some.text.now within some (column_is _) (text_is _))
+    let (inside, is) = cell-at c.args.columns.now c.args.texts.now (length c.loop-text.yielded)
+    c.in-Some.column.now c.in-Some.text.now within some (column_is _) (text_is _) in
+    (within, column_is, inside, is)
 
 pub loop-text-preserved : goal.loop-text-preserved
 loop-text-preserved g c =
     let (_, _, inside, is) = turn g (goal.at.loop-text-preserved g c).In-Some in
     let n = length c.loop-text.yielded in
-    let cell = (c.in-Some.column.now, c.in-Some.text.now.now) in
+    let column = c.in-Some.column.now in
+    let text = c.in-Some.text.now.now in
     let lines = c.in_ok-wrap_cell.field-0 in
     let all = zip c.args.columns.now (texts_in c.args.texts.now) in
-    rw (length_push, c.in_ok-push.ensures.items, map-append, take_more all n cell inside, ← is)
-    (all_zipped_more (IsCell g.C.AnyColumn.makes) (take n all)
-    (cell_texts c.loop-text.cells.items) cell (texts_of lines.items)
-    c.loop-text.invariant (map line_view lines.items, c.in_ok-wrap_cell.ensures.lines, refl))
+    rw (length_push, c.in_ok-push.ensures.items, map-append, take_more all n (column, text) inside, ← is)
+    (all_zipped_more (IsCell g.C.AnyColumn.makes) (take n all) (cell_texts c.loop-text.cells.items)
+    (column, text) (texts_of lines.items) c.loop-text.invariant (map line_view lines.items, c.in_ok-wrap_cell.ensures.lines, refl))
 
 pub returns-in_err-wrap_cell-clause-only_memory : goal.returns-in_err-wrap_cell-clause-only_memory
 returns-in_err-wrap_cell-clause-only_memory g c = λ never.

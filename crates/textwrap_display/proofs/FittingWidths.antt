@@ -4,17 +4,16 @@ use Rattle.std.proofs.{Common.sum, Math.Nat.div-lt_iff_lt-mul, Math.Nat.le_of_mu
 use Rattle.std.proofs.Math.Nat.{lt-div-mul-add, mul-add, mul-div-le, mul-le-mul_right}
 use Rattle.std.proofs.Math.Nat.{mul-lt-mul_of_pos_left, mul_comm, zero-div}
 use Rattle.std.{proofs.lemmas.List.Sums.fold-append, specs.List.AllZip, specs.List.flat_map}
-use Rattle.std.specs.{List.fold, Prelude.nat_le}
+use Rattle.std.specs.List.{fold}
 use Rattle.textwrap_display.proofs.{Common.text_width, TableGroups.AllZip-weaker}
 use Rattle.textwrap_display.proofs.TableGroups.{IsFirstGroup, groups-more}
 use Rattle.textwrap_display.specs.Fitting.{fitting_widths, lacking, rounded_up, shared, widest_line}
 use Rattle.textwrap_display.specs.{Fitting.widest_word, Needs.column_texts, Needs.widest}
 use Rattle.textwrap_display.specs.Sharing.{Shares, rounded_down, sure, weight}
 use Rattle.textwrap_display.specs.declared.{fitting.Sharing.Sharing, needs.Need.Need}
-use Rattle.textwrap_text.proofs.Common.{List, [], ap, arith, cases_lt, get_or, if◌then◌else◌}
-use Rattle.textwrap_text.proofs.Common.{length, map, max, min, refl, rules, subst, sum_by}
-use Rattle.textwrap_text.proofs.Common.{sum_by-cons, ℕ, ⊎_elim, ◌*◌, ◌++◌, ◌+◌, ◌-◌, ◌/◌, ◌<◌, ◌==◌}
-use Rattle.textwrap_text.proofs.Common.{◌∙◌, ◌∷◌, ◌≡◌, ◌≤◌}
+use Rattle.textwrap_text.proofs.Common.{List, [], ap, arith, cases_lt, get_or, length, map, max}
+use Rattle.textwrap_text.proofs.Common.{min, refl, rules, sum_by, sum_by-cons, ℕ, ⊎_elim, ◌*◌, ◌++◌}
+use Rattle.textwrap_text.proofs.Common.{◌+◌, ◌-◌, ◌/◌, ◌<◌, ◌∙◌, ◌∷◌, ◌≡◌, ◌≤◌}
 
 -- what is wider already stays
 widest-from : (most : ℕ) (texts : List (List ℕ))
@@ -250,9 +249,9 @@ module _ (total : ℕ) (needs : List Need) where
       let all = sum_by-wanted needs in
       let none = sum_by-none needs in
       let each = λ (sure weight : Need → ℕ) (is : (need : Need) (width : ℕ)
-          → IsShare sure weight total needs need width → IsFitting need width).
-          AllZip-weaker (IsShare sure weight total needs) IsFitting is needs
-          (shared sure weight total needs) (shared-all sure weight total needs) in
+      → IsShare sure weight total needs need width → IsFitting need width).
+      AllZip-weaker (IsShare sure weight total needs) IsFitting is needs
+      (shared sure weight total needs) (shared-all sure weight total needs) in
       fitting-cases total needs (AllZip IsFitting needs)
       (λ room empty. each widest_line (λ need. 1) (λ need width share. omega arith))
       (λ room some. each widest_line widest_line (λ need width share. omega arith))

@@ -1,13 +1,13 @@
 -- A text that is filled with its lines justified, one paragraph after another, and what justifies
 -- lines as they are found.
-use Rattle.{std.proofs.Math.Bool.or-true, textwrap_display.proofs.Common.IsJustifiedText}
-use Rattle.textwrap_display.proofs.Common.{WordText, justified, layout_view, line_bytes}
-use Rattle.textwrap_display.specs.JustifiedSinks.{HoldsJustified, TakesLine, Writes}
-use Rattle.textwrap_display.specs.JustifiedSinks.{WritesParagraph, justified_waiting, text_with}
-use Rattle.textwrap_display.specs.{JustifiedSinks.waiting, JustifiedText.added_lines}
-use Rattle.textwrap_display.specs.JustifiedText.{all_but_last, joined_on, justified_after}
-use Rattle.textwrap_display.specs.JustifiedText.{justified_after_indents, justified_line}
-use Rattle.textwrap_display.specs.JustifiedText.{justified_lines}
+use Rattle.std.proofs.Math.Bool.{or-true}
+use Rattle.textwrap_display.proofs.Common.{IsJustifiedText, WordText, justified, layout_view}
+use Rattle.textwrap_display.{proofs.Common.line_bytes, specs.JustifiedSinks.HoldsJustified}
+use Rattle.textwrap_display.specs.JustifiedSinks.{TakesLine, Writes, WritesParagraph}
+use Rattle.textwrap_display.specs.JustifiedSinks.{justified_waiting, text_with, waiting}
+use Rattle.textwrap_display.specs.JustifiedText.{added_lines, all_but_last, joined_on}
+use Rattle.textwrap_display.specs.JustifiedText.{justified_after, justified_after_indents}
+use Rattle.textwrap_display.specs.JustifiedText.{justified_line, justified_lines}
 use Rattle.textwrap_display.specs.declared.justified_lines.JustifiedLines.{JustifiedLines}
 use Rattle.textwrap_layout.proofs.Common.{AreGroups, AreParagraphParts, DividesAs, DividesBy}
 use Rattle.textwrap_layout.proofs.Common.{HasParts, LineParts, Settings, indent_of, line_from}

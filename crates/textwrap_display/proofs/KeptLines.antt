@@ -1,11 +1,11 @@
 -- The longest beginning of a line that may be kept, words that are cut between their characters, and
 -- the first lines as they are.
 use Rattle.std.{proofs.lemmas.List.Sums.take_while-cons, specs.Prelude.chars}
-use Rattle.std.specs.declared.borrow.CowStr.TheVariants.{Borrowed, Owned}
+use Rattle.std.specs.declared.borrow.CowStr.TheVariants.{Owned}
 use Rattle.textwrap_display.proofs.Common.{AreShortened, Built, CowStr, IsShortened, Line, Slice}
-use Rattle.textwrap_display.proofs.Common.{State, String, added, can_end, cow_str_bytes}
-use Rattle.textwrap_display.proofs.Common.{encode_utf8, is_blank, line_bytes, line_bytes-line_view}
-use Rattle.textwrap_display.proofs.Common.{line_view, read-all, texts_of, units}
+use Rattle.textwrap_display.proofs.Common.{State, String, added, cow_str_bytes, encode_utf8}
+use Rattle.textwrap_display.proofs.Common.{is_blank, line_bytes, line_bytes-line_view, line_view}
+use Rattle.textwrap_display.proofs.Common.{read-all, texts_of, units}
 use Rattle.textwrap_display.proofs.KeptWords.{BlankAhead, IsLatest, IsReadTo, ahead-blank}
 use Rattle.textwrap_display.proofs.KeptWords.{before-character, blank-ahead, latest-here}
 use Rattle.textwrap_display.proofs.KeptWords.{latest-none, latest-on, latest-past, may_end-boundary}
@@ -13,17 +13,15 @@ use Rattle.textwrap_display.proofs.KeptWords.{may_end-here, may_end-other, may_e
 use Rattle.textwrap_display.proofs.KeptWords.{read-whole, read-width, read_to-start, read_to-step}
 use Rattle.textwrap_display.{proofs.KeptWords.whole-read, specs.Shortening.CanCut}
 use Rattle.textwrap_display.specs.Shortening.{CanEnd, IsCut, IsKeptBeginning, word_width}
-use Rattle.textwrap_layout.specs.Text.{HasWholeSequences}
-use Rattle.{textwrap_styles.proofs.SequenceTexts.nil-whole, textwrap_text.proofs.Common.Bool}
-use Rattle.textwrap_text.proofs.Common.{Bor, IsCharBoundary, IsUtf8, List, [], ap, append_assoc}
-use Rattle.textwrap_text.proofs.Common.{arith, cases_Bool, cases_lt, chars-nil, columns, drop}
-use Rattle.textwrap_text.proofs.Common.{drop_more, encode_utf8_all, encodes-chars, eqb, eqb-true}
-use Rattle.textwrap_text.proofs.Common.{false, false≢true, get_or, inl, inr, length, length-map}
-use Rattle.textwrap_text.proofs.Common.{length-take-le, map, map-append, ne_eqb, next_of, not, refl}
-use Rattle.textwrap_text.proofs.Common.{rules, shows, string_bytes, subst, sum_by, sum_by-cons, sym}
-use Rattle.textwrap_text.proofs.Common.{take, take-append-drop, take_more, take_while, text_width}
-use Rattle.textwrap_text.proofs.Common.{true, units_width, visible_in, ℕ, ◌++◌, ◌+◌, ◌<◌, ◌∙◌, ◌∷◌}
-use Rattle.textwrap_text.proofs.Common.{◌≡◌, ◌≢◌, ◌≤◌, ◌⊎◌}
+use Rattle.textwrap_styles.proofs.SequenceTexts.{nil-whole}
+use Rattle.textwrap_text.proofs.Common.{Bool, IsCharBoundary, IsUtf8, List, [], ap, arith}
+use Rattle.textwrap_text.proofs.Common.{cases_Bool, columns, drop, drop_more, encode_utf8_all}
+use Rattle.textwrap_text.proofs.Common.{encodes-chars, eqb, eqb-true, false, false≢true, get_or}
+use Rattle.textwrap_text.proofs.Common.{inl, inr, length, length-map, length-take-le, map}
+use Rattle.textwrap_text.proofs.Common.{map-append, ne_eqb, next_of, not, refl, rules, shows}
+use Rattle.textwrap_text.proofs.Common.{string_bytes, subst, sum_by, sum_by-cons, sym, take}
+use Rattle.textwrap_text.proofs.Common.{take-append-drop, take_while, text_width, true, units_width}
+use Rattle.textwrap_text.proofs.Common.{ℕ, ◌++◌, ◌+◌, ◌<◌, ◌∙◌, ◌∷◌, ◌≡◌, ◌≢◌, ◌≤◌}
 use Rattle.textwrap_text.proofs.Units.{Characters.shown-from, Reading.read-ahead}
 use Rattle.textwrap_text.specs.Characters.{characters_from, characters_of, shown}
 use Rattle.textwrap_text.specs.declared.characters.Character.{Character}
@@ -150,17 +148,6 @@ pub views-push : {Z : Type 0} (before after : List (CowStr Z)) (lines : List Lin
     → map line_view before ≡ lines → after ≡ before ++ Owned last ∷ []
     → map line_view after ≡ lines ++ Built (string_bytes last) ∷ []
 views-push before after lines last are is = grind (arith, map-append)
-
--- one more of the lines, as it is
-pub views-more : {Z : Type 0} (lines : List (CowStr Z)) (n : ℕ) (line : CowStr Z)
-    (before after : List (CowStr Z)) (old : List Line) (text : Bor (List ℕ)) → n < length lines
-    → line ≡ get_or lines n line → text.now ≡ cow_str_bytes line
-    → map line_view before ≡ old ++ map Slice (texts_of (take n lines))
-    → after ≡ before ++ Borrowed text ∷ []
-    → map line_view after ≡ old ++ map Slice (texts_of (take (n + 1) lines))
-views-more lines n line before after old text within is same so_far more =
-    let front = take_more lines n line within in
-    grind (arith, append_assoc, line_bytes-line_view, map-append, texts-append, front)
 
 -- ---- the columns of the word that visible characters begin with
 

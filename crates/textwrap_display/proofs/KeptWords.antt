@@ -5,8 +5,8 @@ use Rattle.textwrap_display.proofs.Common.{AreBlanks, IsCharBoundary-start, IsRe
 use Rattle.textwrap_display.proofs.Common.{added, can_end, chunks, chunks-from, encode_ascii}
 use Rattle.textwrap_display.proofs.Common.{encode_utf8, ends, is_blank, is_cut, read-next}
 use Rattle.textwrap_display.proofs.Common.{read-start, units, units-append, word_of, word_texts}
-use Rattle.{textwrap_layout.specs.Text.HasWholeSequences, textwrap_text.proofs.Common.All}
-use Rattle.textwrap_text.proofs.Common.{All-cons, All-head, All-nil, All-tail, AreUnits, Bool}
+use Rattle.textwrap_layout.specs.Text.{HasWholeSequences}
+use Rattle.textwrap_text.proofs.Common.{All, All-cons, All-head, All-nil, All-tail, AreUnits, Bool}
 use Rattle.textwrap_text.proofs.Common.{IsCharBoundary, IsUncut, IsUtf8, IsUtf8-take, List}
 use Rattle.textwrap_text.proofs.Common.{Sequence, TextUnit, Visible, [], add-zero, ap, append-nil}
 use Rattle.textwrap_text.proofs.Common.{append_assoc, arith, cases_Bool, cases_lt, characters}

@@ -1,13 +1,13 @@
 -- Lines that are cut: whole words are kept, and of the next word, which is a text by itself, what has
 -- room; what closes that, what the lines show, and their widths. Only one number of bytes may be kept.
 use Rattle.std.proofs.lemmas.{List.Sums.prefix_len-le-length, Str.IsCharBoundary-from_rest}
-use Rattle.{std.specs.Prelude.chars, textwrap_display.proofs.Common.IsShortened}
-use Rattle.textwrap_display.proofs.Common.{IsWhole, IsWholeText, Line, closing, concat, indent_len}
-use Rattle.textwrap_display.proofs.Common.{is_blank, line_bytes, sequences, text_width-append}
-use Rattle.textwrap_display.proofs.{Common.units, KeptLines.none-kept, KeptWords.may_end-boundary}
-use Rattle.textwrap_display.{proofs.Widths.indent-blanks, specs.Shortening.CanCut}
-use Rattle.textwrap_display.specs.Shortening.{IsCut, IsKeptBeginning, IsKeptLength, LeavesRoom}
-use Rattle.textwrap_display.specs.Shortening.{is_too_wide, word_width}
+use Rattle.std.specs.Prelude.{chars}
+use Rattle.textwrap_display.proofs.Common.{IsShortened, IsWhole, IsWholeText, Line, closing, concat}
+use Rattle.textwrap_display.proofs.Common.{indent_len, is_blank, line_bytes, sequences}
+use Rattle.textwrap_display.proofs.{Common.text_width-append, Common.units, KeptLines.none-kept}
+use Rattle.textwrap_display.proofs.{KeptWords.may_end-boundary, Widths.indent-blanks}
+use Rattle.textwrap_display.specs.Shortening.{CanCut, IsCut, IsKeptBeginning, IsKeptLength}
+use Rattle.textwrap_display.specs.Shortening.{LeavesRoom, is_too_wide, word_width}
 use Rattle.textwrap_layout.specs.Text.{HasWholeSequences}
 use Rattle.textwrap_lines.proofs.Text.Printed.{blanks-printable, blanks-whole}
 use Rattle.textwrap_styles.proofs.{PenStyles.ended, SequenceTexts.IsSequence}
@@ -16,11 +16,11 @@ use Rattle.textwrap_styles.proofs.SequenceTexts.{concat-units, concat-whole, non
 use Rattle.textwrap_styles.proofs.SequenceTexts.{penned-append, sequence_units, sequences-show}
 use Rattle.textwrap_styles.proofs.SequenceTexts.{text_units-append, units-again, whole_text-append}
 use Rattle.textwrap_styles.specs.Penned.{penned_text, penned_units, plain_rendition, rendition_of}
-use Rattle.{textwrap_styles.specs.Styled.EndsPlain, textwrap_text.proofs.Common.All}
-use Rattle.textwrap_text.proofs.Common.{All-append, Bool, IsCharBoundary, IsCharBoundary-from_drop}
-use Rattle.textwrap_text.proofs.Common.{IsCharBoundary-from_take, IsUtf8, IsUtf8-drop}
-use Rattle.textwrap_text.proofs.Common.{IsUtf8-from_ascii, IsUtf8-take, List, [], and_parts, ap}
-use Rattle.textwrap_text.proofs.Common.{append-nil, arith, cases_lt, drop, drop-drop}
+use Rattle.textwrap_styles.specs.Styled.{EndsPlain}
+use Rattle.textwrap_text.proofs.Common.{All, All-append, Bool, IsCharBoundary}
+use Rattle.textwrap_text.proofs.Common.{IsCharBoundary-from_drop, IsCharBoundary-from_take, IsUtf8}
+use Rattle.textwrap_text.proofs.Common.{IsUtf8-drop, IsUtf8-from_ascii, IsUtf8-take, List, []}
+use Rattle.textwrap_text.proofs.Common.{and_parts, ap, append-nil, arith, cases_lt, drop, drop-drop}
 use Rattle.textwrap_text.proofs.Common.{flat_map-append, inl, inr, length, length-drop}
 use Rattle.textwrap_text.proofs.Common.{length-prefix_len, ltb-false, ltb-true, refl, rules, subst}
 use Rattle.textwrap_text.proofs.Common.{sym, take, take-add, take-append-drop, take_at, text_width}

@@ -1,14 +1,12 @@
 -- Texts with blanks in the place of their tabs: what stands behind the last line feed, one part
 -- after another, and the laws of them.
-use Rattle.std.proofs.lemmas.{List.Folds.list_any-append, List.Folds.list_any_none}
-use Rattle.std.proofs.lemmas.Str.Pattern.{drop_at_char}
-use Rattle.textwrap_text.proofs.Common.{◌||◌, cond, false_from_ne_true, take, take-append-drop}
 use Rattle.std.proofs.{Common.◌%◌, Math.Nat.add-mul, Math.Nat.suc-mul}
-use Rattle.std.proofs.lemmas.List.{Elements.All-replicate, Splits.length-slice_split}
+use Rattle.std.proofs.lemmas.List.{Elements.All-replicate, Folds.list_any-append}
+use Rattle.std.proofs.lemmas.List.{Folds.list_any_none, Splits.length-slice_split}
 use Rattle.std.proofs.lemmas.List.Splits.{slice_split_at, slice_split_first, slice_split_none}
-use Rattle.std.proofs.lemmas.List.{Sums.prefix_len_passes, Sums.suffix_len_is, get_or_default}
-use Rattle.std.proofs.lemmas.Nat.{div-add-mod', mod_below}
-use Rattle.std.proofs.lemmas.Str.Pattern.{NoCharPasses-char, contains_char}
+use Rattle.std.proofs.lemmas.{List.Sums.prefix_len_passes, List.get_or_default, Nat.div-add-mod'}
+use Rattle.std.proofs.lemmas.{Nat.mod_below, Str.Pattern.NoCharPasses-char}
+use Rattle.std.proofs.lemmas.Str.Pattern.{contains_char, drop_at_char}
 use Rattle.std.specs.List.{after_first, before_first, list_any, position_or_len}
 use Rattle.std.specs.{Prelude.MatchBool, Prelude.replicate, Str.NoCharPasses, Str.Pattern.FindsChar}
 use Rattle.std.specs.Str.Pattern.{HasCharAt}
@@ -18,13 +16,13 @@ use Rattle.textwrap_layout.proofs.Text.Paragraphs.{text_width-append}
 use Rattle.textwrap_styles.specs.Styled.{IsWholeText}
 use Rattle.textwrap_text.proofs.Common.{All, All-append, All-cons, All-head, All-nil, All-tail}
 use Rattle.textwrap_text.proofs.Common.{All-weaker, Bool, List, None, Some, [], ap, append-nil}
-use Rattle.textwrap_text.proofs.Common.{append_assoc, arith, blank, cases_Bool, drop, eqb-false}
-use Rattle.textwrap_text.proofs.Common.{eqb-true, false, false≢true, get_or, get_or-drop, inl, inr}
-use Rattle.textwrap_text.proofs.Common.{length, length-drop, ne_eqb, not, not-true, refl, rules}
-use Rattle.textwrap_text.proofs.Common.{slice_split, subst, suc, sym, text_width, true, ℕ, ◌*◌}
-use Rattle.textwrap_text.proofs.Common.{◌++◌, ◌+◌, ◌-◌, ◌/◌, ◌<◌, ◌==◌, ◌∙◌, ◌∷◌, ◌≡◌, ◌≢◌, ◌≤◌}
-use Rattle.textwrap_text.proofs.{Common.◌⊎◌, Lists.Elements.any-contains}
-use Rattle.textwrap_text.proofs.Lists.{Elements.contains-any, Parts.after_last-push}
+use Rattle.textwrap_text.proofs.Common.{append_assoc, arith, blank, cases_Bool, cond, drop}
+use Rattle.textwrap_text.proofs.Common.{eqb-false, eqb-true, false, false_from_ne_true, inl, inr}
+use Rattle.textwrap_text.proofs.Common.{length, ne_eqb, not-true, refl, rules, slice_split, subst}
+use Rattle.textwrap_text.proofs.Common.{suc, sym, take, take-append-drop, text_width, true, ℕ, ◌*◌}
+use Rattle.textwrap_text.proofs.Common.{◌++◌, ◌+◌, ◌/◌, ◌<◌, ◌==◌, ◌||◌, ◌∙◌, ◌∷◌, ◌≡◌, ◌≢◌, ◌≤◌}
+use Rattle.textwrap_text.proofs.Lists.Elements.{any-contains, contains-any}
+use Rattle.textwrap_text.proofs.Lists.Parts.{after_last-push}
 use Rattle.textwrap_words.proofs.Word.Words.{text_width-nil}
 
 -- ---- what stands behind the last line feed
@@ -178,10 +176,9 @@ module _ (stop : ℕ) where
 
   pub no_tab-left : (text : List ℕ) → Lacks 9 (expanded_tabs stop text)
   no_tab-left = by-parts (λ text. Lacks 9 (expanded_tabs stop text))
-      (λ part lacks. subst (Lacks 9) (sym (expanded-free part lacks)) lacks)
-      (λ part rest lacks left. subst (Lacks 9) (sym (expanded-tab part rest lacks))
-      (lacks-both 9 (filled_up stop part) (expanded_tabs stop rest) (lacks-both 9 part _ lacks
-      (lacks-blanks 9 (tab_blanks stop (text_width (last_line part))) (omega arith))) left))
+      (λ part lacks. rw (expanded-free part lacks) lacks)
+      (λ part rest lacks left. rw (expanded-tab part rest lacks)
+      (search (rules, arith, lacks-both 9, lacks-blanks 9)))
 
   -- ---- what follows a tab is expanded by itself
 

@@ -5,14 +5,15 @@ use Rattle.std.proofs.{Math.Nat.suc-mul, lemmas.List.drop_min, lemmas.List.lengt
 use Rattle.std.proofs.lemmas.{List.take_min, Simd.map-map, Slice.Zip.AllZip-long}
 use Rattle.std.proofs.lemmas.Slice.Zip.{get_or-zip, length-zip}
 use Rattle.std.specs.{Fork.slice_chunk, List.AllZip, Slice.Iter.chunk_count}
-use Rattle.{textwrap.proofs.Text.Tables.lines-kept, textwrap_display.proofs.Widths.aligned-before}
-use Rattle.textwrap_display.specs.Laws.{KeepToColumns, ShowsEachLineOnce, cell_shown, row_of}
-use Rattle.textwrap_display.specs.{Laws.row_width, Tables.AreCells, Tables.AreTableRows}
-use Rattle.textwrap_display.specs.Tables.{ColumnMakes, ColumnParts, HaveParts, IsTableBy, IsTableOf}
-use Rattle.textwrap_display.specs.Tables.{PartsMake, RowGaps, Shape, cell_line, group_rows}
-use Rattle.textwrap_display.specs.Tables.{groups_of, height, rows_of_cells, shape_of}
-use Rattle.textwrap_display.specs.Tables.{shape_of_parts, shown_cell, shown_cells, table_row}
-use Rattle.textwrap_display.specs.{Tables.texts_in, declared.tables.Column.Column}
+use Rattle.textwrap.proofs.Text.Tables.{lines-kept}
+use Rattle.textwrap_display.{proofs.Widths.aligned-before, specs.Laws.KeepToColumns}
+use Rattle.textwrap_display.specs.Laws.{ShowsEachLineOnce, cell_shown, row_of, row_width}
+use Rattle.textwrap_display.specs.Tables.{AreCells, AreTableRows, ColumnMakes, ColumnParts}
+use Rattle.textwrap_display.specs.Tables.{HaveParts, IsTableBy, IsTableOf, PartsMake, RowGaps}
+use Rattle.textwrap_display.specs.Tables.{Shape, cell_line, group_rows, groups_of, height}
+use Rattle.textwrap_display.specs.Tables.{rows_of_cells, shape_of, shape_of_parts, shown_cell}
+use Rattle.textwrap_display.specs.Tables.{shown_cells, table_row, texts_in}
+use Rattle.textwrap_display.specs.declared.tables.Column.{Column}
 use Rattle.textwrap_layout.proofs.{Common.HasParts, Common.Line, Paragraph.Pieces.lines-as}
 use Rattle.textwrap_layout.proofs.Text.Paragraphs.{text_width-append}
 use Rattle.textwrap_styles.{proofs.SequenceTexts.nil-whole, specs.Styled.IsWholeText}
@@ -23,7 +24,8 @@ use Rattle.textwrap_text.proofs.Common.{inl, inr, join_with, length, length-appe
 use Rattle.textwrap_text.proofs.Common.{map-append, max, min, range_with_len, refl, rules, subst}
 use Rattle.textwrap_text.proofs.Common.{suc, sum_by, sum_by-cons, sym, take_at, zero, zip, ℕ, ◌*◌}
 use Rattle.textwrap_text.proofs.Common.{◌++◌, ◌+◌, ◌-◌, ◌/◌, ◌<◌, ◌∙◌, ◌∷◌, ◌≡◌, ◌≤◌}
-use Rattle.{textwrap_text.specs.Units.text_width, textwrap_words.proofs.Word.Words.text_width-nil}
+use Rattle.textwrap_text.specs.Units.{text_width}
+use Rattle.textwrap_words.proofs.Word.Words.{text_width-nil}
 
 -- ---- the cells of a row: their lines, and what the columns show of them
 
@@ -95,10 +97,11 @@ module _ {X : Type 0} (count : ℕ) (items front rest : List X) where
   groups-more h =
       grind (arith, take_min, take_at, drop_min, drop_at, length-append, count-less, chunks-more)
 
-pub group-map : {X Y : Type 0} (f : X → Y) (count : ℕ) (items front rest : List X)
-    → IsFirstGroup count items front rest
-    → IsFirstGroup count (map f items) (map f front) (map f rest)
-group-map f count items front rest h = search (rules, arith, map-append, length-map)
+-- what a function makes of a chunk of items is the first group of what it makes of all
+pub first-group : {X Y : Type 0} (f : X → Y) (items front rest : List X) {size count : ℕ} → 0 < size
+    → size ≡ count → (items ≡ front ++ rest) × (length front ≡ min size (length items))
+    × (0 < length items) → IsFirstGroup count (map f items) (map f front) (map f rest)
+first-group f items front rest some is chunk = search (rules, arith, map-append, length-map)
 
 -- the column and the text of one cell
 pub cell-at : {X : Type 0} (columns : List X) (texts : List (Bor (List ℕ))) (n : ℕ) (column : X)

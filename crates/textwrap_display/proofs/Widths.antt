@@ -159,16 +159,8 @@ widened-width each extra (w ∷ v ∷ ws) sound =
     let here = All-head IsSound w (v ∷ ws) sound in
     let many : length (w ∷ v ∷ ws) - 1 ≡ suc (length ws) = omega arith in
     let fewer : length (v ∷ ws) - 1 ≡ length ws = omega arith in
-    let rest = tiled (widened_words each (extra - 1) (v ∷ ws)) in
     let others = widened-width each (extra - 1) (v ∷ ws) (All-tail IsSound w (v ∷ ws) sound) in
-    rw (widened-first each extra w v ws, many) (omega (
-      arith,
-      word-before w (blanks (each + min extra 1) ++ rest) here,
-      more-blanks (each + min extra 1) rest,
-      word-before w (tiled (v ∷ ws)) here,
-      rw fewer at others,
-      suc-mul (length ws) each,
-    ))
+    grind (arith, widened-first, word-before, more-blanks, here, many, rw fewer at others, suc-mul)
 
 -- ---- a line that is justified
 

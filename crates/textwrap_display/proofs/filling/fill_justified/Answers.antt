@@ -5,9 +5,9 @@ use Rattle.textwrap_display.proofs.JustifiedLines.{so_far-more, so_far-start}
 use Rattle.textwrap_display.specs.{JustifiedSinks.HoldsJustified, JustifiedText.added_lines}
 use Rattle.textwrap_layout.proofs.Common.{cut_lines, line_from}
 use Rattle.textwrap_layout.proofs.Text.{Lines.paragraphs_left-split, Sinks.lines_of-cut_lines}
-use Rattle.textwrap_layout.{proofs.Text.Sinks.lines_of-more, specs.Paragraph.DividesWith}
-use Rattle.{textwrap_lines.proofs.Paragraph.KeepsTo.passed-on, textwrap_text.proofs.Common.[]}
-use Rattle.textwrap_text.proofs.Common.{ap, length-map, map, nat_lt, refl, string_bytes, subst}
+use Rattle.textwrap_layout.proofs.Text.Sinks.{lines_of-more}
+use Rattle.textwrap_lines.proofs.Paragraph.KeepsTo.{passed-on}
+use Rattle.textwrap_text.proofs.Common.{[], ap, length-map, map, nat_lt, refl, string_bytes, subst}
 use Rattle.textwrap_text.proofs.Common.{◌++◌, ◌||◌, ◌∙◌}
 
 pub loop-rest-init : goal.loop-rest-init
@@ -33,10 +33,10 @@ loop-rest-preserved g c =
     c.in_ok-end_paragraph.ensures.written c.in_ok-end_paragraph.ensures.none in
     record {
       so_far = so_far-more own (rw (
-            c.in-Some.is,
-            paragraphs_left-split ending c.in-Some.text.now after paragraph
-                c.split_paragraph.ensures.paragraphs,
-          ) at so_far.so_far) are
+        c.in-Some.is,
+        paragraphs_left-split ending c.in-Some.text.now after paragraph
+            c.split_paragraph.ensures.paragraphs,
+      ) at so_far.so_far) are
           (more.text ∙ ap (λ l. string_bytes first.text ++ added_lines (layout_view l) first.has_lines
           lines) so_far.layout_is)
           (more.has_lines ∙ ap (λ n. first.has_lines || nat_lt 0 n)

@@ -1,12 +1,12 @@
 use Rattle.textwrap_display.proofs.shortening.kept_len.Goals as goal
-use Rattle.textwrap_display.proofs.{Common.indent_len, ShortenedLines.cut-none}
-use Rattle.textwrap_display.proofs.ShortenedLines.{IsFoundWord}
-use Rattle.textwrap_display.proofs.ShortenedLines.{kept-cut, kept-none, kept-uncut, kept-within}
-use Rattle.textwrap_display.proofs.ShortenedLines.{kept-words, start-boundary, start-is, word-is}
-use Rattle.textwrap_display.proofs.shortening.kept_len.Goals.{After-split_indent}
+use Rattle.textwrap_display.proofs.{Common.indent_len, ShortenedLines.IsFoundWord}
+use Rattle.textwrap_display.proofs.ShortenedLines.{cut-none, kept-cut, kept-none, kept-uncut}
+use Rattle.textwrap_display.proofs.ShortenedLines.{kept-within, kept-words, start-boundary}
+use Rattle.textwrap_display.proofs.ShortenedLines.{start-is, word-is}
 use Rattle.textwrap_display.proofs.shortening.kept_len.Goals.{After-broken_len-broken}
-use Rattle.{textwrap_display.specs.Shortening.IsKeptBeginning, textwrap_text.proofs.Common.ap}
-use Rattle.textwrap_text.proofs.Common.{arith, drop, length, take, text_width, ◌+◌, ◌∙◌, ◌≡◌}
+use Rattle.textwrap_display.proofs.shortening.kept_len.Goals.{After-split_indent}
+use Rattle.textwrap_display.specs.Shortening.{IsKeptBeginning}
+use Rattle.textwrap_text.proofs.Common.{ap, arith, drop, length, text_width, ◌+◌, ◌∙◌, ◌≡◌}
 use Rattle.textwrap_text.proofs.Lists.Parts.{from_start}
 
 pub returns-in_default : goal.returns-in_default

@@ -1,6 +1,6 @@
 use Rattle.textwrap_display.proofs.shortening.shortened.Goals as goal
-use Rattle.{textwrap_display.proofs.ShortenedLines.kept-boundary, textwrap_text.proofs.Common.arith}
-use Rattle.textwrap_text.proofs.Common.{rules}
+use Rattle.textwrap_display.proofs.ShortenedLines.{kept-boundary}
+use Rattle.textwrap_text.proofs.Common.{arith, rules}
 
 pub range-kept-requires-clause-end_boundary : goal.range-kept-requires-clause-end_boundary
 range-kept-requires-clause-end_boundary g c = kept-boundary c.kept_len.ensures c.utf8.line

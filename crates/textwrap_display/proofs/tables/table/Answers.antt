@@ -1,6 +1,6 @@
 use Rattle.textwrap_display.proofs.tables.table.Goals as goal
 use Rattle.std.specs.Slice.Iter.{chunks_rest}
-use Rattle.textwrap_display.proofs.TableGroups.{IsFirstGroup, group-map, groups-more, table-more}
+use Rattle.textwrap_display.proofs.TableGroups.{IsFirstGroup, first-group, groups-more, table-more}
 use Rattle.textwrap_display.proofs.{TableGroups.table-none, tables.table.Goals.In-Some}
 use Rattle.textwrap_display.specs.Tables.{IsTableBy, NonePasses, cell_texts, gaps_view, group_rows}
 use Rattle.textwrap_display.specs.Tables.{texts_in}
@@ -16,15 +16,9 @@ first_group : (g : _) (c : In-Some g) → IsFirstGroup (length c.args.columns.no
     (texts_in (chunks_rest c.loop-texts.texts-iterator)) (texts_in c.in-Some.texts.now)
     (texts_in (chunks_rest c.next.new.self))
 first_group g c =
-    let (size, (whole, front, some)) = c.in-Some.ensures.steps in
-    group-map (λ text. text.now) (length c.args.columns.now)
-    (chunks_rest c.loop-texts.texts-iterator) c.in-Some.texts.now (chunks_rest c.next.new.self)
-    (record {
-      some = omega (arith, c.loop-texts.iterator.0, c.loop-texts.invariant.0);
-      whole = whole;
-      more = omega (arith, some);
-      size = omega (arith, front, c.loop-texts.invariant.0);
-    })
+    first-group (λ text. text.now) (chunks_rest c.loop-texts.texts-iterator) c.in-Some.texts.now
+    (chunks_rest c.next.new.self) c.loop-texts.iterator.0 c.loop-texts.invariant.0
+    c.in-Some.ensures.steps.1
 
 pub loop-texts-preserved : goal.loop-texts-preserved
 loop-texts-preserved g c =

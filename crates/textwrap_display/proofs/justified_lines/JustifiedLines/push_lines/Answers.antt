@@ -2,9 +2,10 @@ use Rattle.textwrap_display.proofs.justified_lines.JustifiedLines.push_lines.Goa
 use Rattle.textwrap_display.proofs.Common.{line_bytes, line_bytes-line_view, line_view}
 use Rattle.textwrap_display.proofs.JustifiedLines.{justified-none, justified-one, paragraph-written}
 use Rattle.textwrap_display.specs.JustifiedSinks.{HoldsJustified}
-use Rattle.{textwrap_layout.proofs.Text.Sinks.on_ok_both, textwrap_text.proofs.Common.[]}
-use Rattle.textwrap_text.proofs.Common.{ap, append-nil, arith, length, map, map_push, subst, sym}
-use Rattle.textwrap_text.proofs.Common.{take, take_all, take_more, ◌++◌, ◌+◌, ◌∙◌, ◌∷◌, ◌≡◌, ◌≤◌}
+use Rattle.textwrap_layout.proofs.Text.Sinks.{on_ok_both}
+use Rattle.textwrap_text.proofs.Common.{[], ap, append-nil, arith, length, map, map_push, subst}
+use Rattle.textwrap_text.proofs.Common.{sym, take, take_all, take_more, ◌++◌, ◌+◌, ◌∙◌, ◌∷◌, ◌≡◌}
+use Rattle.textwrap_text.proofs.Common.{◌≤◌}
 
 pub loop-line-init : goal.loop-line-init
 loop-line-init g c = justified-none c.args.self.now c.requires

@@ -1,6 +1,7 @@
 -- The beginning of a line that is kept: its words, where it may end, and the reader that finds it,
 -- which is outside of sequences where the beginning ends in none.
-use Rattle.std.{proofs.Math.Seq.take-add, proofs.lemmas.Str.IsCharBoundary-end, specs.Prelude.chars}
+use Rattle.std.proofs.{Math.Seq.take-add, lemmas.Simd.map-map, lemmas.Str.IsCharBoundary-end}
+use Rattle.std.specs.Prelude.{chars}
 use Rattle.textwrap_display.proofs.Common.{AreBlanks, IsCharBoundary-start, IsRead, IsWhole, State}
 use Rattle.textwrap_display.proofs.Common.{added, can_end, chunks, chunks-from, encode_ascii}
 use Rattle.textwrap_display.proofs.Common.{encode_utf8, ends, is_blank, is_cut, read-next}
@@ -131,8 +132,7 @@ trimmed-blanks text bs blanks = grind (arith, trimmed_len-blanks, take-append-le
 
 word_texts-parts : (parts : List (List ℕ))
     → map (λ w. w.word) (map word_of parts) ≡ map without_final_blanks parts
-word_texts-parts [] = refl
-word_texts-parts (part ∷ parts) = ap (λ l. without_final_blanks part ∷ l) (word_texts-parts parts)
+word_texts-parts parts = map-map (λ w. w.word) word_of parts
 
 -- blanks at the end of a text stay final ones behind one more byte
 trimmed-cons : (c : ℕ) (part : List ℕ)

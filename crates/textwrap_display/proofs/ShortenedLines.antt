@@ -8,8 +8,8 @@ use Rattle.textwrap_display.proofs.{Common.text_width-append, Common.units, Kept
 use Rattle.textwrap_display.proofs.{KeptWords.may_end-boundary, Widths.indent-blanks}
 use Rattle.textwrap_display.specs.Shortening.{CanCut, IsCut, IsKeptBeginning, IsKeptLength}
 use Rattle.textwrap_display.specs.Shortening.{LeavesRoom, is_too_wide, word_width}
-use Rattle.textwrap_layout.specs.Text.{HasWholeSequences}
-use Rattle.textwrap_lines.proofs.Text.Printed.{blanks-printable, blanks-whole}
+use Rattle.textwrap_layout.{proofs.Paragraph.LeftOff.blanks-utf8, specs.Text.HasWholeSequences}
+use Rattle.textwrap_lines.proofs.Text.Printed.{blanks-whole}
 use Rattle.textwrap_styles.proofs.{PenStyles.ended, SequenceTexts.IsSequence}
 use Rattle.textwrap_styles.proofs.SequenceTexts.{closing-is, closing-sequences, closing_sequences}
 use Rattle.textwrap_styles.proofs.SequenceTexts.{concat-units, concat-whole, none-visible}
@@ -19,14 +19,13 @@ use Rattle.textwrap_styles.specs.Penned.{penned_text, penned_units, plain_rendit
 use Rattle.textwrap_styles.specs.Styled.{EndsPlain}
 use Rattle.textwrap_text.proofs.Common.{All, All-append, Bool, IsCharBoundary}
 use Rattle.textwrap_text.proofs.Common.{IsCharBoundary-from_drop, IsCharBoundary-from_take, IsUtf8}
-use Rattle.textwrap_text.proofs.Common.{IsUtf8-drop, IsUtf8-from_ascii, IsUtf8-take, List, []}
-use Rattle.textwrap_text.proofs.Common.{and_parts, ap, append-nil, arith, cases_lt, drop, drop-drop}
+use Rattle.textwrap_text.proofs.Common.{IsUtf8-drop, IsUtf8-take, List, [], and_parts, ap}
+use Rattle.textwrap_text.proofs.Common.{append-nil, arith, cases_lt, drop, drop-drop}
 use Rattle.textwrap_text.proofs.Common.{flat_map-append, inl, inr, length, length-drop}
 use Rattle.textwrap_text.proofs.Common.{length-prefix_len, ltb-false, ltb-true, refl, rules, subst}
 use Rattle.textwrap_text.proofs.Common.{sym, take, take-add, take-append-drop, take_at, text_width}
 use Rattle.textwrap_text.proofs.Common.{true, units_width, ℕ, ◌&&◌, ◌++◌, ◌+◌, ◌-◌, ◌<◌, ◌∙◌, ◌≡◌}
 use Rattle.textwrap_text.proofs.{Common.◌≢◌, Common.◌≤◌, Common.◌⊎◌, Lists.Parts.all-right}
-use Rattle.textwrap_text.proofs.Units.Reading.{printable-ascii}
 use Rattle.textwrap_words.proofs.Word.Words.{text_width-nil}
 
 -- ---- a word in a line, as a text by itself
@@ -54,10 +53,7 @@ module _ {width : ℕ} {placeholder line : List ℕ} (utf8 : IsUtf8 line) {words
 
   gap-whole : IsWholeText gap
   gap-whole =
-      let blanks = indent-blanks (drop words line) in (
-        IsUtf8-from_ascii gap (printable-ascii gap (blanks-printable gap blanks)),
-        blanks-whole gap blanks,
-      )
+      let blanks = indent-blanks (drop words line) in (blanks-utf8 gap blanks, blanks-whole gap blanks)
 
   front-whole : IsWholeText front
   front-whole = subst IsWholeText (sym front-is) (whole_text-append (take words line) gap words-whole
@@ -79,19 +75,20 @@ module _ {width : ℕ} {placeholder line : List ℕ} (utf8 : IsUtf8 line) {words
   longer-width k =
       ap text_width (longer k) ∙ text_width-append front (take k word) front-whole.0 front-whole.1
 
+  longer-units : (k : ℕ) → units (chars (take (start + k) line))
+      ≡ units (chars front) ++ units (chars (take k word))
+  longer-units k =
+      ap (λ l. units (chars l)) (longer k) ∙ text_units-append front (take k word) front-whole
+
   longer-whole : (k : ℕ) → HasWholeSequences (take k word)
       → HasWholeSequences (take (start + k) line)
-  longer-whole k whole =
-      subst HasWholeSequences (sym (longer k))
-      (subst (All IsWhole) (sym (text_units-append front (take k word) front-whole))
-      (All-append IsWhole (units (chars front)) (units (chars (take k word))) front-whole.1 whole))
+  longer-whole k whole = subst (All IsWhole) (sym (longer-units k))
+      (All-append IsWhole (units (chars front)) (units (chars (take k word))) front-whole.1 whole)
 
   longer-own : (k : ℕ) → HasWholeSequences (take (start + k) line)
       → HasWholeSequences (take k word)
-  longer-own k whole =
-      all-right IsWhole (units (chars front)) (units (chars (take k word)))
-      (subst (All IsWhole) (ap (λ l. units (chars l)) (longer k)
-      ∙ text_units-append front (take k word) front-whole) whole)
+  longer-own k whole = all-right IsWhole (units (chars front)) (units (chars (take k word)))
+      (subst (All IsWhole) (longer-units k) whole)
 
   rest-of : (k : ℕ) → drop (start + k) line ≡ drop k word
   rest-of k = ap (λ n. drop n line) (omega arith) ∙ sym (drop-drop k start line)

@@ -96,28 +96,18 @@ pub filled-more : (stop : ℕ) (part : List ℕ) (parts : List (List ℕ)) → 0
 filled-more stop part [] some = absurd (omega arith)
 filled-more stop part (next ∷ parts) some = refl
 
-expanded-next : (stop : ℕ) (text part rest : List ℕ)
+-- a part, and the tab behind it
+pub expanded-next : (stop : ℕ) (text part rest : List ℕ)
     → (position_or_len is_tab text < length text) × (part ≡ before_first is_tab text)
     × (rest ≡ after_first is_tab text)
     → expanded_tabs stop text ≡ filled_up stop part ++ expanded_tabs stop rest
 expanded-next stop text part rest (within, first, later) =
     search (rules, arith, slice_split_first, filled-more, length-slice_split)
 
--- a part more of what is expanded, and what is left
-pub expanded-step : (stop : ℕ) (text part rest old new whole : List ℕ)
-    → (position_or_len is_tab text < length text) × (part ≡ before_first is_tab text)
-    × (rest ≡ after_first is_tab text)
-    → new ≡ old ++ filled_up stop part → old ++ expanded_tabs stop text ≡ whole
-    → new ++ expanded_tabs stop rest ≡ whole
-expanded-step stop text part rest old new whole cut added is =
-    grind (arith, append_assoc, added, expanded-next stop text part rest cut, is)
-
--- and the last part
-pub expanded-last : (stop : ℕ) (text old new whole : List ℕ)
-    → position_or_len is_tab text ≡ length text → new ≡ old ++ text
-    → old ++ expanded_tabs stop text ≡ whole → new ≡ whole
-expanded-last stop text old new whole all added is =
-    search (rules, arith, slice_split_none, not-true, prefix_len_passes)
+-- the last part
+pub expanded-last : (stop : ℕ) (text : List ℕ) → position_or_len is_tab text ≡ length text
+    → expanded_tabs stop text ≡ text
+expanded-last stop text all = search (rules, arith, slice_split_none, not-true, prefix_len_passes)
 
 -- ---- a text is its parts between tabs
 

@@ -8,19 +8,9 @@ pub returns-then-lines-eq0-clause-shares : goal.returns-then-lines-eq0-clause-sh
 returns-then-lines-eq0-clause-shares c =
     let none : sum_by (sure Nothing) c.args.needs.now ≡ 0 =
     sym c.sums_of-words.ensures.lines ∙ c.if-lines-eq0.true in
-    record {
-      left = omega arith;
-      weights = sym (sum_by-one c.args.needs.now);
-      some = λ some. some;
-      fits = omega arith;
-    }
+    omega (arith, none, sum_by-one c.args.needs.now)
 
 pub returns-else-words-total-clause-shares : goal.returns-else-words-total-clause-shares
 returns-else-words-total-clause-shares c =
     let none : sum_by (sure Scarce) c.args.needs.now ≡ 0 = sum_by-none c.args.needs.now in
-    record {
-      left = omega arith;
-      weights = c.sums_of-words.ensures.words;
-      some = λ some. omega arith;
-      fits = omega arith;
-    }
+    omega (arith, none, c.sums_of-words.ensures.words)

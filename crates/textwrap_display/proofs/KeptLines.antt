@@ -1,27 +1,25 @@
 -- The longest beginning of a line that may be kept, words that are cut between their characters, and
 -- the first lines as they are.
 use Rattle.std.{proofs.lemmas.List.Sums.take_while-cons, specs.Prelude.chars}
-use Rattle.std.specs.declared.borrow.CowStr.TheVariants.{Owned}
-use Rattle.textwrap_display.proofs.Common.{AreShortened, Built, CowStr, IsShortened, Line, Slice}
-use Rattle.textwrap_display.proofs.Common.{State, String, added, cow_str_bytes, encode_utf8}
-use Rattle.textwrap_display.proofs.Common.{is_blank, line_bytes, line_bytes-line_view, line_view}
-use Rattle.textwrap_display.proofs.Common.{read-all, texts_of, units}
-use Rattle.textwrap_display.proofs.KeptWords.{BlankAhead, IsLatest, IsReadTo, ahead-blank}
-use Rattle.textwrap_display.proofs.KeptWords.{before-character, blank-ahead, latest-here}
-use Rattle.textwrap_display.proofs.KeptWords.{latest-none, latest-on, latest-past, may_end-boundary}
-use Rattle.textwrap_display.proofs.KeptWords.{may_end-here, may_end-other, may_end-within, read-le}
-use Rattle.textwrap_display.proofs.KeptWords.{read-whole, read-width, read_to-start, read_to-step}
-use Rattle.textwrap_display.{proofs.KeptWords.whole-read, specs.Shortening.CanCut}
-use Rattle.textwrap_display.specs.Shortening.{CanEnd, IsCut, IsKeptBeginning, word_width}
+use Rattle.textwrap_display.proofs.Common.{AreShortened, CowStr, IsShortened, Line, Slice, State}
+use Rattle.textwrap_display.proofs.Common.{added, cow_str_bytes, encode_utf8, is_blank, line_bytes}
+use Rattle.textwrap_display.proofs.Common.{line_bytes-line_view, line_view, read-all, texts_of}
+use Rattle.textwrap_display.proofs.{Common.units, KeptWords.BlankAhead, KeptWords.IsLatest}
+use Rattle.textwrap_display.proofs.KeptWords.{IsReadTo, ahead-blank, before-character, blank-ahead}
+use Rattle.textwrap_display.proofs.KeptWords.{latest-here, latest-none, latest-on, latest-past}
+use Rattle.textwrap_display.proofs.KeptWords.{may_end-boundary, may_end-here, may_end-other}
+use Rattle.textwrap_display.proofs.KeptWords.{may_end-within, read-le, read-whole, read-width}
+use Rattle.textwrap_display.proofs.KeptWords.{read_to-start, read_to-step, whole-read}
+use Rattle.textwrap_display.specs.Shortening.{CanCut, CanEnd, IsCut, IsKeptBeginning, word_width}
 use Rattle.textwrap_styles.proofs.SequenceTexts.{nil-whole}
 use Rattle.textwrap_text.proofs.Common.{Bool, IsCharBoundary, IsUtf8, List, [], ap, arith}
 use Rattle.textwrap_text.proofs.Common.{cases_Bool, columns, drop, drop_more, encode_utf8_all}
 use Rattle.textwrap_text.proofs.Common.{encodes-chars, eqb, eqb-true, false, false≢true, get_or}
 use Rattle.textwrap_text.proofs.Common.{inl, inr, length, length-map, length-take-le, map}
-use Rattle.textwrap_text.proofs.Common.{map-append, ne_eqb, next_of, not, refl, rules, shows}
-use Rattle.textwrap_text.proofs.Common.{string_bytes, subst, sum_by, sum_by-cons, sym, take}
-use Rattle.textwrap_text.proofs.Common.{take-append-drop, take_while, text_width, true, units_width}
-use Rattle.textwrap_text.proofs.Common.{ℕ, ◌++◌, ◌+◌, ◌<◌, ◌∙◌, ◌∷◌, ◌≡◌, ◌≢◌, ◌≤◌}
+use Rattle.textwrap_text.proofs.Common.{map-append, ne_eqb, next_of, not, refl, rules, shows, subst}
+use Rattle.textwrap_text.proofs.Common.{sum_by, sum_by-cons, sym, take, take-append-drop}
+use Rattle.textwrap_text.proofs.Common.{take_while, text_width, true, units_width, ℕ, ◌++◌, ◌+◌}
+use Rattle.textwrap_text.proofs.Common.{◌<◌, ◌∙◌, ◌∷◌, ◌≡◌, ◌≢◌, ◌≤◌}
 use Rattle.textwrap_text.proofs.Units.{Characters.shown-from, Reading.read-ahead}
 use Rattle.textwrap_text.specs.Characters.{characters_from, characters_of, shown}
 use Rattle.textwrap_text.specs.declared.characters.Character.{Character}
@@ -142,12 +140,6 @@ cut-lines breaks most width placeholder lines n line last number within is cut =
   cut = subst (λ l. IsShortened breaks width placeholder l last) (sym (line_bytes-line_view line)) cut;
   are = refl;
 }
-
--- a line of its own after others
-pub views-push : {Z : Type 0} (before after : List (CowStr Z)) (lines : List Line) (last : String Z)
-    → map line_view before ≡ lines → after ≡ before ++ Owned last ∷ []
-    → map line_view after ≡ lines ++ Built (string_bytes last) ∷ []
-views-push before after lines last are is = grind (arith, map-append)
 
 -- ---- the columns of the word that visible characters begin with
 

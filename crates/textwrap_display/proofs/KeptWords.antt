@@ -15,15 +15,14 @@ use Rattle.textwrap_text.proofs.Common.{chars-append, chars-nil, columns, drop, 
 use Rattle.textwrap_text.proofs.Common.{eqb-false, eqb-true, escape, false, flat_map}
 use Rattle.textwrap_text.proofs.Common.{flat_map-append, get_or, get_or-drop, get_or_past, inl, inr}
 use Rattle.textwrap_text.proofs.Common.{length, length-map, length-take-le, length_push, map}
-use Rattle.textwrap_text.proofs.Common.{nat_tests, next_of, refl, reverse-append, rules}
-use Rattle.textwrap_text.proofs.Common.{slice_range, subst, sum_by, sum_by-append, sym, take}
-use Rattle.textwrap_text.proofs.Common.{take-append-drop, take-append-le, take_all, take_at}
-use Rattle.textwrap_text.proofs.Common.{text_width, true, visible_of, ℕ, ◌++◌, ◌+◌, ◌-◌, ◌<◌, ◌||◌}
-use Rattle.textwrap_text.proofs.Common.{◌∙◌, ◌∷◌, ◌≡◌, ◌≢◌, ◌≤◌, ◌⊎◌}
-use Rattle.textwrap_text.proofs.{Lists.Parts.take_slice, Texts.ascii-here, Texts.ends-within}
-use Rattle.textwrap_text.proofs.{Texts.some-bytes, Texts.starts-within, Units.Reading.chars-push}
-use Rattle.textwrap_text.proofs.Units.Reading.{columns-printable, columns_in, columns_in-step}
-use Rattle.textwrap_text.proofs.Units.Reading.{text_width-le, units_in-inside}
+use Rattle.textwrap_text.proofs.Common.{nat_tests, next_of, refl, reverse-append, rules, subst}
+use Rattle.textwrap_text.proofs.Common.{sum_by, sum_by-append, sym, take, take-append-drop}
+use Rattle.textwrap_text.proofs.Common.{take-append-le, take_all, take_at, text_width, true}
+use Rattle.textwrap_text.proofs.Common.{visible_of, ℕ, ◌++◌, ◌+◌, ◌-◌, ◌<◌, ◌||◌, ◌∙◌, ◌∷◌, ◌≡◌}
+use Rattle.textwrap_text.proofs.{Common.◌≢◌, Common.◌≤◌, Common.◌⊎◌, Lists.Parts.take_slice}
+use Rattle.textwrap_text.proofs.Texts.{ascii-here, ends-within, some-bytes, starts-within}
+use Rattle.textwrap_text.proofs.Units.Reading.{chars-push, columns-printable, columns_in}
+use Rattle.textwrap_text.proofs.Units.Reading.{columns_in-step, text_width-le, units_in-inside}
 use Rattle.textwrap_text.proofs.Units.Texts.{IsInUnits-units, units-tile, units_unique}
 use Rattle.textwrap_text.specs.Blanks.{final_blanks, trimmed_len, without_final_blanks}
 use Rattle.textwrap_text.specs.Units.{IsOpen, visible}
@@ -203,9 +202,7 @@ module _ {line : List ℕ} (utf8 : IsUtf8 line) {place : ℕ} {rest : List ℕ} 
       let whole = h.read.place ∙ is in
       let front = take place line in
       let bytes : take end line ≡ front ++ encode_utf8 c =
-      ap (λ n. take n line) past ∙ take-add place (length (encode_utf8 c)) line
-      ∙ ap (λ l. front ++ l) (ap (take (length (encode_utf8 c))) whole
-      ∙ take_at (encode_utf8 c) after (length (encode_utf8 c)) refl) in
+      rw (past, take-add, whole) (ap (λ l. front ++ l) (take_at (encode_utf8 c) after _ refl)) in
       let more = ap chars bytes ∙ chars-push front c (IsUtf8-take line place utf8 h.read.boundary)
       (subst IsUtf8 bytes (IsUtf8-take line end utf8 next.boundary)) in
       record {
@@ -230,13 +227,8 @@ module _ {line : List ℕ} (utf8 : IsUtf8 line) {place : ℕ} {rest : List ℕ} 
   -- no later beginning has fewer columns
   pub read-more : (m : ℕ) → place ≤ m → IsCharBoundary line m → taken ≤ text_width (take m line)
   read-more m later cut =
-      let between = slice_range line place m in
-      let parts : text_width (take m line) ≡ taken + columns_in state (chars between) =
-      ap text_width (take_slice line place m later)
-      ∙ ap (columns_in Text) (chars-append (take place line) between
-      (IsUtf8-take line place utf8 h.read.boundary))
-      ∙ h.columns (chars between) in
-      omega (arith, parts)
+      let front = IsUtf8-take line place utf8 h.read.boundary in
+      rw (take_slice line place m later, chars-append (take place line) _ front, h.columns) (omega arith)
 
 -- ---- the latest place before another at which a part of the line may end, by what `May` says, so
 -- that it has room; or 0

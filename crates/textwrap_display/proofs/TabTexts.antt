@@ -194,12 +194,14 @@ module _ (stop : ℕ) where
   line-after line after lacks =
       by-parts (λ text. expanded_tabs stop (line ++ 10 ∷ text)
       ≡ line ++ 10 ∷ expanded_tabs stop text)
-      (λ part none. expanded-free (line ++ 10 ∷ part) (joined part none)
-      ∙ ap (λ t. line ++ 10 ∷ t) (sym (expanded-free part none)))
-      (λ part rest none _.
-      ap (expanded_tabs stop) (sym (append_assoc line (10 ∷ part) (9 ∷ rest)))
-      ∙ expanded-tab (line ++ 10 ∷ part) rest (joined part none)
-      ∙ rw (last_line-past line part, expanded-tab part rest none) (simp append_assoc))
+      (λ part none.
+      rw (expanded-free (line ++ 10 ∷ part) (joined part none), expanded-free part none) refl)
+      (λ part rest none _. ap (expanded_tabs stop) (sym (append_assoc line (10 ∷ part) (9 ∷ rest)))
+      ∙ rw (
+        expanded-tab (line ++ 10 ∷ part) rest (joined part none),
+        last_line-past line part,
+        expanded-tab part rest none,
+      ) (simp append_assoc))
       after
     where
       joined : (part : List ℕ) → Lacks 9 part → Lacks 9 (line ++ 10 ∷ part)

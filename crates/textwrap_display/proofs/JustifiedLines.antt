@@ -188,10 +188,10 @@ module _ {Z : Type 0} where
   justified-none first waits =
       record { text = λ more. rw waits; waits = waits; some = refl; layout_is = refl }
 
-  pub justified-one : (first old new : JustifiedLines Z) (held : List (List ℕ)) (line : List ℕ)
+  pub justified-one : {first old new : JustifiedLines Z} {held : List (List ℕ)} {line : List ℕ}
       → HoldsJustified first old held → TakesLine old new line
       → HoldsJustified first new (held ++ line ∷ [])
-  justified-one first old new held line given takes =
+  justified-one {first = first} {old = old} {new = new} {held = held} {line = line} given takes =
       let last : waiting new ≡ line ∷ [] = rw takes.waits (ap (λ b. b ∷ []) takes.line_is) in
       let some : nat_lt 0 (length (held ++ line ∷ [])) ≡ true =
       search (rules, arith, lt-ltb, length_push) in
@@ -212,11 +212,11 @@ module _ {Z : Type 0} where
         layout_is = takes.writes.layout_is ∙ given.layout_is;
       }
 
-  pub paragraph-written : (first then new : JustifiedLines Z) (lines : List (List ℕ))
+  pub paragraph-written : {first then new : JustifiedLines Z} {lines : List (List ℕ)}
       → HoldsJustified first then lines → Writes then new
       (joined_on (ending_bytes then.layout.line_ending) then.has_lines (waiting then))
       → new.waits ≡ false → WritesParagraph first new lines
-  paragraph-written first then new lines given writes waits = record {
+  paragraph-written {first = first} {then = then} {lines = lines} given writes waits = record {
     text = writes.text ∙ ap (λ t. string_bytes then.text ++ t) (last-written (layout_view then.layout)
         then.has_lines then.waits (string_bytes then.line)) ∙ given.text []
         ∙ ap (text_with first) (append-nil lines);

@@ -134,9 +134,7 @@ cut-lines breaks most width placeholder lines n line last number within is cut =
   lines_are =
       let left = drop_more lines n line within in
       grind (arith, take-append-drop n lines, texts-append, left);
-  count = ap (λ k. k + 1) (length-map (map line_view (take n lines)) line_bytes
-      ∙ length-map (take n lines) line_view ∙ length-take-le n lines (omega (arith, within)))
-      ∙ number;
+  count = grind (arith, length-map, length-take-le, within, number);
   cut = subst (λ l. IsShortened breaks width placeholder l last) (sym (line_bytes-line_view line)) cut;
   are = refl;
 }

@@ -64,9 +64,7 @@ module _ (columns : List Shape) (cells : List (List (List ℕ))) where
       get_or-map (λ p. shown_cell p.0 p.1 r) (zip columns padded) at (shape, []) []
       (omega (arith, within, length-zipped))
       ∙ ap (λ p. shown_cell p.0 p.1 r) (get_or-zip columns padded at (shape, []) within
-      (omega (arith, within, length-padded)))
-      ∙ ap (λ s. shown_cell s (get_or padded at []) r) (sym is)
-      ∙ ap (λ l. shown_cell shape l r) (padded-at cells (length columns) at)
+      (omega (arith, within, length-padded)) ∙ cc (is, padded-at cells (length columns) at))
 
 -- ---- how many groups there are
 

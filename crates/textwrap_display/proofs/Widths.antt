@@ -18,11 +18,10 @@ use Rattle.textwrap_styles.{proofs.SequenceTexts.whole_text-append, specs.Penned
 use Rattle.textwrap_styles.specs.Penned.{penned_text, plain_rendition, rendition_of, with_sequence}
 use Rattle.textwrap_text.proofs.Common.{All, All-from_get_or, All-head, All-tail, All-weaker}
 use Rattle.textwrap_text.proofs.Common.{IsUtf8, List, [], ap, append-nil, append_assoc, arith}
-use Rattle.textwrap_text.proofs.Common.{cases_Bool, chars-nil, drop, eqb-true, flat_map}
-use Rattle.textwrap_text.proofs.Common.{flat_map-append, fold, get_or-take, inl, inr, join_with}
-use Rattle.textwrap_text.proofs.Common.{length, length-take, min, refl, rules, subst, suc, sym}
-use Rattle.textwrap_text.proofs.Common.{take, take-append-drop, true, zero, ℕ, ◌*◌, ◌++◌, ◌+◌, ◌-◌}
-use Rattle.textwrap_text.proofs.Common.{◌/◌, ◌<◌, ◌==◌, ◌||◌, ◌∙◌, ◌∷◌, ◌≡◌, ◌≢◌, ◌≤◌}
+use Rattle.textwrap_text.proofs.Common.{chars-nil, drop, eqb-true, flat_map, flat_map-append, fold}
+use Rattle.textwrap_text.proofs.Common.{get_or-take, join_with, length, length-take, min, refl}
+use Rattle.textwrap_text.proofs.Common.{rules, subst, suc, sym, take, take-append-drop, true, zero}
+use Rattle.textwrap_text.proofs.Common.{ℕ, ◌*◌, ◌++◌, ◌+◌, ◌-◌, ◌/◌, ◌<◌, ◌∙◌, ◌∷◌, ◌≡◌, ◌≢◌, ◌≤◌}
 use Rattle.textwrap_text.proofs.{Texts.after_ascii, Units.Chunks.chunks-utf8}
 use Rattle.textwrap_text.{proofs.Units.Reading.printable-width, specs.Units.Visible}
 use Rattle.textwrap_words.proofs.Word.Words.{IsMeasured, text_width-nil, tiled-words_of}
@@ -162,6 +161,41 @@ widened-width each extra (w ∷ v ∷ ws) sound =
     let others = widened-width each (extra - 1) (v ∷ ws) (All-tail IsSound w (v ∷ ws) sound) in
     grind (arith, widened-first, word-before, more-blanks, here, many, rw fewer at others, suc-mul)
 
+-- ---- what words with wider gaps show
+
+-- blanks show nothing else
+hidden : (now : Rendition) (bytes text : List ℕ) → AreBlanks bytes
+    → without_blanks (penned_text now (bytes ++ text)) ≡ without_blanks (penned_text now text)
+hidden now [] text are = refl
+hidden now (b ∷ bs) text are =
+    let is = eqb-true b blank (All-head (λ c. is_blank c ≡ true) b bs are) in
+    let one = text_units-append (blank ∷ []) (bs ++ text) blank-alone.0 in
+    let others = hidden now bs text (All-tail (λ c. is_blank c ≡ true) b bs are) in
+    grind (arith, is, one, blank-units, others)
+
+-- a word, and other text behind its blanks
+word-shown : (now : Rendition) (w : WordText) (text : List ℕ) → IsSound w
+    → without_blanks (penned_text now ((w.word ++ w.whitespace) ++ text))
+    ≡ without_blanks (penned_text now w.word)
+    ++ without_blanks (penned_text (fold with_sequence now (sequences w.word)) text)
+word-shown now w text (here, whole) =
+    search (rules, arith, append_assoc, text_units-append, penned-append, filter-append, hidden)
+
+widened-shown : (each extra : ℕ) (ws : List WordText) (now : Rendition) → All IsSound ws
+    → without_blanks (penned_text now (tiled (widened_words each extra ws)))
+    ≡ without_blanks (penned_text now (tiled ws))
+widened-shown each extra [] now sound = refl
+widened-shown each extra (w ∷ []) now sound = refl
+widened-shown each extra (w ∷ v ∷ ws) now sound =
+    let here = All-head IsSound w (v ∷ ws) sound in
+    let more = blanks (each + min extra 1) in
+    let rest = tiled (widened_words each (extra - 1) (v ∷ ws)) in
+    let later = fold with_sequence now (sequences w.word) in
+    let others = hidden later more rest (blanks-are (each + min extra 1))
+    ∙ widened-shown each (extra - 1) (v ∷ ws) later (All-tail IsSound w (v ∷ ws) sound) in
+    rw (widened-first each extra w v ws, word-shown now w (more ++ rest) here, others)
+    (sym (word-shown now w (tiled (v ∷ ws)) here))
+
 -- ---- a line that is justified
 
 -- the blanks that a line begins with
@@ -210,58 +244,18 @@ module _ (line : List ℕ) (utf8 : IsUtf8 line)
       → text_width (line_bytes (justified width line)) ≡ width
   justified-width some width fits = search (rules, arith, widened-line)
 
--- ---- what it shows
-
--- blanks show nothing else
-hidden : (now : Rendition) (bytes text : List ℕ) → AreBlanks bytes
-    → without_blanks (penned_text now (bytes ++ text)) ≡ without_blanks (penned_text now text)
-hidden now [] text are = refl
-hidden now (b ∷ bs) text are =
-    let is = eqb-true b blank (All-head (λ c. is_blank c ≡ true) b bs are) in
-    let one = text_units-append (blank ∷ []) (bs ++ text) blank-alone.0 in
-    let others = hidden now bs text (All-tail (λ c. is_blank c ≡ true) b bs are) in
-    grind (arith, is, one, blank-units, others)
-
--- a word, and other text behind its blanks
-word-shown : (now : Rendition) (w : WordText) (text : List ℕ) → IsSound w
-    → without_blanks (penned_text now ((w.word ++ w.whitespace) ++ text))
-    ≡ without_blanks (penned_text now w.word)
-    ++ without_blanks (penned_text (fold with_sequence now (sequences w.word)) text)
-word-shown now w text (here, whole) =
-    search (rules, arith, append_assoc, text_units-append, penned-append, filter-append, hidden)
-
-widened-shown : (each extra : ℕ) (ws : List WordText) (now : Rendition) → All IsSound ws
-    → without_blanks (penned_text now (tiled (widened_words each extra ws)))
-    ≡ without_blanks (penned_text now (tiled ws))
-widened-shown each extra [] now sound = refl
-widened-shown each extra (w ∷ []) now sound = refl
-widened-shown each extra (w ∷ v ∷ ws) now sound =
-    let here = All-head IsSound w (v ∷ ws) sound in
-    let more = blanks (each + min extra 1) in
-    let rest = tiled (widened_words each (extra - 1) (v ∷ ws)) in
-    let later = fold with_sequence now (sequences w.word) in
-    let others = hidden later more rest (blanks-are (each + min extra 1))
-    ∙ widened-shown each (extra - 1) (v ∷ ws) later (All-tail IsSound w (v ∷ ws) sound) in
-    rw (widened-first each extra w v ws, word-shown now w (more ++ rest) here, others)
-    (sym (word-shown now w (tiled (v ∷ ws)) here))
+  widened-pens : (each extra : ℕ) → without_blanks (penned_text plain_rendition
+      (front ++ tiled (widened_words each extra (line_words line))))
+      ≡ without_blanks (penned_text plain_rendition line)
+  widened-pens each extra =
+      let blanks = indent-blanks line in
+      let own = hidden plain_rendition front rest blanks in
+      hidden plain_rendition front (tiled (widened_words each extra (line_words line))) blanks
+      ∙ widened-shown each extra (line_words line) plain_rendition sound
+      ∙ rw (tiled-words_of, ← own, take-append-drop) refl
 
 pub justified-pens : (width : ℕ) (line : List ℕ) → IsUtf8 line
     → All (λ w. HasWholeSequences w.word) (line_words line)
     → without_blanks (penned_text plain_rendition (line_bytes (justified width line)))
     ≡ without_blanks (penned_text plain_rendition line)
-justified-pens width line utf8 whole =
-    let spare = width - text_width line in
-    let each = spare / gaps line in
-    let extra = spare % gaps line in
-    let blanks = indent-blanks line in
-    let words = line_words line in
-    let front = take (indent_len line) line in
-    let rest = drop (indent_len line) line in
-    elim (cases_Bool ((spare == 0) || (gaps line == 0))) [
-      | inl stays ↦ rw stays refl
-      | inr some ↦ rw some (hidden plain_rendition front (tiled (widened_words each extra words)) blanks
-          ∙ widened-shown each extra words plain_rendition (sound line utf8 whole)
-          ∙ ap (λ t. without_blanks (penned_text plain_rendition t)) (tiled-words_of rest)
-          ∙ sym (hidden plain_rendition front rest blanks)
-          ∙ ap (λ t. without_blanks (penned_text plain_rendition t)) (take-append-drop _ line))
-    ]
+justified-pens width line utf8 whole = search (rules, arith, widened-pens)

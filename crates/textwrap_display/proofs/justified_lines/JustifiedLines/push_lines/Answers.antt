@@ -22,15 +22,12 @@ loop-line-preserved g c =
     ∙ sym (line_bytes-line_view line) in
     subst (HoldsJustified c.args.self.now c.take_line.new.self)
     (ap (λ b. before ++ b ∷ []) text ∙ sym more)
-    (justified-one c.args.self.now c.loop-line.self c.take_line.new.self before _
-    c.loop-line.invariant c.in_ok-take_line.ensures)
+    (justified-one c.loop-line.invariant c.in_ok-take_line.ensures)
 
 pub returns : goal.returns
 returns g c =
     let lines = c.args.lines.now in
     let all : length lines ≤ c.loop-line.line-index = omega arith in
-    on_ok_both c.end_paragraph.result (paragraph-written c.args.self.now c.loop-line.self
-    c.end_paragraph.new.self (map line_bytes (map line_view lines)) (subst (HoldsJustified c.args.self.now
-    c.loop-line.self) (ap (λ ls. map line_bytes (map line_view ls))
-    (take_all c.loop-line.line-index lines all)) c.loop-line.invariant))
+    on_ok_both c.end_paragraph.result (paragraph-written
+    (rw (take_all c.loop-line.line-index lines all) at c.loop-line.invariant))
     c.end_paragraph.ensures.written c.end_paragraph.ensures.none

@@ -17,5 +17,5 @@ returns-clause-pushed g c =
           (ap (λ b. map line_bytes (lines_of before) ++ b ∷ []) (assembled-bytes indent slice penalty)
           ∙ sym (map-append line_bytes (lines_of before) (line ∷ []))
           ∙ ap (map line_bytes) (sym (lines_of-more before start (cut_line c.args.start line ∷ []))))
-          (justified-one first c.args.self.now c.take_line.new.self _ _ given takes);
+          (justified-one given takes);
     }) c.take_line.ensures

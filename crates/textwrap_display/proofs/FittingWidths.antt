@@ -11,9 +11,9 @@ use Rattle.textwrap_display.specs.Fitting.{fitting_widths, lacking, rounded_up, 
 use Rattle.textwrap_display.specs.{Fitting.widest_word, Needs.column_texts, Needs.widest}
 use Rattle.textwrap_display.specs.Sharing.{Shares, rounded_down, sure, weight}
 use Rattle.textwrap_display.specs.declared.{fitting.Sharing.Sharing, needs.Need.Need}
-use Rattle.textwrap_text.proofs.Common.{List, [], ap, arith, cases_lt, get_or, length, map, max}
-use Rattle.textwrap_text.proofs.Common.{min, refl, rules, sum_by, sum_by-cons, ℕ, ⊎_elim, ◌*◌, ◌++◌}
-use Rattle.textwrap_text.proofs.Common.{◌+◌, ◌-◌, ◌/◌, ◌<◌, ◌∙◌, ◌∷◌, ◌≡◌, ◌≤◌}
+use Rattle.textwrap_text.proofs.Common.{List, [], ap, arith, cases_lt, get_or, inl, inr, length}
+use Rattle.textwrap_text.proofs.Common.{map, max, min, refl, rules, sum_by, sum_by-cons, ℕ, ◌*◌}
+use Rattle.textwrap_text.proofs.Common.{◌++◌, ◌+◌, ◌-◌, ◌/◌, ◌<◌, ◌∙◌, ◌∷◌, ◌≡◌, ◌≤◌}
 
 -- what is wider already stays
 widest-from : (most : ℕ) (texts : List (List ℕ))
@@ -79,16 +79,15 @@ module _ (weight : Need → ℕ) (left weights : ℕ) (some : 0 < weights) where
   pub share-close : (need : Need)
       → left * weight need ≤ weights * share need + (weights - 1) * one need
   share-close need =
-      ⊎_elim (λ (none : weight need < 1).
-      let is : weight need ≡ 0 = omega arith in rw is (omega arith))
-      (λ (more : 1 ≤ weight need).
-      omega (
-        arith,
-        times-one (weights - 1) (weight need) more,
-        lt-div-mul-add {a = left * weight need} some,
-        mul_comm weights (share need),
-      ))
-      (cases_lt (weight need) 1)
+      elim (cases_lt (weight need) 1) [
+        | inl none ↦ let is : weight need ≡ 0 = omega arith in rw is (omega arith)
+        | inr more ↦ omega (
+          arith,
+          times-one (weights - 1) (weight need) more,
+          lt-div-mul-add {a = left * weight need} some,
+          mul_comm weights (share need),
+        )
+      ]
 
   pub shares-few : (needs : List Need)
       → weights * sum_by share needs ≤ left * sum_by weight needs

@@ -117,10 +117,6 @@ module _ {room : ℕ} {line : List ℕ} (utf8 : IsUtf8 line) {place : ℕ} {rest
 
 -- ---- the first lines as they are, and the one after them cut
 
-texts-append : {Z : Type 0} (xs ys : List (CowStr Z))
-    → texts_of (xs ++ ys) ≡ texts_of xs ++ texts_of ys
-texts-append xs ys = search (rules, arith, map-append)
-
 pub cut-lines : {Z : Type 0} (breaks : Bool) (most width : ℕ) (placeholder : List ℕ)
     (lines : List (CowStr Z)) (n : ℕ) (line : CowStr Z) (last : Line) → n + 1 ≡ most → n < length lines
     → line ≡ get_or lines n line → IsShortened breaks width placeholder (cow_str_bytes line) last
@@ -133,7 +129,7 @@ cut-lines breaks most width placeholder lines n line last number within is cut =
   last = last;
   lines_are =
       let left = drop_more lines n line within in
-      grind (arith, take-append-drop n lines, texts-append, left);
+      grind (arith, take-append-drop n lines, map-append, left);
   count = grind (arith, length-map, length-take-le, within, number);
   cut = subst (λ l. IsShortened breaks width placeholder l last) (sym (line_bytes-line_view line)) cut;
   are = refl;

@@ -78,16 +78,12 @@ count-less total count some more = grind (arith, count-some)
 
 -- ---- the first group, and the others
 
-chunk-more : {X : Type 0} (texts : List X) (count at : ℕ)
-    → slice_chunk texts count (at + 1) ≡ slice_chunk (drop count texts) count at
-chunk-more texts count at = grind (arith, drop-drop)
-
 chunks-more : {X : Type 0} (texts : List X) (count at more : ℕ)
     → map (slice_chunk texts count) (range_with_len (at + 1) more)
     ≡ map (slice_chunk (drop count texts) count) (range_with_len at more)
 chunks-more texts count at zero = refl
 chunks-more texts count at (suc more) =
-    rw (chunk-more texts count at, chunks-more texts count (at + 1) more) refl
+    grind (arith, drop-drop, chunks-more texts count (at + 1) more)
 
 module _ {X : Type 0} (count : ℕ) (items front rest : List X) where
   -- the first of the groups, and the items after it

@@ -150,7 +150,8 @@ module _ {settings : Settings} {Divides : Bool → List ℕ → List (List WordT
       }
 
   pub so_far-end : {text filled : List ℕ} {is_later : Bool}
-      → IsJustifiedSoFar settings Divides text filled is_later [] → IsJustifiedText settings Divides text filled
+      → IsJustifiedSoFar settings Divides text filled is_later []
+      → IsJustifiedText settings Divides text filled
   so_far-end {text = text} {filled = filled} so_far =
       subst (IsJustifiedText settings Divides text) (append-nil filled) (so_far.whole [] refl)
 

@@ -298,7 +298,8 @@ padded-keep [] cells count keep = All-nil KeepTo
 padded-keep (column ∷ columns) [] zero keep = All-nil KeepTo
 padded-keep (column ∷ columns) [] (suc count) keep =
     All-cons KeepTo (column, []) (zip columns (replicate count [])) (All-nil (Keeps column))
-    (padded-keep columns [] count (λ k d within. absurd (omega (arith, within, length-zip {B = List (List ℕ)} columns []))))
+    (padded-keep columns [] count (λ k d within.
+    absurd (omega (arith, within, length-zip {B = List (List ℕ)} columns []))))
 padded-keep (column ∷ columns) (lines ∷ cells) count keep =
     All-cons KeepTo (column, lines) (zip columns (cells ++ replicate count []))
     (All-head KeepTo (column, lines) (zip columns cells) keep)

@@ -26,8 +26,8 @@ loop-rest-preserved g c =
     let so_far = c.loop-rest.invariant in
     let (own, are, pushed) = c.in_ok-push_paragraph_by.ensures.taken in
     let lines = map line_bytes (map line_from own) in
-    let more = paragraph-written (subst (HoldsJustified first c.push_paragraph_by.new.lines) (ap (map line_bytes)
-    (lines_of-more [] 0 (cut_lines 0 own) ∙ lines_of-cut_lines 0 own))
+    let more = paragraph-written (subst (HoldsJustified first c.push_paragraph_by.new.lines)
+    (ap (map line_bytes) (lines_of-more [] 0 (cut_lines 0 own) ∙ lines_of-cut_lines 0 own))
     (pushed.held first 0 [] (justified-none first so_far.waits)))
     c.in_ok-end_paragraph.ensures.written c.in_ok-end_paragraph.ensures.none in
     record {

@@ -13,10 +13,11 @@ use Rattle.textwrap_text.proofs.Common.{take_more, zip, ◌<◌, ◌≡◌}
 
 -- which column this is, and which text beside it
 turn : (g : _) (c : In-Some g)
-    → let n = length c.loop-text.yielded in let all = zip c.args.columns.now (texts_in c.args.texts.now) in
-    (n < length c.args.columns.now) × ((d : _) → c.in-Some.column.now ≡ get_or c.args.columns.now n d)
-    × (n < length all)
-    × ((c.in-Some.column.now, c.in-Some.text.now.now) ≡ get_or all n (c.in-Some.column.now, c.in-Some.text.now.now))
+    → let n = length c.loop-text.yielded in let columns = c.args.columns.now in
+    let all = zip columns (texts_in c.args.texts.now) in
+    let column = c.in-Some.column.now in let text = c.in-Some.text.now.now in
+    (n < length columns) × ((d : _) → column ≡ get_or columns n d) × (n < length all)
+    × ((column, text) ≡ get_or all n (column, text))
 turn g c =
     let first : iter_rest (zip_first c.into_iter-text-iterator.result) ≡ c.args.texts.now =
     search rules in
@@ -39,7 +40,8 @@ loop-text-preserved g c =
     let all = zip c.args.columns.now (texts_in c.args.texts.now) in
     rw (length_push, c.in_ok-push.ensures.items, map-append, take_more all n (column, text) inside, ← is)
     (all_zipped_more (IsCell g.C.AnyColumn.makes) (take n all) (cell_texts c.loop-text.cells.items)
-    (column, text) (texts_of lines.items) c.loop-text.invariant (map line_view lines.items, c.in_ok-wrap_cell.ensures.lines, refl))
+    (column, text) (texts_of lines.items) c.loop-text.invariant
+    (map line_view lines.items, c.in_ok-wrap_cell.ensures.lines, refl))
 
 pub returns-in_err-wrap_cell-clause-only_memory : goal.returns-in_err-wrap_cell-clause-only_memory
 returns-in_err-wrap_cell-clause-only_memory g c = λ never.

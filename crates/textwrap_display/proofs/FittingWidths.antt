@@ -3,9 +3,8 @@
 use Rattle.std.proofs.{Common.sum, Math.Nat.div-lt_iff_lt-mul, Math.Nat.le_of_mul-le-mul_left}
 use Rattle.std.proofs.Math.Nat.{lt-div-mul-add, mul-add, mul-div-le, mul-le-mul_right}
 use Rattle.std.proofs.Math.Nat.{mul-lt-mul_of_pos_left, mul_comm, zero-div}
-use Rattle.std.{proofs.lemmas.List.Sums.fold-append, specs.List.AllZip, specs.List.flat_map}
-use Rattle.std.specs.List.{fold}
-use Rattle.textwrap_display.proofs.{Common.text_width, TableGroups.AllZip-weaker}
+use Rattle.std.{proofs.lemmas.List.Sums.fold-append, specs.List.flat_map, specs.List.fold}
+use Rattle.textwrap_display.proofs.{Common.AllZip, Common.text_width, TableGroups.AllZip-weaker}
 use Rattle.textwrap_display.proofs.TableGroups.{IsFirstGroup, groups-more}
 use Rattle.textwrap_display.specs.Fitting.{fitting_widths, lacking, rounded_up, shared, widest_line}
 use Rattle.textwrap_display.specs.{Fitting.widest_word, Needs.column_texts, Needs.widest}

@@ -25,18 +25,12 @@ use Rattle.textwrap_words.proofs.Common.{Algorithm, Splitter}
 
 -- ---- worked rows on lists of which all but the last are changed
 
-rows-of-four : all_but_last (λ n. n + 10) (λ n. n + 20) (λ n. n) (1 ∷ 2 ∷ 3 ∷ 4 ∷ [])
-    ≡ 11 ∷ 22 ∷ 23 ∷ 4 ∷ []
-rows-of-four = refl
+abbrev changed : List ℕ → List ℕ
+changed = all_but_last (λ n. n + 10) (λ n. n + 20) (λ n. n)
 
-rows-of-two : all_but_last (λ n. n + 10) (λ n. n + 20) (λ n. n) (1 ∷ 2 ∷ []) ≡ 11 ∷ 2 ∷ []
-rows-of-two = refl
-
-row-of-one : all_but_last (λ n. n + 10) (λ n. n + 20) (λ n. n) (1 ∷ []) ≡ 1 ∷ []
-row-of-one = refl
-
-rows-of-none : all_but_last (λ (n : ℕ). n + 10) (λ n. n + 20) (λ n. n) [] ≡ []
-rows-of-none = refl
+rows-changed : (changed (1 ∷ 2 ∷ 3 ∷ 4 ∷ []) ≡ 11 ∷ 22 ∷ 23 ∷ 4 ∷ [])
+    × (changed (1 ∷ 2 ∷ []) ≡ 11 ∷ 2 ∷ []) × (changed (1 ∷ []) ≡ 1 ∷ []) × (changed [] ≡ [])
+rows-changed = (refl, refl, refl, refl)
 
 -- ---- one line
 

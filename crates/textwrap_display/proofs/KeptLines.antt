@@ -1,16 +1,17 @@
 -- The longest beginning of a line that may be kept, words that are cut between their characters, and
 -- the first lines as they are.
 use Rattle.std.{proofs.lemmas.List.Sums.take_while-cons, specs.Prelude.chars}
-use Rattle.textwrap_display.proofs.Common.{AreShortened, CowStr, IsShortened, Line, Slice, State}
+use Rattle.textwrap_display.proofs.Common.{AreShortened, CanCut, CanEnd, CowStr, IsCut}
+use Rattle.textwrap_display.proofs.Common.{IsKeptBeginning, IsShortened, Line, Slice, State, Text}
 use Rattle.textwrap_display.proofs.Common.{added, cow_str_bytes, encode_utf8, is_blank, line_bytes}
-use Rattle.textwrap_display.proofs.Common.{line_bytes-line_view, line_view, read-all, texts_of}
-use Rattle.textwrap_display.proofs.{Common.units, KeptWords.BlankAhead, KeptWords.IsLatest}
-use Rattle.textwrap_display.proofs.KeptWords.{IsReadTo, ahead-blank, before-character, blank-ahead}
-use Rattle.textwrap_display.proofs.KeptWords.{latest-here, latest-none, latest-on, latest-past}
-use Rattle.textwrap_display.proofs.KeptWords.{may_end-boundary, may_end-here, may_end-other}
-use Rattle.textwrap_display.proofs.KeptWords.{may_end-within, read-le, read-whole, read-width}
-use Rattle.textwrap_display.proofs.KeptWords.{read_to-start, read_to-step, whole-read}
-use Rattle.textwrap_display.specs.Shortening.{CanCut, CanEnd, IsCut, IsKeptBeginning, word_width}
+use Rattle.textwrap_display.proofs.Common.{line_bytes-line_view, line_view, read-all}
+use Rattle.textwrap_display.proofs.Common.{text_width-nil, texts_of, units, word_width}
+use Rattle.textwrap_display.proofs.KeptWords.{BlankAhead, IsLatest, IsReadTo, ahead-blank}
+use Rattle.textwrap_display.proofs.KeptWords.{before-character, blank-ahead, latest-here}
+use Rattle.textwrap_display.proofs.KeptWords.{latest-none, latest-on, latest-past, may_end-boundary}
+use Rattle.textwrap_display.proofs.KeptWords.{may_end-here, may_end-other, may_end-within, read-le}
+use Rattle.textwrap_display.proofs.KeptWords.{read-whole, read-width, read_to-start, read_to-step}
+use Rattle.textwrap_display.proofs.KeptWords.{whole-read}
 use Rattle.textwrap_styles.proofs.SequenceTexts.{nil-whole}
 use Rattle.textwrap_text.proofs.Common.{Bool, IsCharBoundary, IsUtf8, List, [], ap, arith}
 use Rattle.textwrap_text.proofs.Common.{cases_Bool, columns, drop, drop_more, encode_utf8_all}
@@ -23,8 +24,6 @@ use Rattle.textwrap_text.proofs.Common.{◌<◌, ◌∙◌, ◌∷◌, ◌≡◌
 use Rattle.textwrap_text.proofs.Units.{Characters.shown-from, Reading.read-ahead}
 use Rattle.textwrap_text.specs.Characters.{characters_from, characters_of, shown}
 use Rattle.textwrap_text.specs.declared.characters.Character.{Character}
-use Rattle.textwrap_text.specs.declared.escapes.State.TheVariants.{Text}
-use Rattle.textwrap_words.proofs.Word.Words.{text_width-nil}
 
 -- ---- what the reader has found of a line up to a place: the longest beginning that may be kept
 

@@ -1,10 +1,9 @@
 -- The beginning of a line that is kept: its words, where it may end, and the reader that finds it,
 -- which is outside of sequences where the beginning ends in none.
-use Rattle.std.proofs.{Math.Seq.take-add, lemmas.Simd.map-map, lemmas.Str.IsCharBoundary-end}
-use Rattle.std.specs.Prelude.{chars}
+use Rattle.std.{proofs.Math.Seq.take-add, proofs.lemmas.Str.IsCharBoundary-end, specs.Prelude.chars}
 use Rattle.textwrap_display.proofs.Common.{AreBlanks, IsCharBoundary-start, IsRead, IsWhole, State}
-use Rattle.textwrap_display.proofs.Common.{added, can_end, chunks, chunks-from, encode_ascii}
-use Rattle.textwrap_display.proofs.Common.{encode_utf8, ends, is_blank, is_cut, read-next}
+use Rattle.textwrap_display.proofs.Common.{Text, added, can_end, chunks, chunks-from, encode_ascii}
+use Rattle.textwrap_display.proofs.Common.{encode_utf8, ends, is_blank, is_cut, map-map, read-next}
 use Rattle.textwrap_display.proofs.Common.{read-start, units, units-append, word_of, word_texts}
 use Rattle.textwrap_layout.specs.Text.{HasWholeSequences}
 use Rattle.textwrap_text.proofs.Common.{All, All-cons, All-head, All-nil, All-tail, AreUnits, Bool}
@@ -26,7 +25,6 @@ use Rattle.textwrap_text.proofs.Units.Reading.{columns_in-step, text_width-le, u
 use Rattle.textwrap_text.proofs.Units.Texts.{IsInUnits-units, units-tile, units_unique}
 use Rattle.textwrap_text.specs.Blanks.{final_blanks, trimmed_len, without_final_blanks}
 use Rattle.textwrap_text.specs.Units.{IsOpen, visible}
-use Rattle.textwrap_text.specs.declared.escapes.State.TheVariants.{Text}
 use Rattle.textwrap_words.proofs.Word.Ahead.{character-within, plain-bytes}
 use Rattle.textwrap_words.proofs.Word.Texts.{final_blanks-blank}
 

@@ -2,12 +2,12 @@
 -- room; what closes that, what the lines show, and their widths. Only one number of bytes may be kept.
 use Rattle.std.proofs.lemmas.{List.Sums.prefix_len-le-length, Str.IsCharBoundary-from_rest}
 use Rattle.std.specs.Prelude.{chars}
-use Rattle.textwrap_display.proofs.Common.{IsShortened, IsWhole, IsWholeText, Line, closing, concat}
-use Rattle.textwrap_display.proofs.Common.{indent_len, is_blank, line_bytes, sequences}
-use Rattle.textwrap_display.proofs.{Common.text_width-append, Common.units, KeptLines.none-kept}
+use Rattle.textwrap_display.proofs.Common.{CanCut, IsCut, IsKeptBeginning, IsShortened, IsWhole}
+use Rattle.textwrap_display.proofs.Common.{IsWholeText, Line, closing, concat, indent_len, is_blank}
+use Rattle.textwrap_display.proofs.Common.{line_bytes, sequences, text_width-append, text_width-nil}
+use Rattle.textwrap_display.proofs.{Common.units, Common.word_width, KeptLines.none-kept}
 use Rattle.textwrap_display.proofs.{KeptWords.may_end-boundary, Widths.indent-blanks}
-use Rattle.textwrap_display.specs.Shortening.{CanCut, IsCut, IsKeptBeginning, IsKeptLength}
-use Rattle.textwrap_display.specs.Shortening.{LeavesRoom, is_too_wide, word_width}
+use Rattle.textwrap_display.specs.Shortening.{IsKeptLength, LeavesRoom, is_too_wide}
 use Rattle.textwrap_layout.{proofs.Paragraph.LeftOff.blanks-utf8, specs.Text.HasWholeSequences}
 use Rattle.textwrap_lines.proofs.Text.Printed.{blanks-whole}
 use Rattle.textwrap_styles.proofs.{PenStyles.ended, SequenceTexts.IsSequence}
@@ -26,7 +26,6 @@ use Rattle.textwrap_text.proofs.Common.{length-prefix_len, ltb-false, ltb-true, 
 use Rattle.textwrap_text.proofs.Common.{sym, take, take-add, take-append-drop, take_at, text_width}
 use Rattle.textwrap_text.proofs.Common.{true, units_width, ℕ, ◌&&◌, ◌++◌, ◌+◌, ◌-◌, ◌<◌, ◌∙◌, ◌≡◌}
 use Rattle.textwrap_text.proofs.{Common.◌≢◌, Common.◌≤◌, Common.◌⊎◌, Lists.Parts.all-right}
-use Rattle.textwrap_words.proofs.Word.Words.{text_width-nil}
 
 -- ---- a word in a line, as a text by itself
 
@@ -199,15 +198,11 @@ module _ {width : ℕ} {placeholder line : List ℕ} (utf8 : IsUtf8 line) {words
   }
 
   pub kept-within : k ≢ 0 → start + k ≤ length line
-  kept-within some = elim (cases_lt room (word_width text)) [
-    | inl over ↦ omega (
-      arith,
-      cut-within utf8 h.kept h.next sum (found over),
-      length-drop start line,
-      start-within utf8 h.kept h.next,
-    )
-    | inr fits ↦ absurd (some (h.whole fits))
-  ]
+  kept-within some =
+      let inside : room < word_width text → k ≤ length (drop start line) =
+      λ over. cut-within utf8 h.kept h.next sum (found over) in
+      let start = start-within utf8 h.kept h.next in
+      search (rules, arith, cases_lt room (word_width text), inside, length-drop, start, h.whole)
 
 -- nothing, where the placeholder alone is too wide
 pub kept-none : {breaks : Bool} {width : ℕ} {placeholder line : List ℕ}

@@ -10,10 +10,9 @@ use Rattle.std.proofs.lemmas.Str.Pattern.{contains_char, drop_at_char}
 use Rattle.std.specs.List.{after_first, before_first, list_any, position_or_len}
 use Rattle.std.specs.{Prelude.MatchBool, Prelude.replicate, Str.NoCharPasses, Str.Pattern.FindsChar}
 use Rattle.std.specs.Str.Pattern.{HasCharAt}
+use Rattle.textwrap_display.proofs.Common.{IsWholeText, text_width-append, text_width-nil}
 use Rattle.textwrap_display.{proofs.Widths.more-blanks, specs.Tabs.expanded_tabs}
 use Rattle.textwrap_display.specs.Tabs.{filled_parts, filled_up, last_line, tab, tab_blanks}
-use Rattle.textwrap_layout.proofs.Text.Paragraphs.{text_width-append}
-use Rattle.textwrap_styles.specs.Styled.{IsWholeText}
 use Rattle.textwrap_text.proofs.Common.{All, All-append, All-cons, All-head, All-nil, All-tail}
 use Rattle.textwrap_text.proofs.Common.{All-weaker, Bool, List, None, Some, [], ap, append-nil}
 use Rattle.textwrap_text.proofs.Common.{append_assoc, arith, blank, cases_Bool, cond, drop}
@@ -23,7 +22,6 @@ use Rattle.textwrap_text.proofs.Common.{suc, sym, take, take-append-drop, text_w
 use Rattle.textwrap_text.proofs.Common.{◌++◌, ◌+◌, ◌/◌, ◌<◌, ◌==◌, ◌||◌, ◌∙◌, ◌∷◌, ◌≡◌, ◌≢◌, ◌≤◌}
 use Rattle.textwrap_text.proofs.Lists.Elements.{any-contains, contains-any}
 use Rattle.textwrap_text.proofs.Lists.Parts.{after_last-push}
-use Rattle.textwrap_words.proofs.Word.Words.{text_width-nil}
 
 -- ---- what stands behind the last line feed
 

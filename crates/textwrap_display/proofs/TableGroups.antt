@@ -3,21 +3,20 @@
 use Rattle.std.proofs.{Common.replicate, Math.Nat.add-div_right, Math.Nat.div-le_self}
 use Rattle.std.proofs.{Math.Nat.suc-mul, Math.Seq.get_or-append_right, lemmas.List.drop_min}
 use Rattle.std.proofs.lemmas.List.{get_or-replicate, get_or_append_left, length-replicate, take_min}
-use Rattle.std.proofs.lemmas.{Simd.map-map, Slice.Zip.AllZip-long, Slice.Zip.get_or-zip}
-use Rattle.std.{proofs.lemmas.Slice.Zip.length-zip, specs.Fork.slice_chunk, specs.List.AllZip}
-use Rattle.std.specs.Slice.Iter.{chunk_count}
+use Rattle.std.proofs.lemmas.Slice.Zip.{AllZip-long, get_or-zip, length-zip}
+use Rattle.std.specs.{Fork.slice_chunk, Slice.Iter.chunk_count}
 use Rattle.textwrap.proofs.Text.Tables.{lines-kept}
-use Rattle.textwrap_display.{proofs.Widths.aligned-before, specs.Laws.KeepToColumns}
-use Rattle.textwrap_display.specs.Laws.{ShowsEachLineOnce, cell_shown, row_of, row_width}
-use Rattle.textwrap_display.specs.Tables.{AreCells, AreTableRows, ColumnMakes, ColumnParts}
-use Rattle.textwrap_display.specs.Tables.{HaveParts, IsTableBy, IsTableOf, PartsMake, RowGaps}
-use Rattle.textwrap_display.specs.Tables.{Shape, cell_line, group_rows, groups_of, height}
-use Rattle.textwrap_display.specs.Tables.{rows_of_cells, shape_of, shape_of_parts, shown_cell}
-use Rattle.textwrap_display.specs.Tables.{shown_cells, table_row, texts_in}
-use Rattle.textwrap_display.specs.declared.tables.Column.{Column}
+use Rattle.textwrap_display.proofs.Common.{AllZip, IsWholeText, map-map, text_width-append}
+use Rattle.textwrap_display.proofs.{Common.text_width-nil, Widths.aligned-before}
+use Rattle.textwrap_display.specs.Laws.{KeepToColumns, ShowsEachLineOnce, cell_shown, row_of}
+use Rattle.textwrap_display.specs.{Laws.row_width, Tables.AreCells, Tables.AreTableRows}
+use Rattle.textwrap_display.specs.Tables.{ColumnMakes, ColumnParts, HaveParts, IsTableBy, IsTableOf}
+use Rattle.textwrap_display.specs.Tables.{PartsMake, RowGaps, Shape, cell_line, group_rows}
+use Rattle.textwrap_display.specs.Tables.{groups_of, height, rows_of_cells, shape_of}
+use Rattle.textwrap_display.specs.Tables.{shape_of_parts, shown_cell, shown_cells, table_row}
+use Rattle.textwrap_display.specs.{Tables.texts_in, declared.tables.Column.Column}
 use Rattle.textwrap_layout.proofs.{Common.HasParts, Common.Line, Paragraph.Pieces.lines-as}
-use Rattle.textwrap_layout.proofs.Text.Paragraphs.{text_width-append}
-use Rattle.textwrap_styles.{proofs.SequenceTexts.nil-whole, specs.Styled.IsWholeText}
+use Rattle.textwrap_styles.proofs.SequenceTexts.{nil-whole}
 use Rattle.textwrap_text.proofs.Common.{All, All-cons, All-head, All-map, All-nil, All-tail, Bor}
 use Rattle.textwrap_text.proofs.Common.{List, [], ap, append_assoc, arith, cases_lt, drop}
 use Rattle.textwrap_text.proofs.Common.{drop-drop, drop_at, fold, get_or, get_or-map, get_or_past}
@@ -26,7 +25,6 @@ use Rattle.textwrap_text.proofs.Common.{map-append, max, min, range_with_len, re
 use Rattle.textwrap_text.proofs.Common.{suc, sum_by, sum_by-cons, sym, take_at, zero, zip, ℕ, ◌*◌}
 use Rattle.textwrap_text.proofs.Common.{◌++◌, ◌+◌, ◌-◌, ◌/◌, ◌<◌, ◌∙◌, ◌∷◌, ◌≡◌, ◌≤◌}
 use Rattle.textwrap_text.specs.Units.{text_width}
-use Rattle.textwrap_words.proofs.Word.Words.{text_width-nil}
 
 -- ---- the cells of a row: their lines, and what the columns show of them
 

@@ -6,7 +6,7 @@ use Rattle.std.{proofs.lemmas.List.length-replicate, specs.Str.chars}
 use Rattle.textwrap_display.proofs.Common.{AreBlanks, WordText, blank, blanks, chunks, gaps}
 use Rattle.textwrap_display.proofs.Common.{indent_len, is_blank, justified, line_bytes, line_words}
 use Rattle.textwrap_display.proofs.Common.{sequence_of, sequences, text_width, text_width-append}
-use Rattle.textwrap_display.proofs.Common.{tiled, units, widened_words, ◌%◌}
+use Rattle.textwrap_display.proofs.Common.{text_width-nil, tiled, units, widened_words, ◌%◌}
 use Rattle.textwrap_display.specs.Alignment.{aligned, blanks_before, spread}
 use Rattle.textwrap_display.specs.Laws.{IsBeside, StandsAlone, row_of, shown_apart, without_blanks}
 use Rattle.textwrap_display.specs.{Tables.RowGaps, declared.alignment.Alignment.Alignment}
@@ -24,8 +24,7 @@ use Rattle.textwrap_text.proofs.Common.{rules, subst, suc, sym, take, take-appen
 use Rattle.textwrap_text.proofs.Common.{ℕ, ◌*◌, ◌++◌, ◌+◌, ◌-◌, ◌/◌, ◌<◌, ◌∙◌, ◌∷◌, ◌≡◌, ◌≢◌, ◌≤◌}
 use Rattle.textwrap_text.proofs.{Texts.after_ascii, Units.Chunks.chunks-utf8}
 use Rattle.textwrap_text.{proofs.Units.Reading.printable-width, specs.Units.Visible}
-use Rattle.textwrap_words.proofs.Word.Words.{IsMeasured, text_width-nil, tiled-words_of}
-use Rattle.textwrap_words.proofs.Word.Words.{words-measured}
+use Rattle.textwrap_words.proofs.Word.Words.{IsMeasured, tiled-words_of, words-measured}
 use lib.Utf8.{encode}
 
 -- ---- how wide blanks are

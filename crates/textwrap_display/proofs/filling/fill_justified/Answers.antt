@@ -1,12 +1,11 @@
 use Rattle.textwrap_display.proofs.filling.fill_justified.Goals as goal
-use Rattle.textwrap_display.proofs.Common.{layout_view, line_bytes, paragraphs_left}
+use Rattle.textwrap_display.proofs.Common.{layout_view, line_bytes, paragraphs_left, passed-on}
 use Rattle.textwrap_display.proofs.JustifiedLines.{justified-none, paragraph-written, so_far-end}
 use Rattle.textwrap_display.proofs.JustifiedLines.{so_far-more, so_far-start}
 use Rattle.textwrap_display.specs.{JustifiedSinks.HoldsJustified, JustifiedText.added_lines}
 use Rattle.textwrap_layout.proofs.Common.{cut_lines, line_from}
 use Rattle.textwrap_layout.proofs.Text.{Lines.paragraphs_left-split, Sinks.lines_of-cut_lines}
 use Rattle.textwrap_layout.proofs.Text.Sinks.{lines_of-more}
-use Rattle.textwrap_lines.proofs.Paragraph.KeepsTo.{passed-on}
 use Rattle.textwrap_text.proofs.Common.{[], ap, length-map, map, nat_lt, refl, string_bytes, subst}
 use Rattle.textwrap_text.proofs.Common.{◌++◌, ◌||◌, ◌∙◌}
 

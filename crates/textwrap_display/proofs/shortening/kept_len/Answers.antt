@@ -1,11 +1,10 @@
 use Rattle.textwrap_display.proofs.shortening.kept_len.Goals as goal
-use Rattle.textwrap_display.proofs.{Common.indent_len, ShortenedLines.IsFoundWord}
-use Rattle.textwrap_display.proofs.ShortenedLines.{cut-none, kept-cut, kept-none, kept-uncut}
-use Rattle.textwrap_display.proofs.ShortenedLines.{kept-within, kept-words, start-boundary}
-use Rattle.textwrap_display.proofs.ShortenedLines.{start-is, word-is}
+use Rattle.textwrap_display.proofs.Common.{IsKeptBeginning, indent_len}
+use Rattle.textwrap_display.proofs.ShortenedLines.{IsFoundWord, cut-none, kept-cut, kept-none}
+use Rattle.textwrap_display.proofs.ShortenedLines.{kept-uncut, kept-within, kept-words}
+use Rattle.textwrap_display.proofs.ShortenedLines.{start-boundary, start-is, word-is}
 use Rattle.textwrap_display.proofs.shortening.kept_len.Goals.{After-broken_len-broken}
 use Rattle.textwrap_display.proofs.shortening.kept_len.Goals.{After-split_indent}
-use Rattle.textwrap_display.specs.Shortening.{IsKeptBeginning}
 use Rattle.textwrap_text.proofs.Common.{ap, arith, drop, length, text_width, ◌+◌, ◌∙◌, ◌≡◌}
 use Rattle.textwrap_text.proofs.Lists.Parts.{from_start}
 

@@ -1,10 +1,9 @@
 use Rattle.textwrap_display.proofs.shortening.words_len.Goals as goal
-use Rattle.textwrap_display.proofs.{Common.added, Common.char_indices_rest, KeptLines.IsFound}
-use Rattle.textwrap_display.proofs.KeptLines.{found-here, found-kept, found-on, found-past}
+use Rattle.textwrap_display.proofs.Common.{CanEnd, added, char_indices_rest}
+use Rattle.textwrap_display.proofs.KeptLines.{IsFound, found-here, found-kept, found-on, found-past}
 use Rattle.textwrap_display.proofs.{KeptLines.found-rest, KeptLines.found-whole, KeptWords.IsReadTo}
 use Rattle.textwrap_display.proofs.KeptWords.{latest-none, read-le, read_to-start, read_to-step}
 use Rattle.textwrap_display.proofs.shortening.words_len.Goals.{Joined-ch-eq32, Joined-is_visible}
-use Rattle.textwrap_display.specs.Shortening.{CanEnd}
 use Rattle.textwrap_text.proofs.Common.{arith, char_indices_offset, eqb, false≢true, inl, inr, sym}
 use Rattle.textwrap_text.proofs.Common.{◌+◌, ◌∙◌, ◌≡◌}
 

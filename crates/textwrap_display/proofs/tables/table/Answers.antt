@@ -1,10 +1,9 @@
 use Rattle.textwrap_display.proofs.tables.table.Goals as goal
 use Rattle.std.specs.Slice.Iter.{chunks_rest}
-use Rattle.textwrap_display.proofs.TableGroups.{IsFirstGroup, first-group, groups-more, table-more}
-use Rattle.textwrap_display.proofs.{TableGroups.table-none, tables.table.Goals.In-Some}
-use Rattle.textwrap_display.specs.Tables.{IsTableBy, NonePasses, cell_texts, gaps_view, group_rows}
-use Rattle.textwrap_display.specs.Tables.{texts_in}
-use Rattle.textwrap_lines.proofs.Paragraph.KeepsTo.{passed-on}
+use Rattle.textwrap_display.proofs.{Common.passed-on, TableGroups.IsFirstGroup}
+use Rattle.textwrap_display.proofs.TableGroups.{first-group, groups-more, table-more, table-none}
+use Rattle.textwrap_display.{proofs.tables.table.Goals.In-Some, specs.Tables.IsTableBy}
+use Rattle.textwrap_display.specs.Tables.{NonePasses, cell_texts, gaps_view, group_rows, texts_in}
 use Rattle.textwrap_text.proofs.Common.{All-head, All-tail, [], append-nil, append_assoc, arith}
 use Rattle.textwrap_text.proofs.Common.{length, length-map, map, rules, string_bytes, subst, ◌++◌}
 use Rattle.textwrap_text.proofs.Common.{◌∙◌}

@@ -2,11 +2,10 @@ use Rattle.textwrap_display.proofs.tables.wrap_cells.Goals as goal
 use Rattle.std.proofs.lemmas.Slice.Zip.{all_zipped_more, length-zip, zip_end, zip_turn}
 use Rattle.std.specs.Iterator.Adapters.{zip_first, zip_second}
 use Rattle.std.specs.Slice.Iter.{iter_rest}
-use Rattle.textwrap_display.proofs.{TableGroups.cell-at, tables.wrap_cells.Goals.In-Some}
-use Rattle.textwrap_display.specs.Tables.{IsCell, cell_texts, texts_in}
+use Rattle.textwrap_display.proofs.{Common.passed-on, Common.texts_of, TableGroups.cell-at}
+use Rattle.textwrap_display.{proofs.tables.wrap_cells.Goals.In-Some, specs.Tables.IsCell}
+use Rattle.textwrap_display.specs.Tables.{cell_texts, texts_in}
 use Rattle.textwrap_layout.proofs.Common.{line_view}
-use Rattle.textwrap_lines.proofs.Paragraph.KeepsTo.{passed-on}
-use Rattle.textwrap_styles.specs.Styles.{texts_of}
 use Rattle.textwrap_text.proofs.Common.{arith, get_or, length, length-map, length_push, map}
 use Rattle.textwrap_text.proofs.Common.{map-append, refl, rules, subst, sym, take, take_all}
 use Rattle.textwrap_text.proofs.Common.{take_more, zip, ◌<◌, ◌≡◌}

@@ -192,16 +192,17 @@ module _ {Z : Type 0} where
       search (rules, arith, lt-ltb, length_push) in
       record {
         text = λ more.
-            let same : added_lines (layout_view new.layout) new.has_lines (line ∷ more)
-            ≡ added_lines (layout_view old.layout) (old.has_lines || old.waits) (line ∷ more) =
-            ap (λ l. added_lines (layout_view l) new.has_lines (line ∷ more)) takes.writes.layout_is
-            ∙ ap (λ b. added_lines (layout_view old.layout) b (line ∷ more)) takes.writes.has_lines in
-            ap (λ ls. text_with new (ls ++ more)) last
-            ∙ ap (λ t. t ++ added_lines (layout_view new.layout) new.has_lines (line ∷ more))
-            takes.writes.text ∙ ap (λ t. (string_bytes old.text ++ justified_waiting old) ++ t) same
-            ∙ one-written (layout_view old.layout) old.has_lines old.waits (string_bytes old.text)
-            (string_bytes old.line) line more ∙ given.text (line ∷ more)
-            ∙ ap (text_with first) (sym (append_assoc held (line ∷ []) more));
+            let written = one-written (layout_view old.layout) old.has_lines old.waits
+            (string_bytes old.text) (string_bytes old.line) line more in
+            cc (
+              last,
+              takes.writes.text,
+              takes.writes.has_lines,
+              takes.writes.layout_is,
+              written,
+              given.text (line ∷ more),
+              append_assoc held (line ∷ []) more,
+            );
         waits = takes.waits ∙ sym some;
         some = rw takes.waits (or-true new.has_lines ∙ sym (or-true first.has_lines));
         layout_is = takes.writes.layout_is ∙ given.layout_is;

@@ -48,9 +48,7 @@ returns-in_err-group-clause-no_overflow g c = λ fit.
 
 pub returns-clause-rows : goal.returns-clause-rows
 returns-clause-rows g c =
-    subst (IsTableBy g.C.AnyColumn.makes g.C.AnyColumn.shape c.args.columns.now (gaps_view c.args.gaps.now) (texts_in c.args.cells.now))
-    (append-nil (map string_bytes c.loop-texts.rows.items))
-    (c.loop-texts.invariant.1 [] (table-none g.C.AnyColumn.makes g.C.AnyColumn.shape c.args.columns.now
-    (gaps_view c.args.gaps.now) (texts_in (chunks_rest c.loop-texts.texts-iterator))
-    (length-map (chunks_rest c.loop-texts.texts-iterator) (λ text. text.now)
-    ∙ c.in-None.ensures.steps.1.0)))
+    let left = chunks_rest c.loop-texts.texts-iterator in
+    rw append-nil at (c.loop-texts.invariant.1 [] (table-none g.C.AnyColumn.makes g.C.AnyColumn.shape
+    c.args.columns.now (gaps_view c.args.gaps.now) (texts_in left)
+    (length-map left (λ text. text.now) ∙ c.in-None.ensures.steps.1.0)))

@@ -3,8 +3,7 @@
 use Rattle.std.proofs.Math.Bool.{or-true}
 use Rattle.textwrap_display.proofs.Common.{IsJustifiedText, WordText, justified, layout_view}
 use Rattle.textwrap_display.{proofs.Common.line_bytes, specs.JustifiedSinks.HoldsJustified}
-use Rattle.textwrap_display.specs.JustifiedSinks.{TakesLine, Writes, WritesParagraph}
-use Rattle.textwrap_display.specs.JustifiedSinks.{justified_waiting, text_with, waiting}
+use Rattle.textwrap_display.specs.JustifiedSinks.{TakesLine, Writes, WritesParagraph, waiting}
 use Rattle.textwrap_display.specs.JustifiedText.{added_lines, all_but_last, joined_on}
 use Rattle.textwrap_display.specs.JustifiedText.{justified_after, justified_after_indents}
 use Rattle.textwrap_display.specs.JustifiedText.{justified_line, justified_lines}
@@ -213,9 +212,9 @@ module _ {Z : Type 0} where
       (joined_on (ending_bytes then.layout.line_ending) then.has_lines (waiting then))
       → new.waits ≡ false → WritesParagraph first new lines
   paragraph-written {first = first} {then = then} {lines = lines} given writes waits = record {
-    text = writes.text ∙ ap (λ t. string_bytes then.text ++ t) (last-written (layout_view then.layout)
-        then.has_lines then.waits (string_bytes then.line)) ∙ given.text []
-        ∙ ap (text_with first) (append-nil lines);
+    text =
+        let last = last-written (layout_view then.layout) then.has_lines then.waits (string_bytes then.line) in
+        cc (writes.text, last, given.text [], append-nil lines);
     has_lines = writes.has_lines ∙ given.some ∙ ap (λ b. first.has_lines || b) given.waits;
     waits = waits;
     layout_is = writes.layout_is ∙ given.layout_is;

@@ -137,14 +137,11 @@ module _ {width : ℕ} {placeholder line : List ℕ} (utf8 : IsUtf8 line) {words
 module _ (line : List ℕ) (words : ℕ) {rest : List ℕ} (after : rest ≡ drop words line) where
   pub start-is : {blanks : List ℕ} → blanks ≡ take (indent_len rest) rest
       → words + length blanks ≡ words + indent_len (drop words line)
-  start-is are = ap (λ n. words + n)
-      (ap length are ∙ length-prefix_len is_blank rest ∙ ap indent_len after)
+  start-is are = cc (are, length-prefix_len is_blank rest, after)
 
   pub word-is : {text : List ℕ} {start : ℕ} → text ≡ drop (indent_len rest) rest
       → start ≡ words + indent_len (drop words line) → text ≡ drop start line
-  word-is is next =
-      is ∙ ap (λ l. drop (indent_len l) l) after
-      ∙ drop-drop (indent_len (drop words line)) words line ∙ sym (ap (λ n. drop n line) next)
+  word-is is next = cc (is, after, drop-drop (indent_len (drop words line)) words line, next)
 
 -- ---- what is kept
 

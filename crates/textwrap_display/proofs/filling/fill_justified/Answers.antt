@@ -1,13 +1,12 @@
 use Rattle.textwrap_display.proofs.filling.fill_justified.Goals as goal
-use Rattle.textwrap_display.proofs.Common.{layout_view, line_bytes, paragraphs_left, passed-on}
+use Rattle.textwrap_display.proofs.Common.{line_bytes, paragraphs_left, passed-on}
 use Rattle.textwrap_display.proofs.JustifiedLines.{justified-none, paragraph-written, so_far-end}
 use Rattle.textwrap_display.proofs.JustifiedLines.{so_far-more, so_far-start}
-use Rattle.textwrap_display.specs.{JustifiedSinks.HoldsJustified, JustifiedText.added_lines}
+use Rattle.textwrap_display.specs.JustifiedSinks.{HoldsJustified}
 use Rattle.textwrap_layout.proofs.Common.{cut_lines, line_from}
 use Rattle.textwrap_layout.proofs.Text.{Lines.paragraphs_left-split, Sinks.lines_of-cut_lines}
 use Rattle.textwrap_layout.proofs.Text.Sinks.{lines_of-more}
-use Rattle.textwrap_text.proofs.Common.{[], ap, length-map, map, nat_lt, refl, string_bytes, subst}
-use Rattle.textwrap_text.proofs.Common.{◌++◌, ◌||◌, ◌∙◌}
+use Rattle.textwrap_text.proofs.Common.{[], ap, length-map, map, refl, subst, ◌++◌, ◌∙◌}
 
 pub loop-rest-init : goal.loop-rest-init
 loop-rest-init g c = record {
@@ -35,10 +34,8 @@ loop-rest-preserved g c =
         paragraphs_left-split ending c.in-Some.text.now after paragraph
             c.split_paragraph.ensures.paragraphs,
       ) at so_far.so_far) are
-          (more.text ∙ ap (λ l. string_bytes first.text ++ added_lines (layout_view l) first.has_lines
-          lines) so_far.layout_is)
-          (more.has_lines ∙ ap (λ n. first.has_lines || nat_lt 0 n)
-          (length-map (map line_from own) line_bytes ∙ length-map own line_from));
+          (cc (more.text, so_far.layout_is))
+          (cc (more.has_lines, length-map (map line_from own) line_bytes, length-map own line_from));
       waits = more.waits;
       layout_is = more.layout_is ∙ so_far.layout_is;
     }

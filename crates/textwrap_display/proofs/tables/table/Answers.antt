@@ -2,11 +2,10 @@ use Rattle.textwrap_display.proofs.tables.table.Goals as goal
 use Rattle.std.specs.Slice.Iter.{chunks_rest}
 use Rattle.textwrap_display.proofs.{Common.passed-on, TableGroups.IsFirstGroup}
 use Rattle.textwrap_display.proofs.TableGroups.{first-group, groups-more, table-more, table-none}
-use Rattle.textwrap_display.{proofs.tables.table.Goals.In-Some, specs.Tables.IsTableBy}
-use Rattle.textwrap_display.specs.Tables.{NonePasses, cell_texts, gaps_view, group_rows, texts_in}
+use Rattle.textwrap_display.{proofs.tables.table.Goals.In-Some, specs.Tables.NonePasses}
+use Rattle.textwrap_display.specs.Tables.{cell_texts, gaps_view, group_rows, texts_in}
 use Rattle.textwrap_text.proofs.Common.{All-head, All-tail, [], append-nil, append_assoc, arith}
-use Rattle.textwrap_text.proofs.Common.{length, length-map, map, rules, string_bytes, subst, ◌++◌}
-use Rattle.textwrap_text.proofs.Common.{◌∙◌}
+use Rattle.textwrap_text.proofs.Common.{length, length-map, map, rules, ◌++◌, ◌∙◌}
 
 pub loop-texts-init : goal.loop-texts-init
 loop-texts-init g c = search (rules, arith)

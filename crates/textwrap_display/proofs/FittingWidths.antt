@@ -19,11 +19,8 @@ widest-from : (most : ℕ) (texts : List (List ℕ))
     → fold (λ most text. max most (text_width text)) most texts ≡ max most (widest texts)
 widest-from most [] = omega arith
 widest-from most (text ∷ texts) =
-    omega (
-      arith,
-      widest-from (max most (text_width text)) texts,
-      widest-from (max 0 (text_width text)) texts,
-    )
+    let more = widest-from (max most (text_width text)) texts in
+    omega (arith, more, widest-from (max 0 (text_width text)) texts)
 
 pub widest-append : (first second : List (List ℕ))
     → widest (first ++ second) ≡ max (widest first) (widest second)
@@ -36,11 +33,8 @@ module _ {X : Type 0} (parts : X → List (List ℕ)) where
       → fold (λ most x. max most (widest (parts x))) most xs ≡ max most (widest (flat_map parts xs))
   widest-parts_from most [] = omega arith
   widest-parts_from most (x ∷ xs) =
-      omega (
-        arith,
-        widest-parts_from (max most (widest (parts x))) xs,
-        widest-append (parts x) (flat_map parts xs),
-      )
+      let more = widest-parts_from (max most (widest (parts x))) xs in
+      omega (arith, more, widest-append (parts x) (flat_map parts xs))
 
   -- the widest part of all is the widest of the widest parts of each
   pub widest-parts : (xs : List X)
@@ -80,12 +74,9 @@ module _ (weight : Need → ℕ) (left weights : ℕ) (some : 0 < weights) where
   share-close need =
       elim (cases_lt (weight need) 1) [
         | inl none ↦ let is : weight need ≡ 0 = omega arith in rw is (omega arith)
-        | inr more ↦ omega (
-          arith,
-          times-one (weights - 1) (weight need) more,
-          lt-div-mul-add {a = left * weight need} some,
-          mul_comm weights (share need),
-        )
+        | inr more ↦
+            let close = lt-div-mul-add {a = left * weight need} some in
+            omega (arith, close, times-one (weights - 1) (weight need) more, mul_comm weights (share need))
       ]
 
   pub shares-few : (needs : List Need)
@@ -113,13 +104,9 @@ shares-within weight left needs some =
     let few = shares-few weight left weights some needs in
     let close = shares-close weight left weights some needs in
     let low : weights * all ≤ weights * left = omega (arith, few, mul_comm weights left) in
+    let up = mul-le-mul_right {m = weights - 1} {n = weights} ones (omega arith) in
     let high : weights * left ≤ weights * (all + ones) =
-    rw mul-add (omega (
-      arith,
-      close,
-      mul_comm weights left,
-      mul-le-mul_right {m = weights - 1} {n = weights} ones (omega arith),
-    )) in
+    rw mul-add (omega (arith, close, mul_comm weights left, up)) in
     (le_of_mul-le-mul_left low some, le_of_mul-le-mul_left high some)
 
 -- ---- what rounding leaves over

@@ -205,13 +205,7 @@ module _ {line : List ℕ} (utf8 : IsUtf8 line) {place : ℕ} {rest : List ℕ} 
       (subst IsUtf8 bytes (IsUtf8-take line end utf8 next.boundary)) in
       record {
         read = next;
-        columns = λ ds. omega (
-          arith,
-          ap (λ cs. columns_in Text (cs ++ ds)) more
-              ∙ ap (columns_in Text) (append_assoc (chars front) (c ∷ []) ds),
-          h.columns (c ∷ ds),
-          columns_in-step state c ds,
-        );
+        columns = λ ds. rw (more, append_assoc, h.columns) (omega (arith, columns_in-step state c ds));
         blank = sym (after_blank-past line utf8 place c after h.read.boundary whole end past);
       }
 

@@ -317,13 +317,9 @@ module _ (breaks : Bool) (width : ℕ) (placeholder line : List ℕ) (short : Li
   shortened-width room =
       let sum = ap text_width bytes ∙ followed-width kept whole placeholder in
       elim (kept-room is.kept) [
-        | inl none ↦ omega (
-          arith,
-          sum,
-          room,
-          ap (λ n. text_width (take n line)) none,
-          text_width-nil,
-        )
+        | inl none ↦
+            let nothing = ap (λ n. text_width (take n line)) none in
+            omega (arith, sum, room, nothing, text_width-nil)
         | inr has ↦ omega (arith, sum, has)
       ]
 

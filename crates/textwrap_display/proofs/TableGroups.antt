@@ -324,18 +324,12 @@ module _ (middle : List ℕ) (whole : IsWholeText middle) (r : ℕ) where
       let others = joined (q ∷ ps) in
       let one : suc (suc (length ps)) - 1 ≡ suc (length ps) = omega arith in
       let less : suc (length ps) - 1 ≡ length ps = omega arith in
-      omega (
-        arith,
-        ap text_width (append_assoc (x ++ middle) others text
-            ∙ append_assoc x middle (others ++ text)),
-        shown-before p.0 p.1 (All-head KeepTo p (q ∷ ps) keep) r (middle ++ (others ++ text)),
-        text_width-append middle (others ++ text) whole.0 whole.1,
-        joined-before (q ∷ ps) (All-tail KeepTo p (q ∷ ps) keep) text,
-        sum_by-cons (λ s. s.0.width) p (q ∷ ps),
-        ap (λ n. n * text_width middle) one,
-        ap (λ n. n * text_width middle) less,
-        suc-mul (length ps) (text_width middle),
-      )
+      let here = shown-before p.0 p.1 (All-head KeepTo p (q ∷ ps) keep) r (middle ++ (others ++ text)) in
+      let between = text_width-append middle (others ++ text) whole.0 whole.1 in
+      let later = joined-before (q ∷ ps) (All-tail KeepTo p (q ∷ ps) keep) text in
+      let sum = sum_by-cons (λ s. s.0.width) p (q ∷ ps) in
+      rw (append_assoc (x ++ middle) others text, append_assoc x middle (others ++ text), one)
+      (omega (arith, here, between, rw less at later, sum, suc-mul (length ps) (text_width middle)))
 
 pub rows-even : (gaps : RowGaps) (columns : List Shape) (cells : List (List (List ℕ)))
     → IsWholeText gaps.left → IsWholeText gaps.middle → KeepToColumns columns cells

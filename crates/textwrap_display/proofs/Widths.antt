@@ -229,15 +229,10 @@ module _ (line : List ℕ) (utf8 : IsUtf8 line)
       let own : text_width line ≡ length front + text_width rest =
       sym (ap text_width (take-append-drop (indent_len line) line))
       ∙ blanks-before front rest (indent-blanks line) in
-      omega (
-        arith,
-        blanks-before front (tiled (widened_words each extra ws)) (indent-blanks line),
-        widened-width each extra ws sound,
-        own,
-        ap text_width (tiled-words_of rest),
-        some,
-        div-add-mod spare (gaps line),
-      )
+      let new = blanks-before front (tiled (widened_words each extra ws)) (indent-blanks line) in
+      let wide = widened-width each extra ws sound in
+      let words = ap text_width (tiled-words_of rest) in
+      omega (arith, new, wide, own, words, some, div-add-mod spare (gaps line))
 
   pub justified-width : gaps line ≢ 0 → (width : ℕ) → text_width line ≤ width
       → text_width (line_bytes (justified width line)) ≡ width

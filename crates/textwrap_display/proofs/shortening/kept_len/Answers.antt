@@ -55,17 +55,13 @@ found c =
     ≡ c.args.shortening.now.width =
     omega (arith, c.in-Some.ensures, c.display_width-placeholder.ensures.width) in
     let next = start-is line words c.range_from.ensures.value c.split_indent.ensures.indent in
+    let front = ap text_width (c.range.ensures.value ∙ from_start line _) in
     record {
       kept = c.words_len-words.ensures _ _ is;
       next = next;
       text_is = word-is line words c.range_from.ensures.value c.split_indent.ensures.rest next;
       is = is;
-      fits = omega (
-        arith,
-        c.in-Some-checked_sub.ensures,
-        c.display_width.ensures.width,
-        ap text_width (c.range.ensures.value ∙ from_start line _),
-      );
+      fits = omega (arith, c.in-Some-checked_sub.ensures, c.display_width.ensures.width, front);
       whole = c.broken_len-broken.ensures.whole;
       cut = c.broken_len-broken.ensures.cut;
     }

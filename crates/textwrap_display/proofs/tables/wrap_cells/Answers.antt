@@ -68,10 +68,7 @@ returns-clause-cells g c =
     let second : iter_rest (zip_second c.into_iter-text-iterator.result) ≡ columns = search rules in
     let ended = zip_end texts columns c.loop-text.yielded _ _ c.next.new.self _ first second
     c.loop-text.yielded_by c.in-None.is c.next.ensures.steps in
-    let all = take_all n (zip columns (texts_in texts)) (omega (
-      arith,
-      ended,
-      length-zip columns (texts_in texts),
-      length-map texts (λ t. t.now),
-    )) in
+    let some = length-map texts (λ t. t.now) in
+    let all = take_all n (zip columns (texts_in texts))
+    (omega (arith, ended, length-zip columns (texts_in texts), some)) in
     rw all at c.loop-text.invariant

@@ -193,15 +193,7 @@ module _ {Z : Type 0} where
         text = λ more.
             let written = one-written (layout_view old.layout) old.has_lines old.waits
             (string_bytes old.text) (string_bytes old.line) line more in
-            cc (
-              last,
-              takes.writes.text,
-              takes.writes.has_lines,
-              takes.writes.layout_is,
-              written,
-              given.text (line ∷ more),
-              append_assoc held (line ∷ []) more,
-            );
+            cc (last, written, given.text (line ∷ more), append_assoc held (line ∷ []) more);
         waits = takes.waits ∙ sym some;
         some = rw takes.waits (or-true new.has_lines ∙ sym (or-true first.has_lines));
         layout_is = takes.writes.layout_is ∙ given.layout_is;

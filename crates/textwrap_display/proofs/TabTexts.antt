@@ -33,12 +33,10 @@ last_line-append : (text more : List ℕ) → last_line (text ++ more)
     ≡ cond (list_any is_feed more) (last_line more) (last_line text ++ more)
 last_line-append text [] = ap last_line (append-nil text) ∙ sym (append-nil (last_line text))
 last_line-append text (c ∷ cs) =
+    let own = last_line-append (c ∷ []) cs in
     ap last_line (sym (append_assoc text (c ∷ []) cs)) ∙ last_line-append (text ++ c ∷ []) cs
-    ∙ rw (
-      after_last-push is_feed text c,
-      last_line-append (c ∷ []) cs,
-      after_last-push is_feed [] c,
-    ) (by (is_feed c) (list_any is_feed cs))
+    ∙ rw (after_last-push is_feed text c, own, after_last-push is_feed [] c)
+    (by (is_feed c) (list_any is_feed cs))
   where
     by : (feed later : Bool)
         → cond later (last_line cs) (cond feed [] (last_line text ++ c ∷ []) ++ cs)
@@ -177,11 +175,9 @@ module _ (stop : ℕ) where
       ≡ expanded_tabs stop (text ++ 9 ∷ []) ++ expanded_tabs stop after)
       (λ part lacks.
       rw (expanded-tab part after lacks, expanded-tab part [] lacks, append-nil) refl)
-      (λ part rest lacks is. rw (
-        expanded-more part rest (9 ∷ after) lacks,
-        expanded-more part rest (9 ∷ []) lacks,
-        is,
-      ) (sym (append_assoc (filled_up stop part) _ _)))
+      (λ part rest lacks is.
+      let all = expanded-more part rest (9 ∷ after) lacks in
+      rw (all, expanded-more part rest (9 ∷ []) lacks, is) (sym (append_assoc (filled_up stop part) _ _)))
       before
 
   -- ---- each line is expanded by itself
@@ -194,12 +190,10 @@ module _ (stop : ℕ) where
       ≡ line ++ 10 ∷ expanded_tabs stop text)
       (λ part none.
       rw (expanded-free (line ++ 10 ∷ part) (joined part none), expanded-free part none) refl)
-      (λ part rest none _. ap (expanded_tabs stop) (sym (append_assoc line (10 ∷ part) (9 ∷ rest)))
-      ∙ rw (
-        expanded-tab (line ++ 10 ∷ part) rest (joined part none),
-        last_line-past line part,
-        expanded-tab part rest none,
-      ) (simp append_assoc))
+      (λ part rest none _.
+      let first = expanded-tab (line ++ 10 ∷ part) rest (joined part none) in
+      ap (expanded_tabs stop) (sym (append_assoc line (10 ∷ part) (9 ∷ rest)))
+      ∙ rw (first, last_line-past line part, expanded-tab part rest none) (simp append_assoc))
       after
     where
       joined : (part : List ℕ) → Lacks 9 part → Lacks 9 (line ++ 10 ∷ part)
@@ -212,11 +206,9 @@ module _ (stop : ℕ) where
       by-parts (λ text. expanded_tabs stop (text ++ 10 ∷ after)
       ≡ expanded_tabs stop text ++ 10 ∷ expanded_tabs stop after)
       (λ part lacks. rw (line-after part after lacks, expanded-free part lacks) refl)
-      (λ part rest lacks is. rw (
-        expanded-more part rest (10 ∷ after) lacks,
-        expanded-tab part rest lacks,
-        is,
-      ) (sym (append_assoc (filled_up stop part) _ _)))
+      (λ part rest lacks is.
+      let all = expanded-more part rest (10 ∷ after) lacks in
+      rw (all, expanded-tab part rest lacks, is) (sym (append_assoc (filled_up stop part) _ _)))
       before
 
 pub expanded-twice : (stop later : ℕ) (text : List ℕ)

@@ -1,10 +1,10 @@
 -- The groups of a table's texts, the cells of each, and the rows of these: their text, that they are
 -- even, and that they show each line once.
 use Rattle.std.proofs.{Common.replicate, Math.Nat.add-div_right, Math.Nat.div-le_self}
-use Rattle.std.proofs.{Math.Nat.suc-mul, Math.Seq.get_or-append_right, lemmas.List.drop_min}
-use Rattle.std.proofs.lemmas.List.{get_or-replicate, get_or_append_left, length-replicate, take_min}
-use Rattle.std.proofs.lemmas.Slice.Zip.{AllZip-long, get_or-zip, length-zip}
-use Rattle.std.specs.{Fork.slice_chunk, Slice.Iter.chunk_count}
+use Rattle.std.proofs.{Math.Nat.suc-mul, lemmas.List.drop_min, lemmas.List.length-replicate}
+use Rattle.std.proofs.lemmas.{List.take_min, Slice.Zip.AllZip-long, Slice.Zip.get_or-zip}
+use Rattle.std.{proofs.lemmas.Slice.Zip.length-zip, specs.Fork.slice_chunk}
+use Rattle.std.specs.Slice.Iter.{chunk_count}
 use Rattle.textwrap.proofs.Text.Tables.{lines-kept}
 use Rattle.textwrap_display.proofs.Common.{AllZip, IsWholeText, map-map, text_width-append}
 use Rattle.textwrap_display.proofs.{Common.text_width-nil, Widths.aligned-before}
@@ -31,16 +31,11 @@ use Rattle.textwrap_text.specs.Units.{text_width}
 -- an empty cell after the others is as none
 padded-at : (cells : List (List (List ℕ))) (count at : ℕ)
     → get_or (cells ++ replicate count []) at [] ≡ get_or cells at []
-padded-at cells count at = grind (
-  arith,
-  cases_lt,
-  get_or_append_left,
-  get_or-append_right,
-  get_or-replicate,
-  get_or_past,
-  length-append,
-  length-replicate,
-)
+padded-at [] zero at = refl
+padded-at [] (suc count) zero = refl
+padded-at [] (suc count) (suc at) = padded-at [] count at
+padded-at (cell ∷ cells) count zero = refl
+padded-at (cell ∷ cells) count (suc at) = padded-at cells count at
 
 module _ (columns : List Shape) (cells : List (List (List ℕ))) where
   -- the cells, with an empty one for each column after them

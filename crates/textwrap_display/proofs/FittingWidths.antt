@@ -1,15 +1,59 @@
--- Widths that fit: shares in proportion, what rounding leaves over, and that they add up.
-use Rattle.std.proofs.Common.{sum}
-use Rattle.std.proofs.Math.Nat.{div-lt_iff_lt-mul, le_of_mul-le-mul_left, lt-div-mul-add, mul-add}
-use Rattle.std.proofs.Math.Nat.{mul-div-le, mul-le-mul_right, mul-lt-mul_of_pos_left, mul_comm}
-use Rattle.std.{proofs.Math.Nat.zero-div, specs.List.AllZip, specs.Prelude.nat_le}
+-- What columns need: the widest of some texts, part by part; and widths that fit: shares in
+-- proportion, what rounding leaves over, and that they add up.
+use Rattle.std.proofs.{Common.sum, Math.Nat.div-lt_iff_lt-mul, Math.Nat.le_of_mul-le-mul_left}
+use Rattle.std.proofs.Math.Nat.{lt-div-mul-add, mul-add, mul-div-le, mul-le-mul_right}
+use Rattle.std.proofs.Math.Nat.{mul-lt-mul_of_pos_left, mul_comm, zero-div}
+use Rattle.std.{proofs.lemmas.List.Sums.fold-append, specs.List.flat_map, specs.List.fold}
+use Rattle.textwrap_display.proofs.{Common.AllZip, Common.text_width, TableGroups.AllZip-weaker}
+use Rattle.textwrap_display.proofs.TableGroups.{IsFirstGroup, groups-more}
 use Rattle.textwrap_display.specs.Fitting.{fitting_widths, lacking, rounded_up, shared, widest_line}
-use Rattle.textwrap_display.specs.Fitting.{widest_word}
+use Rattle.textwrap_display.specs.{Fitting.widest_word, Needs.column_texts, Needs.widest}
 use Rattle.textwrap_display.specs.Sharing.{Shares, rounded_down, sure, weight}
 use Rattle.textwrap_display.specs.declared.{fitting.Sharing.Sharing, needs.Need.Need}
-use Rattle.textwrap_text.proofs.Common.{List, [], arith, cases_lt, if◌then◌else◌, length, min, refl}
-use Rattle.textwrap_text.proofs.Common.{rules, subst, sum_by, sum_by-cons, ℕ, ⊎_elim, ◌*◌, ◌+◌, ◌-◌}
-use Rattle.textwrap_text.proofs.Common.{◌/◌, ◌<◌, ◌==◌, ◌∷◌, ◌≡◌, ◌≤◌}
+use Rattle.textwrap_text.proofs.Common.{List, [], ap, arith, cases_lt, get_or, inl, inr, length}
+use Rattle.textwrap_text.proofs.Common.{map, max, min, refl, rules, sum_by, sum_by-cons, ℕ, ◌*◌}
+use Rattle.textwrap_text.proofs.Common.{◌++◌, ◌+◌, ◌-◌, ◌/◌, ◌<◌, ◌∙◌, ◌∷◌, ◌≡◌, ◌≤◌}
+
+-- what is wider already stays
+widest-from : (most : ℕ) (texts : List (List ℕ))
+    → fold (λ most text. max most (text_width text)) most texts ≡ max most (widest texts)
+widest-from most [] = omega arith
+widest-from most (text ∷ texts) =
+    let more = widest-from (max most (text_width text)) texts in
+    omega (arith, more, widest-from (max 0 (text_width text)) texts)
+
+pub widest-append : (first second : List (List ℕ))
+    → widest (first ++ second) ≡ max (widest first) (widest second)
+widest-append first second =
+    fold-append (λ most text. max most (text_width text)) 0 first second
+    ∙ widest-from (widest first) second
+
+module _ {X : Type 0} (parts : X → List (List ℕ)) where
+  widest-parts_from : (most : ℕ) (xs : List X)
+      → fold (λ most x. max most (widest (parts x))) most xs ≡ max most (widest (flat_map parts xs))
+  widest-parts_from most [] = omega arith
+  widest-parts_from most (x ∷ xs) =
+      let more = widest-parts_from (max most (widest (parts x))) xs in
+      omega (arith, more, widest-append (parts x) (flat_map parts xs))
+
+  -- the widest part of all is the widest of the widest parts of each
+  pub widest-parts : (xs : List X)
+      → fold (λ most x. max most (widest (parts x))) 0 xs ≡ widest (flat_map parts xs)
+  widest-parts xs = omega (arith, widest-parts_from 0 xs)
+
+-- with one row more
+pub column_texts-more : (columns at : ℕ) (cells row rest : List (List ℕ))
+    → IsFirstGroup columns cells row rest
+    → column_texts columns cells at ≡ get_or row at [] ∷ column_texts columns rest at
+column_texts-more columns at cells row rest first =
+    ap (map (λ texts. get_or texts at [])) (groups-more columns cells row rest first)
+
+module _ (parts : List ℕ → List (List ℕ)) (columns at most : ℕ) where
+  pub widest-more : (cells row rest : List (List ℕ)) → IsFirstGroup columns cells row rest
+      → max (max most (widest (parts (get_or row at []))))
+      (widest (flat_map parts (column_texts columns rest at)))
+      ≡ max most (widest (flat_map parts (column_texts columns cells at)))
+  widest-more cells row rest first = search (rules, arith, column_texts-more, widest-append)
 
 -- ---- shares in proportion
 
@@ -28,16 +72,12 @@ module _ (weight : Need → ℕ) (left weights : ℕ) (some : 0 < weights) where
   pub share-close : (need : Need)
       → left * weight need ≤ weights * share need + (weights - 1) * one need
   share-close need =
-      ⊎_elim (λ (none : weight need < 1).
-      let is : weight need ≡ 0 = omega arith in rw is (omega arith))
-      (λ (more : 1 ≤ weight need).
-      omega (
-        arith,
-        times-one (weights - 1) (weight need) more,
-        lt-div-mul-add {a = left * weight need} some,
-        mul_comm weights (share need),
-      ))
-      (cases_lt (weight need) 1)
+      elim (cases_lt (weight need) 1) [
+        | inl none ↦ let is : weight need ≡ 0 = omega arith in rw is (omega arith)
+        | inr more ↦
+            let close = lt-div-mul-add {a = left * weight need} some in
+            omega (arith, close, times-one (weights - 1) (weight need) more, mul_comm weights (share need))
+      ]
 
   pub shares-few : (needs : List Need)
       → weights * sum_by share needs ≤ left * sum_by weight needs
@@ -64,13 +104,9 @@ shares-within weight left needs some =
     let few = shares-few weight left weights some needs in
     let close = shares-close weight left weights some needs in
     let low : weights * all ≤ weights * left = omega (arith, few, mul_comm weights left) in
+    let up = mul-le-mul_right {m = weights - 1} {n = weights} ones (omega arith) in
     let high : weights * left ≤ weights * (all + ones) =
-    rw mul-add (omega (
-      arith,
-      close,
-      mul_comm weights left,
-      mul-le-mul_right {m = weights - 1} {n = weights} ones (omega arith),
-    )) in
+    rw mul-add (omega (arith, close, mul_comm weights left, up)) in
     (le_of_mul-le-mul_left low some, le_of_mul-le-mul_left high some)
 
 -- ---- what rounding leaves over
@@ -103,13 +139,6 @@ shared-sum sure weight total needs room some =
 
 -- ---- which needs have room
 
-module _ (P : List ℕ → Type 0) {x y : List ℕ} where
-  pub where_least : (a b : ℕ) → (a ≤ b → P x) → (b < a → P y) → P (if nat_le a b then x else y)
-  where_least a b at_most past = search (rules, arith)
-
-  pub where_zero : (a : ℕ) → (a ≡ 0 → P x) → (0 < a → P y) → P (if a == 0 then x else y)
-  where_zero a none some = search (rules, arith)
-
 module _ (total : ℕ) (needs : List Need) (P : List ℕ → Type 0) where
   pub fitting-cases : (sum_by widest_line needs ≤ total → sum_by widest_line needs ≡ 0
       → P (shared widest_line (λ need. 1) total needs))
@@ -120,10 +149,7 @@ module _ (total : ℕ) (needs : List Need) (P : List ℕ → Type 0) where
       → (total < sum_by widest_word needs
       → P (shared (λ need. 0) widest_word total needs))
       → P (fitting_widths total needs)
-  fitting-cases even lines words none =
-      where_least P (sum_by widest_line needs) total
-      (λ room. where_zero P (sum_by widest_line needs) (even room) (lines room))
-      (λ scarce. where_least P (sum_by widest_word needs) total (words scarce) none)
+  fitting-cases even lines words none = search (rules, arith)
 
 -- what the columns have in all is what they have one by one
 pub sum_by-none : (needs : List Need) → sum_by (λ need. 0) needs ≡ 0
@@ -171,88 +197,67 @@ pub share-less : (left weight weights one : ℕ) → left < weights → one ≤ 
 share-less left weight weights one less at =
     search (rules, arith, cases_lt, zero-div, div-lt_iff_lt-mul, mul_comm, mul-lt-mul_of_pos_left)
 
-module _ (sure weight : Need → ℕ) (R : Need → ℕ → Type 0) (total : ℕ) (needs : List Need) where
-  pub shared-over : ((need : Need) (more : ℕ) → R need (sure need + more))
-      → AllZip R needs (shared sure weight total needs)
-  shared-over each =
-      let left : ℕ = total - sum_by sure needs in
-      let share : Need → ℕ = λ (need : Need). left * weight need / sum_by weight needs in
-      let width : Need → ℕ = λ (need : Need). sure need + share need in
-      rounded-all width weight R (total - sum_by width needs) needs
-      (λ need one over at.
-      let is : sure need + (share need + one) ≡ width need + one = omega arith in
-      subst (R need) is (each need (share need + one)))
+module _ (sure weight : Need → ℕ) (total : ℕ) (needs : List Need) where
+  -- what a column gets, by what is left of the total beside what is sure
+  pub record IsShare (need : Need) (width : ℕ) : Type 0 where
+    pub least : sure need ≤ width
+    pub exact : total ≤ sum_by sure needs → width ≡ sure need
+    pub most : total - sum_by sure needs < sum_by weight needs → width ≤ sure need + weight need
 
-  pub shared-under : total - sum_by sure needs < sum_by weight needs
-      → ((need : Need) (width : ℕ) → width ≤ sure need + weight need → R need width)
-      → AllZip R needs (shared sure weight total needs)
-  shared-under less each = search (rules, arith, rounded-all, share-less)
-
-  pub shared-exact : total ≡ sum_by sure needs → ((need : Need) → R need (sure need))
-      → AllZip R needs (shared sure weight total needs)
-  shared-exact is each =
+  pub shared-all : AllZip IsShare needs (shared sure weight total needs)
+  shared-all =
       let left : ℕ = total - sum_by sure needs in
-      let none : left ≡ 0 = omega arith in
-      let share : Need → ℕ = λ (need : Need). left * weight need / sum_by weight needs in
+      let weights : ℕ = sum_by weight needs in
+      let share : Need → ℕ = λ (need : Need). left * weight need / weights in
       let width : Need → ℕ = λ (need : Need). sure need + share need in
       let all : sum_by width needs ≡ sum_by sure needs + sum_by share needs =
       sum_by-add sure share needs in
-      rounded-all width weight R (total - sum_by width needs) needs
-      (λ need one over at.
-      let no : share need ≡ 0 = rw none (omega (arith, zero-div (sum_by weight needs))) in
-      let same : sure need ≡ width need + one = omega arith in
-      subst (R need) same (each need))
+      rounded-all width weight IsShare (total - sum_by width needs) needs
+      (λ need one over at. record {
+        least = omega arith;
+        exact = λ few.
+            let none : left ≡ 0 = omega arith in
+            let no : share need ≡ 0 = rw none (omega (arith, zero-div weights)) in omega arith;
+        most = λ less. omega (arith, share-less left (weight need) weights one less at);
+      })
 
+-- by what has room
 module _ (total : ℕ) (needs : List Need) where
+  record IsFitting (need : Need) (width : ℕ) : Type 0 where
+    words : sum_by widest_word needs ≤ total → need.least ≤ width
+    lines : sum_by widest_line needs ≤ total → widest_line need ≤ width
+    within : total ≤ sum_by widest_line needs → width ≤ widest_line need
+    scarce : total < sum_by widest_word needs → width ≤ need.least
+
+  fitting-all : AllZip IsFitting needs (fitting_widths total needs)
+  fitting-all =
+      let all = sum_by-wanted needs in
+      let none = sum_by-none needs in
+      let each = λ (sure weight : Need → ℕ) (is : (need : Need) (width : ℕ)
+      → IsShare sure weight total needs need width → IsFitting need width).
+      AllZip-weaker (IsShare sure weight total needs) IsFitting is needs
+      (shared sure weight total needs) (shared-all sure weight total needs) in
+      fitting-cases total needs (AllZip IsFitting needs)
+      (λ room empty. each widest_line (λ need. 1) (λ need width share. omega arith))
+      (λ room some. each widest_line widest_line (λ need width share. omega arith))
+      (λ scarce room. each widest_word lacking (λ need width share. omega arith))
+      (λ scarce. each (λ need. 0) widest_word (λ need width share. omega arith))
+
   pub fitting-least : sum_by widest_word needs ≤ total
       → AllZip (λ need width. need.least ≤ width) needs (fitting_widths total needs)
-  fitting-least room =
-      let R : Need → ℕ → Type 0 = λ (need : Need) (width : ℕ). need.least ≤ width in
-      fitting-cases total needs (AllZip R needs)
-      (λ lines empty. shared-over widest_line (λ need. 1) R total needs (λ need more. omega arith))
-      (λ lines text. shared-over widest_line widest_line R total needs (λ need more. omega arith))
-      (λ scarce words. shared-over widest_word lacking R total
-      needs (λ need more. omega arith))
-      (λ scarce. absurd (omega arith))
+  fitting-least room = AllZip-weaker _ _ (λ need width fit. fit.words room) _ _ fitting-all
 
   pub fitting-most : sum_by widest_line needs ≤ total
       → AllZip (λ need width. widest_line need ≤ width) needs (fitting_widths total needs)
-  fitting-most room =
-      let R : Need → ℕ → Type 0 = λ (need : Need) (width : ℕ). widest_line need ≤ width in
-      fitting-cases total needs (AllZip R needs)
-      (λ lines empty. shared-over widest_line (λ need. 1) R total needs (λ need more. omega arith))
-      (λ lines text. shared-over widest_line widest_line R total needs (λ need more. omega arith))
-      (λ scarce words. absurd (omega arith))
-      (λ scarce. absurd (omega (arith, sum_by-wanted needs)))
+  fitting-most room = AllZip-weaker _ _ (λ need width fit. fit.lines room) _ _ fitting-all
 
   pub fitting-within : total ≤ sum_by widest_line needs
       → AllZip (λ need width. width ≤ widest_line need) needs (fitting_widths total needs)
-  fitting-within few =
-      let R : Need → ℕ → Type 0 = λ (need : Need) (width : ℕ). width ≤ widest_line need in
-      let all = sum_by-wanted needs in
-      let none = sum_by-none needs in
-      fitting-cases total needs (AllZip R needs)
-      (λ lines empty. shared-exact widest_line (λ need. 1) R total needs (omega arith)
-      (λ need. omega arith))
-      (λ lines text. shared-exact widest_line widest_line R total needs (omega arith)
-      (λ need. omega arith))
-      (λ scarce words. shared-under widest_word lacking R total
-      needs (omega arith) (λ need width at. omega arith))
-      (λ scarce. shared-under (λ need. 0) widest_word R total needs (omega arith)
-      (λ need width at. omega arith))
+  fitting-within few = AllZip-weaker _ _ (λ need width fit. fit.within few) _ _ fitting-all
 
   pub fitting-scarce : total < sum_by widest_word needs
       → AllZip (λ need width. width ≤ need.least) needs (fitting_widths total needs)
-  fitting-scarce few =
-      let R : Need → ℕ → Type 0 = λ (need : Need) (width : ℕ). width ≤ need.least in
-      let all = sum_by-wanted needs in
-      let none = sum_by-none needs in
-      fitting-cases total needs (AllZip R needs)
-      (λ lines empty. absurd (omega arith))
-      (λ lines text. absurd (omega arith))
-      (λ scarce words. absurd (omega arith))
-      (λ scarce. shared-under (λ need. 0) widest_word R total needs (omega arith)
-      (λ need width at. omega arith))
+  fitting-scarce few = AllZip-weaker _ _ (λ need width fit. fit.scarce few) _ _ fitting-all
 
 -- what the program shares out, from the sums that it has
 pub shared-with : (sharing : Sharing) (total : ℕ) (needs : List Need) → Shares sharing total needs

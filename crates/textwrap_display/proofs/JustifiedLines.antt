@@ -1,38 +1,35 @@
--- A text that is filled with its lines justified, one paragraph after another.
-use Rattle.textwrap_display.proofs.Common.{IsJustifiedText, WordText}
-use Rattle.textwrap_display.proofs.Common.{justified, line_bytes}
-use Rattle.textwrap_display.specs.JustifiedText.{all_but_last, joined_on, justified_after}
-use Rattle.textwrap_display.specs.JustifiedText.{added_lines, justified_after_indents, justified_line}
-use Rattle.textwrap_display.specs.JustifiedText.{justified_lines}
+-- A text that is filled with its lines justified, one paragraph after another, and what justifies
+-- lines as they are found.
+use Rattle.std.proofs.Math.Bool.{or-true}
+use Rattle.textwrap_display.proofs.Common.{IsJustifiedText, WordText, justified, layout_view}
+use Rattle.textwrap_display.{proofs.Common.line_bytes, specs.JustifiedSinks.HoldsJustified}
+use Rattle.textwrap_display.specs.JustifiedSinks.{TakesLine, Writes, WritesParagraph, waiting}
+use Rattle.textwrap_display.specs.JustifiedText.{added_lines, all_but_last, joined_on}
+use Rattle.textwrap_display.specs.JustifiedText.{justified_after, justified_after_indents}
+use Rattle.textwrap_display.specs.JustifiedText.{justified_line, justified_lines}
+use Rattle.textwrap_display.specs.declared.justified_lines.JustifiedLines.{JustifiedLines}
 use Rattle.textwrap_layout.proofs.Common.{AreGroups, AreParagraphParts, DividesAs, DividesBy}
 use Rattle.textwrap_layout.proofs.Common.{HasParts, LineParts, Settings, indent_of, line_from}
 use Rattle.textwrap_layout.proofs.Common.{parts_from, parts_of, settings_view}
 use Rattle.textwrap_layout.proofs.{Paragraph.Pieces.divides, Text.Sinks.assembled-bytes}
 use Rattle.textwrap_layout.specs.declared.options.Options.{Options}
 use Rattle.textwrap_text.proofs.Common.{Bool, List, [], ap, append-nil, append_assoc, arith}
-use Rattle.textwrap_text.proofs.Common.{cases_Bool, drop_all, drop_at, ending_bytes}
-use Rattle.textwrap_text.proofs.Common.{false, flat_map, join_with, length}
-use Rattle.textwrap_text.proofs.Common.{map, nat_lt, paragraphs_of, refl, rules, subst}
-use Rattle.textwrap_text.proofs.Common.{suc, sym, take_all, take_at, text_width, true, ℕ}
-use Rattle.textwrap_text.proofs.Common.{◌++◌, ◌+◌, ◌-◌, ◌||◌, ◌∙◌, ◌∷◌, ◌≡◌}
-use Rattle.textwrap_text.proofs.Lists.Parts.{starts_with-true}
-use Rattle.textwrap_text.proofs.Numbers.{or_false, some_later}
+use Rattle.textwrap_text.proofs.Common.{cases_Bool, cond, drop_all, drop_at, ending_bytes, false}
+use Rattle.textwrap_text.proofs.Common.{flat_map, join_with, length, length_push, lt-ltb, map}
+use Rattle.textwrap_text.proofs.Common.{nat_lt, paragraphs_of, refl, rules, string_bytes, subst}
+use Rattle.textwrap_text.proofs.Common.{suc, sym, take_all, take_at, text_width, true, ℕ, ◌++◌, ◌+◌}
+use Rattle.textwrap_text.proofs.Common.{◌-◌, ◌||◌, ◌∙◌, ◌∷◌, ◌≡◌}
+use Rattle.textwrap_text.proofs.{Lists.Parts.starts_with-true, Numbers.or_false, Numbers.some_later}
 use Rattle.textwrap_words.proofs.Common.{Algorithm, Splitter}
 
 -- ---- worked rows on lists of which all but the last are changed
 
-rows-of-four : all_but_last (λ n. n + 10) (λ n. n + 20) (λ n. n) (1 ∷ 2 ∷ 3 ∷ 4 ∷ [])
-    ≡ 11 ∷ 22 ∷ 23 ∷ 4 ∷ []
-rows-of-four = refl
+abbrev changed : List ℕ → List ℕ
+changed = all_but_last (λ n. n + 10) (λ n. n + 20) (λ n. n)
 
-rows-of-two : all_but_last (λ n. n + 10) (λ n. n + 20) (λ n. n) (1 ∷ 2 ∷ []) ≡ 11 ∷ 2 ∷ []
-rows-of-two = refl
-
-row-of-one : all_but_last (λ n. n + 10) (λ n. n + 20) (λ n. n) (1 ∷ []) ≡ 1 ∷ []
-row-of-one = refl
-
-rows-of-none : all_but_last (λ (n : ℕ). n + 10) (λ n. n + 20) (λ n. n) [] ≡ []
-rows-of-none = refl
+rows-changed : (changed (1 ∷ 2 ∷ 3 ∷ 4 ∷ []) ≡ 11 ∷ 22 ∷ 23 ∷ 4 ∷ [])
+    × (changed (1 ∷ 2 ∷ []) ≡ 11 ∷ 2 ∷ []) × (changed (1 ∷ []) ≡ 1 ∷ []) × (changed [] ≡ [])
+rows-changed = (refl, refl, refl, refl)
 
 -- ---- one line
 
@@ -111,8 +108,8 @@ module _ (settings : Settings) where
 
 -- ---- a text that is filled with its lines justified, one paragraph after another
 
+-- with right lines of the paragraphs that are left, it is the whole
 module _ (settings : Settings) (Divides : Bool → List ℕ → List (List WordText) → Type 0) where
-  -- with right lines of the paragraphs that are left, it is the whole
   pub record IsJustifiedSoFar (text filled : List ℕ) (is_later : Bool) (left : List (List ℕ))
       : Type 0 where
     pub done : List (List ℕ)
@@ -121,20 +118,21 @@ module _ (settings : Settings) (Divides : Bool → List ℕ → List (List WordT
         → AreGroups (AreParagraphParts settings Divides) is_later left groups
         → IsJustifiedText settings Divides text (filled ++ rows settings is_later groups)
 
+module _ {settings : Settings} {Divides : Bool → List ℕ → List (List WordText) → Type 0} where
   pub so_far-start : (text filled : List ℕ) → filled ≡ []
-      → IsJustifiedSoFar text filled false (paragraphs_of settings.line_ending text)
+      → IsJustifiedSoFar settings Divides text filled false (paragraphs_of settings.line_ending text)
   so_far-start text filled none = search (rules, arith, join-on)
 
   -- the lines of one more paragraph
-  pub so_far-more : (text filled new : List ℕ) (is_later then_later : Bool) (paragraph : List ℕ)
-      (after : List (List ℕ)) (parts : List LineParts)
-      → IsJustifiedSoFar text filled is_later (paragraph ∷ after)
+  pub so_far-more : {text filled new : List ℕ} {is_later then_later : Bool} {paragraph : List ℕ}
+      {after : List (List ℕ)} (parts : List LineParts)
+      → IsJustifiedSoFar settings Divides text filled is_later (paragraph ∷ after)
       → AreParagraphParts settings Divides is_later paragraph parts
       → new ≡ filled ++ added_lines settings is_later (map line_bytes (map line_from parts))
       → then_later ≡ is_later || nat_lt 0 (length parts)
-      → IsJustifiedSoFar text new then_later after
-  so_far-more text filled new is_later then_later paragraph after parts so_far
-      (division, laid_out, are) is then = record {
+      → IsJustifiedSoFar settings Divides text new then_later after
+  so_far-more {text = text} {filled = filled} {new = new} {is_later = is_later} {then_later = then_later}
+      {paragraph = paragraph} {after = after} parts so_far (division, laid_out, are) is then = record {
         done = so_far.done ++ paragraph ∷ [];
         paragraphs = so_far.paragraphs ∙ sym (append_assoc so_far.done (paragraph ∷ []) after);
         whole = λ groups rest.
@@ -144,9 +142,10 @@ module _ (settings : Settings) (Divides : Bool → List ℕ → List (List WordT
             (so_far.whole (parts ∷ groups) ((division, laid_out, are), rw then at rest));
       }
 
-  pub so_far-end : (text filled : List ℕ) (is_later : Bool)
-      → IsJustifiedSoFar text filled is_later [] → IsJustifiedText settings Divides text filled
-  so_far-end text filled is_later so_far =
+  pub so_far-end : {text filled : List ℕ} {is_later : Bool}
+      → IsJustifiedSoFar settings Divides text filled is_later []
+      → IsJustifiedText settings Divides text filled
+  so_far-end {text = text} {filled = filled} so_far =
       subst (IsJustifiedText settings Divides text) (append-nil filled) (so_far.whole [] refl)
 
 -- the same text, where all parts are built in and can be named
@@ -157,3 +156,58 @@ pub justified-as : {E C : Type 0} {e : _} {c : _} (options : Options E C e c) (s
     → IsJustifiedText settings (DividesAs splitter algorithm settings) text filled
 justified-as options settings splitter algorithm parts text filled is =
     search (rules, arith, divides)
+
+module _ (settings : Settings) where
+  -- a line that waited and is not the last, before those that come
+  one-written : (has_lines waits : Bool) (text line next : List ℕ) (more : List (List ℕ))
+      → (text ++ cond waits (cond has_lines (ending_bytes settings.line_ending) []
+      ++ justified_after settings.width (indent_of settings has_lines) line) [])
+      ++ added_lines settings (has_lines || waits) (next ∷ more)
+      ≡ text ++ added_lines settings has_lines (cond waits (line ∷ []) [] ++ next ∷ more)
+  one-written true true text line next more = simp append_assoc
+  one-written false true text line next more = simp append_assoc
+  one-written true false text line next more = simp append-nil
+  one-written false false text line next more = simp append-nil
+
+  -- one that is the last
+  last-written : (has_lines waits : Bool) (line : List ℕ)
+      → joined_on (ending_bytes settings.line_ending) has_lines (cond waits (line ∷ []) [])
+      ≡ added_lines settings has_lines (cond waits (line ∷ []) [] ++ [])
+  last-written has_lines true line = refl
+  last-written has_lines false line = refl
+
+module _ {Z : Type 0} where
+  pub justified-none : (first : JustifiedLines Z) → first.waits ≡ false
+      → HoldsJustified first first []
+  justified-none first waits =
+      record { text = λ more. rw waits; waits = waits; some = refl; layout_is = refl }
+
+  pub justified-one : {first old new : JustifiedLines Z} {held : List (List ℕ)} {line : List ℕ}
+      → HoldsJustified first old held → TakesLine old new line
+      → HoldsJustified first new (held ++ line ∷ [])
+  justified-one {first = first} {old = old} {new = new} {held = held} {line = line} given takes =
+      let last : waiting new ≡ line ∷ [] = rw takes.waits (ap (λ b. b ∷ []) takes.line_is) in
+      let some : nat_lt 0 (length (held ++ line ∷ [])) ≡ true =
+      search (rules, arith, lt-ltb, length_push) in
+      record {
+        text = λ more.
+            let written = one-written (layout_view old.layout) old.has_lines old.waits
+            (string_bytes old.text) (string_bytes old.line) line more in
+            cc (last, written, given.text (line ∷ more), append_assoc held (line ∷ []) more);
+        waits = takes.waits ∙ sym some;
+        some = rw takes.waits (or-true new.has_lines ∙ sym (or-true first.has_lines));
+        layout_is = takes.writes.layout_is ∙ given.layout_is;
+      }
+
+  pub paragraph-written : {first then new : JustifiedLines Z} {lines : List (List ℕ)}
+      → HoldsJustified first then lines → Writes then new
+      (joined_on (ending_bytes then.layout.line_ending) then.has_lines (waiting then))
+      → new.waits ≡ false → WritesParagraph first new lines
+  paragraph-written {first = first} {then = then} {lines = lines} given writes waits = record {
+    text =
+        let last = last-written (layout_view then.layout) then.has_lines then.waits (string_bytes then.line) in
+        cc (writes.text, last, given.text [], append-nil lines);
+    has_lines = writes.has_lines ∙ given.some ∙ ap (λ b. first.has_lines || b) given.waits;
+    waits = waits;
+    layout_is = writes.layout_is ∙ given.layout_is;
+  }

@@ -1,74 +1,79 @@
--- The longest beginning of a line that may be kept, and the first lines as they are.
-use Rattle.std.specs.declared.borrow.CowStr.TheVariants.{Borrowed, Owned}
-use Rattle.textwrap_display.proofs.Common.{AreShortened, Built, CowStr, IsShortened, Line, Slice}
-use Rattle.textwrap_display.proofs.Common.{State, String, can_end, cow_str_bytes, encode_utf8}
-use Rattle.textwrap_display.proofs.Common.{line_bytes, line_bytes-line_view, line_view, read-all}
-use Rattle.textwrap_display.proofs.{Common.texts_of, KeptWords.IsReadTo, KeptWords.is_after_blank}
-use Rattle.textwrap_display.proofs.KeptWords.{may_end-blanks, may_end-boundary, may_end-here}
-use Rattle.textwrap_display.proofs.KeptWords.{may_end-other, may_end-past, may_end-whole}
-use Rattle.textwrap_display.proofs.KeptWords.{may_end-within, read-more, read-width}
-use Rattle.textwrap_display.proofs.WholeBeginnings.{read-whole, whole-read}
-use Rattle.textwrap_display.specs.Shortening.{CanEnd, IsKeptBeginning}
-use Rattle.textwrap_layout.specs.Text.{HasWholeSequences}
+-- The longest beginning of a line that may be kept, words that are cut between their characters, and
+-- the first lines as they are.
+use Rattle.std.{proofs.lemmas.List.Sums.take_while-cons, specs.Prelude.chars}
+use Rattle.textwrap_display.proofs.Common.{AreShortened, CanCut, CanEnd, CowStr, IsCut}
+use Rattle.textwrap_display.proofs.Common.{IsKeptBeginning, IsShortened, Line, Slice, State, Text}
+use Rattle.textwrap_display.proofs.Common.{added, cow_str_bytes, encode_utf8, is_blank, line_bytes}
+use Rattle.textwrap_display.proofs.Common.{line_bytes-line_view, line_view, read-all}
+use Rattle.textwrap_display.proofs.Common.{text_width-nil, texts_of, units, word_width}
+use Rattle.textwrap_display.proofs.KeptWords.{BlankAhead, IsLatest, IsReadTo, ahead-blank}
+use Rattle.textwrap_display.proofs.KeptWords.{before-character, blank-ahead, latest-here}
+use Rattle.textwrap_display.proofs.KeptWords.{latest-none, latest-on, latest-past, may_end-boundary}
+use Rattle.textwrap_display.proofs.KeptWords.{may_end-here, may_end-other, may_end-within, read-le}
+use Rattle.textwrap_display.proofs.KeptWords.{read-whole, read-width, read_to-start, read_to-step}
+use Rattle.textwrap_display.proofs.KeptWords.{whole-read}
 use Rattle.textwrap_styles.proofs.SequenceTexts.{nil-whole}
-use Rattle.textwrap_text.proofs.Common.{Bool, Bor, IsUtf8, List, [], ap, append_assoc, arith}
-use Rattle.textwrap_text.proofs.Common.{cases_Bool, cases_lt, drop, drop_more, eqb, eqb-true, false}
-use Rattle.textwrap_text.proofs.Common.{get_or, inl, inr, length, length-map, length-take-le, map}
-use Rattle.textwrap_text.proofs.Common.{map-append, refl, rules, string_bytes, subst, sym, take}
-use Rattle.textwrap_text.proofs.Common.{take-append-drop, take_more, text_width, true, ℕ, ◌++◌, ◌+◌}
-use Rattle.textwrap_text.proofs.Common.{◌<◌, ◌∙◌, ◌∷◌, ◌≡◌, ◌≢◌, ◌≤◌, ◌⊎◌}
-use Rattle.textwrap_text.specs.declared.escapes.State.TheVariants.{Text}
+use Rattle.textwrap_text.proofs.Common.{Bool, IsCharBoundary, IsUtf8, List, [], ap, arith}
+use Rattle.textwrap_text.proofs.Common.{cases_Bool, columns, drop, drop_more, encode_utf8_all}
+use Rattle.textwrap_text.proofs.Common.{encodes-chars, eqb, eqb-true, false, false≢true, get_or}
+use Rattle.textwrap_text.proofs.Common.{inl, inr, length, length-map, length-take-le, map}
+use Rattle.textwrap_text.proofs.Common.{map-append, ne_eqb, next_of, not, refl, rules, shows, subst}
+use Rattle.textwrap_text.proofs.Common.{sum_by, sum_by-cons, sym, take, take-append-drop}
+use Rattle.textwrap_text.proofs.Common.{take_while, text_width, true, units_width, ℕ, ◌++◌, ◌+◌}
+use Rattle.textwrap_text.proofs.Common.{◌<◌, ◌∙◌, ◌∷◌, ◌≡◌, ◌≢◌, ◌≤◌}
+use Rattle.textwrap_text.proofs.Units.{Characters.shown-from, Reading.read-ahead}
+use Rattle.textwrap_text.specs.Characters.{characters_from, characters_of, shown}
+use Rattle.textwrap_text.specs.declared.characters.Character.{Character}
 
 -- ---- what the reader has found of a line up to a place: the longest beginning that may be kept
 
--- the columns of a beginning have room
-abbrev pub HasRoom : ℕ → List ℕ → ℕ → Type 0
-HasRoom room line n = text_width (take n line) ≤ room
-
--- the longest beginning before the place that may be kept
-pub record IsFound (room : ℕ) (line : List ℕ) (place kept : ℕ) : Type 0 where
-  pub ends : CanEnd line kept
-  pub fits : (kept ≡ 0) ⊎ HasRoom room line kept
-  pub longest : (m : ℕ) → m < place → CanEnd line m → HasRoom room line m → m ≤ kept
+abbrev pub IsFound : ℕ → List ℕ → ℕ → ℕ → Type 0
+IsFound room line = IsLatest (CanEnd line) room line
 
 -- nothing may be kept
 pub none-kept : (line : List ℕ) → CanEnd line 0
 none-kept line = (refl, nil-whole.1)
 
-pub found-none : (room : ℕ) (line : List ℕ) (place : ℕ) → place ≡ 0 → IsFound room line place 0
-found-none room line place start = record {
-  ends = none-kept line;
-  fits = inl refl;
-  longest = λ m before may room. omega (arith, before, start);
-}
-
 -- what is found at the end is kept, where this is the room beside the placeholder
 pub found-kept : {room width : ℕ} {placeholder line : List ℕ} {n : ℕ}
     → room + text_width placeholder ≡ width → IsFound room line (length line + 1) n
     → IsKeptBeginning width placeholder line n
-found-kept {line = line} {n = n} is h = record {
-  within = may_end-within line n h.ends.0;
-  ends = h.ends;
-  room = elim h.fits [ inl none ↦ inl none | inr has ↦ inr (omega (arith, has, is)) ];
-  longest = λ m may has. h.longest m (omega (arith, may_end-within line m may.0)) may
-      (omega (arith, has, is));
-}
+found-kept {line = line} {n = n} is h =
+    let ends : CanEnd line n = elim h.fits [
+      | inl none ↦ rw none (none-kept line)
+      | inr (may, has) ↦ may
+    ] in
+    record {
+      within = may_end-within line n ends.0;
+      ends = ends;
+      room = elim h.fits [ inl none ↦ inl none | inr (may, has) ↦ inr (omega (arith, has, is)) ];
+      longest = λ m may has. h.latest m (omega (arith, may_end-within line m may.0)) may
+          (omega (arith, has, is));
+    }
 
 module _ {room : ℕ} {line : List ℕ} (utf8 : IsUtf8 line) {place : ℕ} {rest : List ℕ}
     {state : State} {taken kept : ℕ} {after_blank : Bool}
     (read : IsReadTo line place rest state taken after_blank)
     (found : IsFound room line place kept) where
-  -- what else may have room before a later place is before this one
-  found-until : (end : ℕ)
-      → ((m : ℕ) → place ≤ m → m < end → CanEnd line m → HasRoom room line m → m ≡ 0)
-      → IsFound room line end kept
-  found-until end none = search (rules, arith)
+  boundary : (m : ℕ) → CanEnd line m → IsCharBoundary line m
+  boundary m may = may_end-boundary line m utf8 may.0
+
+  ends-here : after_blank ≡ false → state ≡ Text → BlankAhead line place → CanEnd line place
+  ends-here some outside ahead =
+      (may_end-here line place (sym read.blank ∙ some) ahead, read-whole read outside)
+
+  ends-other : (BlankAhead line place → after_blank ≡ false → state ≢ Text) → CanEnd line place
+      → place ≤ kept
+  ends-other other may =
+      let start = may_end-other line place may.0 (λ ahead. sym read.blank ∙ elim (cases_Bool after_blank) [
+        | inl is ↦ is
+        | inr some ↦ absurd (other ahead some (whole-read read may.1))
+      ]) in
+      omega (arith, start)
 
   -- past the room nothing has room
   pub found-past : room < taken → IsFound room line (length line + 1) kept
-  found-past past = found-until (length line + 1) (λ m later before may has.
-      let more = read-more utf8 read m later (may_end-boundary line m utf8 may.0) in
-      absurd (omega (arith, has, past, more)))
+  found-past over = latest-past utf8 read found (length line + 1) boundary over
 
   module _ (c : ℕ) (after : List ℕ) (is : rest ≡ encode_utf8 c ++ after) (end : ℕ)
       (past : end ≡ place + length (encode_utf8 c)) where
@@ -76,75 +81,40 @@ module _ {room : ℕ} {line : List ℕ} (utf8 : IsUtf8 line) {place : ℕ} {rest
     whole = read.read.place ∙ is
 
     -- in the character no beginning ends
-    outside : (m : ℕ) → m < end → CanEnd line m → m ≤ place
-    outside m before may = search (rules, arith, cases_lt, may_end-past, whole)
+    within : (m : ℕ) → m < end → CanEnd line m → m ≤ place
+    within m before may = before-character line utf8 place c after read.read.boundary whole m
+        (omega (arith, before, past)) (boundary m may)
 
     -- one may end before it
     pub found-here : taken ≤ room → c ≡ 32 → after_blank ≡ false → state ≡ Text
         → IsFound room line end place
-    found-here has blank some ended = record {
-      ends = (
-        may_end-here line utf8 place c after read.read.boundary whole (ap (λ x. eqb x 32) blank)
-            (sym read.blank ∙ some),
-        read-whole read ended,
-      );
-      fits = inr (omega (arith, has, read-width utf8 read));
-      longest = λ m before may room. outside m before may;
-    }
+    found-here has blank some outside = latest-here utf8 read found end within has (ends-here some outside
+        (blank-ahead line utf8 place c after read.read.boundary whole (ap (λ x. eqb x 32) blank)))
 
     -- none may
     pub found-on : (c ≡ 32 → after_blank ≡ false → state ≢ Text) → IsFound room line end kept
-    found-on other = found-until end (λ m later before may has.
-        let here : m ≡ place = omega (arith, later, outside m before may) in
-        let ended = whole-read read (subst (λ n. HasWholeSequences (take n line)) here may.1) in
-        here ∙ may_end-other line utf8 place c after read.read.boundary whole
-        (λ blank. sym read.blank ∙ elim (cases_Bool after_blank) [
-          | inl is ↦ is
-          | inr some ↦ absurd (other (eqb-true c 32 blank) some ended)
-        ])
-        (subst (λ n. can_end line n ≡ true) here may.0))
+    found-on other = latest-on utf8 read found end within (λ has. ends-other (λ ahead.
+        other (eqb-true c 32 (ahead-blank line utf8 place c after read.read.boundary whole ahead))))
 
   module _ (ended : length rest ≡ 0) where
     at_end : place ≡ length line
     at_end = read-all read.read ended
 
-    after_last : after_blank ≡ is_after_blank line (length line)
-    after_last = read.blank ∙ ap (is_after_blank line) at_end
+    last : (m : ℕ) → m < length line + 1 → CanEnd line m → m ≤ place
+    last m before may = omega (arith, before, at_end)
 
     -- the whole line may be kept
     pub found-whole : taken ≤ room → after_blank ≡ false → state ≡ Text
         → IsFound room line (length line + 1) (length line)
-    found-whole has some outside = record {
-      ends = (
-        may_end-whole line (sym after_last ∙ some),
-        subst (λ n. HasWholeSequences (take n line)) at_end (read-whole read outside),
-      );
-      fits = inr (subst (HasRoom room line) at_end
-          (omega (arith, has, read-width utf8 read)));
-      longest = λ m before may room. omega (arith, before);
-    }
+    found-whole has some outside = subst (IsFound room line (length line + 1)) at_end
+        (latest-here utf8 read found (length line + 1) last has (ends-here some outside (inl at_end)))
 
-    at_last : (m : ℕ) → place ≤ m → m < length line + 1 → m ≡ length line
-    at_last m later before = search (rules, arith, at_end)
-
-    -- it ends in a blank
-    pub found-blank : after_blank ≡ true → IsFound room line (length line + 1) kept
-    found-blank blank = found-until (length line + 1) (λ m later before may has.
-        let here = at_last m later before in
-        here ∙ may_end-blanks line (sym after_last ∙ blank)
-        (subst (λ n. can_end line n ≡ true) here may.0))
-
-    -- it ends in a sequence
-    pub found-open : state ≢ Text → IsFound room line (length line + 1) kept
-    found-open inside = found-until (length line + 1) (λ m later before may has.
-        absurd (inside (whole-read read
-        (subst (λ n. HasWholeSequences (take n line)) (at_last m later before ∙ sym at_end) may.1))))
+    -- it ends in a blank or in a sequence
+    pub found-rest : (after_blank ≡ false → state ≢ Text) → IsFound room line (length line + 1) kept
+    found-rest other =
+        latest-on utf8 read found (length line + 1) last (λ has. ends-other (λ ahead. other))
 
 -- ---- the first lines as they are, and the one after them cut
-
-texts-append : {Z : Type 0} (xs ys : List (CowStr Z))
-    → texts_of (xs ++ ys) ≡ texts_of xs ++ texts_of ys
-texts-append xs ys = search (rules, arith, map-append)
 
 pub cut-lines : {Z : Type 0} (breaks : Bool) (most width : ℕ) (placeholder : List ℕ)
     (lines : List (CowStr Z)) (n : ℕ) (line : CowStr Z) (last : Line) → n + 1 ≡ most → n < length lines
@@ -158,27 +128,223 @@ cut-lines breaks most width placeholder lines n line last number within is cut =
   last = last;
   lines_are =
       let left = drop_more lines n line within in
-      grind (arith, take-append-drop n lines, texts-append, left);
-  count = ap (λ k. k + 1) (length-map (map line_view (take n lines)) line_bytes
-      ∙ length-map (take n lines) line_view ∙ length-take-le n lines (omega (arith, within)))
-      ∙ number;
+      grind (arith, take-append-drop n lines, map-append, left);
+  count = grind (arith, length-map, length-take-le, within, number);
   cut = subst (λ l. IsShortened breaks width placeholder l last) (sym (line_bytes-line_view line)) cut;
   are = refl;
 }
 
--- a line of its own after others
-pub views-push : {Z : Type 0} (before after : List (CowStr Z)) (lines : List Line) (last : String Z)
-    → map line_view before ≡ lines → after ≡ before ++ Owned last ∷ []
-    → map line_view after ≡ lines ++ Built (string_bytes last) ∷ []
-views-push before after lines last are is = grind (arith, map-append)
+-- ---- the columns of the word that visible characters begin with
 
--- one more of the lines, as it is
-pub views-more : {Z : Type 0} (lines : List (CowStr Z)) (n : ℕ) (line : CowStr Z)
-    (before after : List (CowStr Z)) (old : List Line) (text : Bor (List ℕ)) → n < length lines
-    → line ≡ get_or lines n line → text.now ≡ cow_str_bytes line
-    → map line_view before ≡ old ++ map Slice (texts_of (take n lines))
-    → after ≡ before ++ Borrowed text ∷ []
-    → map line_view after ≡ old ++ map Slice (texts_of (take (n + 1) lines))
-views-more lines n line before after old text within is same so_far more =
-    let front = take_more lines n line within in
-    grind (arith, append_assoc, line_bytes-line_view, map-append, texts-append, front)
+abbrev pub word_columns : List ℕ → ℕ
+word_columns cs = sum_by columns (take_while (λ c. not (is_blank c)) cs)
+
+-- what is visible stands outside of sequences
+shown-outside : (s : State) (c : ℕ) → shows s c ≡ true → s ≡ Text
+shown-outside Text c shown = refl
+shown-outside _ c shown = absurd (false≢true shown)
+
+shown-plain : (s : State) (c : ℕ) → shows s c ≡ true → eqb c 27 ≡ false
+shown-plain s c shown = search (rules, arith, shown-outside)
+
+-- the first of these units takes columns where the first character is visible and does
+module _ (c : ℕ) (cs : List ℕ) where
+  next-visible : 0 < units_width (take 1 (units (c ∷ cs))) → (eqb c 27 ≡ false) × (0 < columns c)
+  next-visible wide = elim (cases_Bool (eqb c 27)) [
+    | inl esc ↦ absurd (omega (arith, rw esc at wide))
+    | inr other ↦ (other, omega (arith, rw other at wide))
+  ]
+
+  visible-next : (eqb c 27 ≡ false) → 0 < columns c → 0 < units_width (take 1 (units (c ∷ cs)))
+  visible-next other wide = rw other (omega (arith, wide))
+
+-- ---- the reader of a word's characters: where it stands, the characters ahead of it, and the last
+-- place before at which the word may be cut so that it has room
+
+abbrev pub IsFoundCut : ℕ → List ℕ → ℕ → ℕ → Type 0
+IsFoundCut left text = IsLatest (CanCut text 0) left text
+
+pub record IsReadWord (left : ℕ) (text : List ℕ) (ahead : List Character) (taken cut : ℕ) :
+    Type 0 where
+  pub state : State
+  pub place : ℕ
+  pub rest : List ℕ
+  pub after_blank : Bool
+  pub read : IsReadTo text place rest state taken after_blank
+  pub are : ahead ≡ characters_from state place (chars rest)
+  pub word : word_width text ≡ taken + word_columns (shown ahead)
+  pub found : IsFoundCut left text place cut
+
+pub read_word-start : (left : ℕ) (text : List ℕ) → IsUtf8 text
+    → IsReadWord left text (characters_of text) 0 0
+read_word-start left text utf8 = record {
+  state = Text;
+  place = 0;
+  rest = text;
+  after_blank = true;
+  read = read_to-start text utf8;
+  are = refl;
+  word = rw shown-from (omega arith);
+  found = latest-none (CanCut text 0) left text;
+}
+
+-- what is found at the end
+cut-whole : (left : ℕ) (text : List ℕ) (n : ℕ) → IsFoundCut left text (length text + 1) n
+    → IsCut left [] text 0 0 n
+cut-whole left text n h = record {
+  cut = elim h.fits [
+    | inl none ↦ inl none
+    | inr (may, room) ↦ inr (may, omega (arith, room, text_width-nil))
+  ];
+  latest = λ m may room. h.latest m (omega (arith, may.place.0)) may (omega (arith, room));
+}
+
+-- it stands before the next of them
+record IsTurn (left : ℕ) (text : List ℕ) (c : Character) (ahead : List Character)
+    (taken cut : ℕ) : Type 0 where
+  state : State
+  rest : List ℕ
+  after : List ℕ
+  after_blank : Bool
+  read : IsReadTo text c.at rest state taken after_blank
+  is : rest ≡ encode_utf8 c.ch ++ after
+  shown : c.is_visible ≡ shows state c.ch
+  are : ahead ≡ characters_from (next_of state c.ch) (c.at + length (encode_utf8 c.ch)) (chars after)
+  found : IsFoundCut left text c.at cut
+
+turn : (left : ℕ) (text : List ℕ) (c : Character) (ahead : List Character) (taken cut : ℕ)
+    → IsReadWord left text (c ∷ ahead) taken cut → IsTurn left text c ahead taken cut
+turn left text c ahead taken cut h = by (chars h.rest) refl h.are
+  where
+    by : (cs : List ℕ) → chars h.rest ≡ cs → c ∷ ahead ≡ characters_from h.state h.place cs
+        → IsTurn left text c ahead taken cut
+    by [] none is = absurd (omega (arith, ap length is))
+    by (d ∷ ds) some is =
+        let after = encode_utf8_all ds in
+        let e : h.rest ≡ encode_utf8 d ++ after =
+        sym (encodes-chars h.rest h.read.read.utf8) ∙ ap encode_utf8_all some in
+        let more : ds ≡ chars after = ap (drop 1) (sym some ∙ read-ahead h.read.read d after e) in
+        rw (ap (λ l. get_or l 0 c) is, ap (drop 1) is) (record {
+          state = h.state;
+          rest = h.rest;
+          after = after;
+          after_blank = h.after_blank;
+          read = h.read;
+          is = e;
+          shown = refl;
+          are = ap (characters_from (next_of h.state d) (h.place + length (encode_utf8 d))) more;
+          found = h.found;
+        })
+
+module _ {left : ℕ} {text : List ℕ} (utf8 : IsUtf8 text) {c : Character} {ahead : List Character}
+    {taken cut : ℕ} (h : IsReadWord left text (c ∷ ahead) taken cut) where
+  abbrev end_of : ℕ
+  end_of = c.at + length (encode_utf8 c.ch)
+
+  t : IsTurn left text c ahead taken cut
+  t = turn left text c ahead taken cut h
+
+  past : IsReadTo text end_of t.after (next_of t.state c.ch) (taken + added t.state c.ch) (eqb c.ch 32)
+  past = read_to-step utf8 t.read end_of c.ch t.after t.is refl
+
+  -- a character that is visible stands outside of sequences, and adds its columns
+  outside : c.is_visible ≡ true → t.state ≡ Text
+  outside is = shown-outside t.state c.ch (sym t.shown ∙ is)
+
+  adds : c.is_visible ≡ true → added t.state c.ch ≡ columns c.ch
+  adds is = rw (sym t.shown ∙ is) refl
+
+  -- the columns fit the text
+  pub turn-le : c.is_visible ≡ true → taken + columns c.ch ≤ length text
+  turn-le is = omega (arith, read-le utf8 past, adds is)
+
+  -- the units that follow the place begin with this character
+  first : units (chars (drop c.at text)) ≡ units (c.ch ∷ chars t.after)
+  first = ap (λ l. units (chars l)) t.read.read.place
+      ∙ ap units (read-ahead t.read.read c.ch t.after t.is)
+
+  before_end : (m : ℕ) → m < end_of → CanCut text 0 m → m ≤ c.at
+  before_end m before may = before-character text utf8 c.at c.ch t.after t.read.read.boundary
+      (t.read.read.place ∙ t.is) m before may.place
+
+  -- where a word may be cut directly before this character, it is visible and has columns
+  before_it : CanCut text 0 c.at → (c.is_visible ≡ true) × (0 < columns c.ch) × (0 < taken)
+  before_it may =
+      let next = next-visible c.ch (chars t.after)
+      (subst (λ us. 0 < units_width (take 1 us)) first may.before) in (
+        t.shown ∙ rw (whole-read t.read may.whole, next.0) refl,
+        next.1,
+        omega (arith, may.behind, read-width utf8 t.read),
+      )
+
+  -- it is no place for a cut
+  pub cut-past : (c.is_visible ≡ true → 0 < columns c.ch → 0 < taken → taken ≤ left → ⊥)
+      → IsFoundCut left text end_of cut
+  cut-past none = latest-on utf8 t.read t.found end_of before_end (λ has may.
+      let (shown, wide, some) = before_it may in absurd (none shown wide some has))
+
+  -- it is one
+  pub cut-here : c.is_visible ≡ true → 0 < columns c.ch → 0 < taken → taken ≤ left
+      → IsFoundCut left text end_of c.at
+  cut-here is wide some room = latest-here utf8 t.read t.found end_of before_end room (record {
+    after = omega arith;
+    behind = omega (arith, some, read-width utf8 t.read, text_width-nil);
+    place = t.read.read.boundary;
+    before = subst (λ us. 0 < units_width (take 1 us)) (sym first)
+        (visible-next c.ch (chars t.after) (shown-plain t.state c.ch (sym t.shown ∙ is)) wide);
+    whole = read-whole t.read (outside is);
+  })
+
+  -- the reader behind it
+  read_word-next : (more new : ℕ) → more ≡ taken + added t.state c.ch
+      → word_width text ≡ more + word_columns (shown ahead)
+      → IsFoundCut left text end_of new → IsReadWord left text ahead more new
+  read_word-next more new are word found = record {
+    state = next_of t.state c.ch;
+    place = end_of;
+    rest = t.after;
+    after_blank = eqb c.ch 32;
+    read = rw are past;
+    are = t.are;
+    word = word;
+    found = found;
+  }
+
+  -- ---- one turn: over a character that is not visible, over one of the word, or to its end
+
+  pub turn-hidden : c.is_visible ≡ false → IsReadWord left text ahead taken cut
+  turn-hidden is =
+      let none : added t.state c.ch ≡ 0 = rw (sym t.shown ∙ is) refl in
+      read_word-next taken cut (omega (arith, none)) (rw is at h.word)
+      (cut-past (λ visible wide some room. absurd (false≢true (sym is ∙ visible))))
+
+  word-more : c.is_visible ≡ true → c.ch ≢ 32
+      → word_width text ≡ taken + columns c.ch + word_columns (shown ahead)
+  word-more is other =
+      let plain = ne_eqb c.ch 32 other in
+      let rest = sum_by-cons columns c.ch (take_while (λ d. not (is_blank d)) (shown ahead)) in
+      omega (arith, rw (is, take_while-cons, plain) at h.word, rest)
+
+  pub turn-word : (more new : ℕ) → c.is_visible ≡ true → c.ch ≢ 32 → more ≡ taken + columns c.ch
+      → IsFoundCut left text end_of new → IsReadWord left text ahead more new
+  turn-word more new is other sum found =
+      read_word-next more new (omega (arith, sum, adds is)) (omega (arith, sum, word-more is other)) found
+
+  -- the word is wider than the room, and more has no room
+  pub turn-wide : c.is_visible ≡ true → c.ch ≢ 32 → taken + columns c.ch ≤ word_width text
+  turn-wide is other = omega (arith, word-more is other)
+
+  pub turn-full : (new : ℕ) → c.is_visible ≡ true → left < taken + columns c.ch
+      → IsFoundCut left text end_of new → IsCut left [] text 0 0 new
+  turn-full new is over found =
+      cut-whole left text new (latest-past utf8 past found (length text + 1) (λ m may. may.place)
+      (omega (arith, over, adds is)))
+
+  pub turn-end : c.is_visible ≡ true → c.ch ≡ 32 → word_width text ≡ taken
+  turn-end is blank =
+      omega (arith, rw (is, take_while-cons, ap (λ x. eqb x 32) blank) at h.word)
+
+-- at the end of the text
+pub word-all : (left : ℕ) (text : List ℕ) (taken cut : ℕ) → IsReadWord left text [] taken cut
+    → word_width text ≡ taken
+word-all left text taken cut h = omega (arith, h.word)

@@ -1,33 +1,46 @@
--- The beginning of a line that is kept: its words, where it may end, and the reader that finds it.
+-- The beginning of a line that is kept: its words, where it may end, and the reader that finds it,
+-- which is outside of sequences where the beginning ends in none.
 use Rattle.std.{proofs.Math.Seq.take-add, proofs.lemmas.Str.IsCharBoundary-end, specs.Prelude.chars}
-use Rattle.textwrap_display.proofs.Common.{AreBlanks, IsCharBoundary-start, IsRead, State, added}
-use Rattle.textwrap_display.proofs.Common.{can_end, chunks, chunks-from, encode_ascii, encode_utf8}
-use Rattle.textwrap_display.proofs.Common.{is_blank, is_cut, read-next, read-start, word_of}
-use Rattle.textwrap_display.proofs.Common.{word_texts}
-use Rattle.textwrap_text.proofs.Common.{All-cons, All-head, All-nil, All-tail, Bool, IsCharBoundary}
-use Rattle.textwrap_text.proofs.Common.{IsUncut, IsUtf8, IsUtf8-take, List, [], add-zero, ap}
-use Rattle.textwrap_text.proofs.Common.{append-nil, append_assoc, arith, cases_Bool, cases_lt}
-use Rattle.textwrap_text.proofs.Common.{chars-append, chars-nil, drop, drop_all, eqb, eqb-false}
-use Rattle.textwrap_text.proofs.Common.{eqb-true, false, get_or, get_or-drop, get_or_past, inl, inr}
+use Rattle.textwrap_display.proofs.Common.{AreBlanks, IsCharBoundary-start, IsRead, IsWhole, State}
+use Rattle.textwrap_display.proofs.Common.{Text, added, can_end, chunks, chunks-from, encode_ascii}
+use Rattle.textwrap_display.proofs.Common.{encode_utf8, ends, is_blank, is_cut, map-map, read-next}
+use Rattle.textwrap_display.proofs.Common.{read-start, units, units-append, word_of, word_texts}
+use Rattle.textwrap_layout.specs.Text.{HasWholeSequences}
+use Rattle.textwrap_text.proofs.Common.{All, All-cons, All-head, All-nil, All-tail, AreUnits, Bool}
+use Rattle.textwrap_text.proofs.Common.{IsCharBoundary, IsUncut, IsUtf8, IsUtf8-take, List}
+use Rattle.textwrap_text.proofs.Common.{Sequence, TextUnit, Visible, [], add-zero, ap, append-nil}
+use Rattle.textwrap_text.proofs.Common.{append_assoc, arith, cases_Bool, cases_lt, characters}
+use Rattle.textwrap_text.proofs.Common.{chars-append, chars-nil, columns, drop, drop_all, eqb}
+use Rattle.textwrap_text.proofs.Common.{eqb-false, eqb-true, escape, false, flat_map}
+use Rattle.textwrap_text.proofs.Common.{flat_map-append, get_or, get_or-drop, get_or_past, inl, inr}
 use Rattle.textwrap_text.proofs.Common.{length, length-map, length-take-le, length_push, map}
-use Rattle.textwrap_text.proofs.Common.{nat_tests, next_of, refl, reverse-append, rules}
-use Rattle.textwrap_text.proofs.Common.{slice_range, subst, sym, take, take-append-drop}
-use Rattle.textwrap_text.proofs.Common.{take-append-le, take_at, text_width, true, ℕ, ◌++◌, ◌+◌}
-use Rattle.textwrap_text.proofs.Common.{◌-◌, ◌<◌, ◌||◌, ◌∙◌, ◌∷◌, ◌≡◌, ◌≤◌, ◌⊎◌}
-use Rattle.textwrap_text.proofs.{Lists.Parts.take_slice, Texts.ascii-here, Texts.ends-within}
-use Rattle.textwrap_text.proofs.{Texts.some-bytes, Texts.starts-within, Units.Reading.chars-push}
-use Rattle.textwrap_text.proofs.Units.Reading.{columns_in, columns_in-step, text_width-le}
+use Rattle.textwrap_text.proofs.Common.{nat_tests, next_of, refl, reverse-append, rules, subst}
+use Rattle.textwrap_text.proofs.Common.{sum_by, sum_by-append, sym, take, take-append-drop}
+use Rattle.textwrap_text.proofs.Common.{take-append-le, take_all, take_at, text_width, true}
+use Rattle.textwrap_text.proofs.Common.{visible_of, ℕ, ◌++◌, ◌+◌, ◌-◌, ◌<◌, ◌||◌, ◌∙◌, ◌∷◌, ◌≡◌}
+use Rattle.textwrap_text.proofs.{Common.◌≢◌, Common.◌≤◌, Common.◌⊎◌, Lists.Parts.take_slice}
+use Rattle.textwrap_text.proofs.Texts.{ascii-here, ends-within, some-bytes, starts-within}
+use Rattle.textwrap_text.proofs.Units.Reading.{chars-push, columns-printable, columns_in}
+use Rattle.textwrap_text.proofs.Units.Reading.{columns_in-step, text_width-le, units_in-inside}
+use Rattle.textwrap_text.proofs.Units.Texts.{IsInUnits-units, units-tile, units_unique}
 use Rattle.textwrap_text.specs.Blanks.{final_blanks, trimmed_len, without_final_blanks}
-use Rattle.textwrap_text.specs.declared.escapes.State.TheVariants.{Text}
+use Rattle.textwrap_text.specs.Units.{IsOpen, visible}
 use Rattle.textwrap_words.proofs.Word.Ahead.{character-within, plain-bytes}
 use Rattle.textwrap_words.proofs.Word.Texts.{final_blanks-blank}
 
 -- ---- where a beginning of a line may end: these places are within the line, and characters end
 -- there
 
+-- a blank follows, or nothing
+abbrev pub BlankAhead : List ℕ → ℕ → Type 0
+BlankAhead line n = (n ≡ length line) ⊎ (is_blank (get_or line n 0) ≡ true)
+
+-- whether nothing or a blank stands before the place
+abbrev pub is_after_blank : List ℕ → ℕ → Bool
+is_after_blank line n = (eqb n 0) || is_blank (get_or line (n - 1) 0)
+
 pub may_end-cases : (line : List ℕ) (n : ℕ) → can_end line n ≡ true
-    → (n ≡ 0) ⊎ ((is_blank (get_or line (n - 1) 0) ≡ false)
-    × ((n ≡ length line) ⊎ (is_blank (get_or line n 0) ≡ true)))
+    → (n ≡ 0) ⊎ ((is_blank (get_or line (n - 1) 0) ≡ false) × BlankAhead line n)
 may_end-cases line n may = grind (arith, cases_Bool, eqb-true)
 
 pub may_end-within : (line : List ℕ) (n : ℕ) → can_end line n ≡ true → n ≤ length line
@@ -38,11 +51,15 @@ pub may_end-boundary : (line : List ℕ) (n : ℕ) → IsUtf8 line → can_end l
 may_end-boundary line n utf8 may =
     search (rules, arith, may_end-cases, IsCharBoundary-start, IsCharBoundary-end, eqb-true, may_end-within)
 
--- ---- where a character begins
+pub may_end-here : (line : List ℕ) (n : ℕ) → is_after_blank line n ≡ false → BlankAhead line n
+    → can_end line n ≡ true
+may_end-here line n some ahead = grind (arith, cases_Bool, nat_tests)
 
--- whether nothing or a blank stands before the place
-abbrev pub is_after_blank : List ℕ → ℕ → Bool
-is_after_blank line n = (eqb n 0) || is_blank (get_or line (n - 1) 0)
+pub may_end-other : (line : List ℕ) (n : ℕ) → can_end line n ≡ true
+    → (BlankAhead line n → is_after_blank line n ≡ true) → n ≡ 0
+may_end-other line n may none = grind (arith, may_end-cases, cases_Bool)
+
+-- ---- where a character begins
 
 module _ (line : List ℕ) (utf8 : IsUtf8 line) (place c : ℕ) (after : List ℕ)
     (here : IsCharBoundary line place) (is : drop place line ≡ encode_utf8 c ++ after) where
@@ -62,32 +79,24 @@ module _ (line : List ℕ) (utf8 : IsUtf8 line) (place c : ℕ) (after : List �
   first-blank : is_blank (get_or line place 0) ≡ eqb c 32
   first-blank = byte-blank place (omega arith) (omega (arith, some-bytes c))
 
-  pub may_end-here : eqb c 32 ≡ true → is_after_blank line place ≡ false
-      → can_end line place ≡ true
-  may_end-here blank some = grind (arith, first-blank, cases_Bool)
+  pub blank-ahead : eqb c 32 ≡ true → BlankAhead line place
+  blank-ahead blank = inr (first-blank ∙ blank)
 
-  pub may_end-other : (eqb c 32 ≡ true → is_after_blank line place ≡ true)
-      → can_end line place ≡ true → place ≡ 0
-  may_end-other none may = grind (arith, first-blank, may_end-cases, cases_Bool, starts-within)
+  pub ahead-blank : BlankAhead line place → eqb c 32 ≡ true
+  ahead-blank ahead = search (rules, arith, first-blank, starts-within)
 
-  -- inside a character no line may end
-  pub may_end-past : (m : ℕ) → place < m → can_end line m ≡ true
-      → place + length (encode_utf8 c) ≤ m
-  may_end-past m past may = search (rules, arith, character-within, may_end-boundary)
+  -- inside it nothing ends
+  pub before-character : (m : ℕ) → m < place + length (encode_utf8 c) → IsCharBoundary line m
+      → m ≤ place
+  before-character m before cut = elim (cases_lt place m) [
+    | inl later ↦
+        absurd (omega (arith, before, character-within line utf8 place c after here is m later cut))
+    | inr up ↦ up
+  ]
 
   pub after_blank-past : (end : ℕ) → end ≡ place + length (encode_utf8 c)
       → is_after_blank line end ≡ eqb c 32
   after_blank-past end past = search (rules, arith, byte-blank, some-bytes, cases_Bool)
-
--- ---- the end of the line
-
-pub may_end-whole : (line : List ℕ) → is_after_blank line (length line) ≡ false
-    → can_end line (length line) ≡ true
-may_end-whole line some = grind (arith, cases_Bool, nat_tests)
-
-pub may_end-blanks : (line : List ℕ) → is_after_blank line (length line) ≡ true
-    → can_end line (length line) ≡ true → length line ≡ 0
-may_end-blanks line blank may = grind (arith, may_end-cases, cases_Bool)
 
 -- ---- the words of a line's beginning, where blanks follow it, are the first words of the line
 
@@ -120,8 +129,7 @@ trimmed-blanks text bs blanks = grind (arith, trimmed_len-blanks, take-append-le
 
 word_texts-parts : (parts : List (List ℕ))
     → map (λ w. w.word) (map word_of parts) ≡ map without_final_blanks parts
-word_texts-parts [] = refl
-word_texts-parts (part ∷ parts) = ap (λ l. without_final_blanks part ∷ l) (word_texts-parts parts)
+word_texts-parts parts = map-map (λ w. w.word) word_of parts
 
 -- blanks at the end of a text stay final ones behind one more byte
 trimmed-cons : (c : ℕ) (part : List ℕ)
@@ -192,20 +200,12 @@ module _ {line : List ℕ} (utf8 : IsUtf8 line) {place : ℕ} {rest : List ℕ} 
       let whole = h.read.place ∙ is in
       let front = take place line in
       let bytes : take end line ≡ front ++ encode_utf8 c =
-      ap (λ n. take n line) past ∙ take-add place (length (encode_utf8 c)) line
-      ∙ ap (λ l. front ++ l) (ap (take (length (encode_utf8 c))) whole
-      ∙ take_at (encode_utf8 c) after (length (encode_utf8 c)) refl) in
+      rw (past, take-add, whole) (ap (λ l. front ++ l) (take_at (encode_utf8 c) after _ refl)) in
       let more = ap chars bytes ∙ chars-push front c (IsUtf8-take line place utf8 h.read.boundary)
       (subst IsUtf8 bytes (IsUtf8-take line end utf8 next.boundary)) in
       record {
         read = next;
-        columns = λ ds. omega (
-          arith,
-          ap (λ cs. columns_in Text (cs ++ ds)) more
-              ∙ ap (columns_in Text) (append_assoc (chars front) (c ∷ []) ds),
-          h.columns (c ∷ ds),
-          columns_in-step state c ds,
-        );
+        columns = λ ds. rw (more, append_assoc, h.columns) (omega (arith, columns_in-step state c ds));
         blank = sym (after_blank-past line utf8 place c after h.read.boundary whole end past);
       }
 
@@ -219,10 +219,162 @@ module _ {line : List ℕ} (utf8 : IsUtf8 line) {place : ℕ} {rest : List ℕ} 
   -- no later beginning has fewer columns
   pub read-more : (m : ℕ) → place ≤ m → IsCharBoundary line m → taken ≤ text_width (take m line)
   read-more m later cut =
-      let between = slice_range line place m in
-      let parts : text_width (take m line) ≡ taken + columns_in state (chars between) =
-      ap text_width (take_slice line place m later)
-      ∙ ap (columns_in Text) (chars-append (take place line) between
-      (IsUtf8-take line place utf8 h.read.boundary))
-      ∙ h.columns (chars between) in
-      omega (arith, parts)
+      let front = IsUtf8-take line place utf8 h.read.boundary in
+      rw (take_slice line place m later, chars-append (take place line) _ front, h.columns) (omega arith)
+
+-- ---- the latest place before another at which a part of the line may end, by what `May` says, so
+-- that it has room; or 0
+
+abbrev pub HasRoom : ℕ → List ℕ → ℕ → Type 0
+HasRoom room line n = text_width (take n line) ≤ room
+
+pub record IsLatest (May : ℕ → Type 0) (room : ℕ) (line : List ℕ) (place kept : ℕ) : Type 0 where
+  pub fits : (kept ≡ 0) ⊎ (May kept × HasRoom room line kept)
+  pub latest : (m : ℕ) → m < place → May m → HasRoom room line m → m ≤ kept
+
+pub latest-none : (May : ℕ → Type 0) (room : ℕ) (line : List ℕ) → IsLatest May room line 0 0
+latest-none May room line =
+    record { fits = inl refl; latest = λ m before may has. absurd (omega (arith, before)) }
+
+module _ {May : ℕ → Type 0} {room : ℕ} {line : List ℕ} (utf8 : IsUtf8 line) {place : ℕ}
+    {rest : List ℕ} {state : State} {taken kept : ℕ} {after_blank : Bool}
+    (read : IsReadTo line place rest state taken after_blank)
+    (found : IsLatest May room line place kept) (end : ℕ) where
+  latest-until : ((m : ℕ) → place ≤ m → m < end → May m → HasRoom room line m → m ≤ kept)
+      → IsLatest May room line end kept
+  latest-until none = record {
+    fits = found.fits;
+    latest = λ m before may has. elim (cases_lt m place) [
+      | inl less ↦ found.latest m less may has
+      | inr later ↦ none m later before may has
+    ];
+  }
+
+  -- past the room nothing has room
+  pub latest-past : ((m : ℕ) → May m → IsCharBoundary line m) → room < taken
+      → IsLatest May room line end kept
+  latest-past boundary over = latest-until (λ m later before may has.
+      absurd (omega (arith, has, over, read-more utf8 read m later (boundary m may))))
+
+  -- where no place between may be one
+  module _ (within : (m : ℕ) → m < end → May m → m ≤ place) where
+    pub latest-here : taken ≤ room → May place → IsLatest May room line end place
+    latest-here has may = record {
+      fits = inr (may, omega (arith, has, read-width utf8 read));
+      latest = λ m before own room. within m before own;
+    }
+
+    pub latest-on : (taken ≤ room → May place → place ≤ kept) → IsLatest May room line end kept
+    latest-on none = latest-until (λ m later before may has.
+        let here : m ≡ place = omega (arith, later, within m before may) in
+        let wide = ap (λ n. text_width (take n line)) here in
+        omega (arith, here, none (omega (arith, has, wide, read-width utf8 read)) (subst May here may)))
+
+-- ---- units of which the last has no end
+
+record EndsOpen (us : List TextUnit) : Type 0 where
+  front : List TextUnit
+  body : List ℕ
+  are : us ≡ front ++ Sequence (escape ∷ body) ∷ []
+  whole : All IsWhole front
+  opens : (k : ℕ) → k ≤ length body → ends (take k body) ≡ false
+
+whole-or-open : (us : List TextUnit) → AreUnits us → All IsWhole us ⊎ EndsOpen us
+whole-or-open [] are = inl (All-nil IsWhole)
+whole-or-open (u ∷ []) (inl whole) = inl (All-cons IsWhole u [] whole (All-nil IsWhole))
+whole-or-open (Visible c ∷ []) (inr impossible) = absurd impossible
+whole-or-open (Sequence cs ∷ []) (inr (body, is, none)) = inr (record {
+  front = [];
+  body = body;
+  are = ap (λ l. Sequence l ∷ []) is;
+  whole = All-nil IsWhole;
+  opens = none;
+})
+whole-or-open (u ∷ v ∷ us) (whole, rest) = elim (whole-or-open (v ∷ us) rest) [
+  | inl all ↦ inl (All-cons IsWhole u (v ∷ us) whole all)
+  | inr h ↦ inr (record {
+    front = u ∷ h.front;
+    body = h.body;
+    are = ap (λ l. u ∷ l) h.are;
+    whole = All-cons IsWhole u h.front whole h.whole;
+    opens = h.opens;
+  })
+]
+
+-- one more unit after whole ones
+units-push : (us : List TextUnit) (u : TextUnit) → All IsWhole us → IsWhole u ⊎ IsOpen u
+    → AreUnits (us ++ u ∷ [])
+units-push [] u whole is = is
+units-push (v ∷ []) u whole is = search (rules, arith, All-head)
+units-push (v ∷ w ∷ us) u whole is = search (rules, arith, All-head, All-tail, units-push (w ∷ us))
+
+-- one more character belongs to the last one, whether it ends it or not
+longer-unit : (body : List ℕ) (c : ℕ)
+    → ((k : ℕ) → k ≤ length body → ends (take k body) ≡ false)
+    → IsWhole (Sequence (escape ∷ (body ++ c ∷ []))) ⊎ IsOpen (Sequence (escape ∷ (body ++ c ∷ [])))
+longer-unit body c opens =
+    let more = body ++ c ∷ [] in
+    let len = length_push body c in
+    let earlier : (k : ℕ) → k ≤ length body → ends (take k more) ≡ false =
+    λ k within. ap ends (take-append-le k body (c ∷ []) within) ∙ opens k within in
+    elim (cases_Bool (ends more)) [
+      | inl ended ↦ inl (more, refl, ended, λ k below. earlier k (omega (arith, below, len)))
+      | inr on ↦ inr (
+        more,
+        refl,
+        λ k within. elim (cases_lt (length body) k) [
+          | inl past ↦ ap ends (take_all k more (omega (arith, past, len))) ∙ on
+          | inr up ↦ earlier k up
+        ],
+      )
+    ]
+
+open-takes : (cs : List ℕ) (c : ℕ) → EndsOpen (units cs) → visible (cs ++ c ∷ []) ≡ visible cs
+open-takes cs c h =
+    let new = Sequence (escape ∷ (h.body ++ c ∷ [])) in
+    let tile : flat_map characters (h.front ++ new ∷ []) ≡ cs ++ c ∷ [] =
+    grind (arith, units-tile cs, h.are, flat_map-append, append-nil, append_assoc) in
+    let same = (units_unique (cs ++ c ∷ []) (h.front ++ new ∷ [])).0
+    (tile, units-push h.front new h.whole (longer-unit h.body c h.opens)) in
+    grind (arith, same, h.are, flat_map-append)
+
+-- ---- the reader of the characters of a text
+
+state-cases : (s : State) → (s ≡ Text) ⊎ (s ≢ Text)
+state-cases _ = search (rules, arith)
+
+-- a letter, which has a column outside of sequences alone
+letter-outside : columns_in Text (120 ∷ []) ≡ 1
+letter-outside = omega (arith, columns-printable 120 (omega arith, omega arith))
+
+letter-inside : (s : State) → s ≢ Text → columns_in s (120 ∷ []) ≡ 0
+letter-inside s inside = ap (λ us. sum_by columns (flat_map visible_of us))
+    (units_in-inside s 120 [] inside)
+
+module _ {line : List ℕ} {place : ℕ} {rest : List ℕ} {state : State} {taken : ℕ}
+    {after_blank : Bool} (h : IsReadTo line place rest state taken after_blank) where
+  pub read-whole : state ≡ Text → HasWholeSequences (take place line)
+  read-whole is =
+      let cs = chars (take place line) in
+      elim (whole-or-open (units cs) (IsInUnits-units cs).1) [
+        | inl whole ↦ whole
+        | inr opens ↦
+            let own = ap (columns_in Text) (append-nil cs) in
+            let none = ap (sum_by columns) (open-takes cs 120 opens) in
+            let one = ap (λ s. columns_in s (120 ∷ [])) is in
+            let nothing : columns_in state [] ≡ 0 = refl in
+            absurd (omega (arith, h.columns (120 ∷ []), h.columns [], own, none, one, letter-outside))
+      ]
+
+  pub whole-read : HasWholeSequences (take place line) → state ≡ Text
+  whole-read whole =
+      let cs = chars (take place line) in
+      elim (state-cases state) [
+        | inl is ↦ is
+        | inr inside ↦
+            let own = ap (columns_in Text) (append-nil cs) in
+            let one : columns_in Text (cs ++ 120 ∷ [])
+            ≡ columns_in Text cs + columns_in Text (120 ∷ []) =
+            grind (arith, units-append cs (120 ∷ []) whole, flat_map-append, sum_by-append) in
+            absurd (omega (arith, h.columns (120 ∷ []), h.columns [], own, one, letter-outside, letter-inside state inside))
+      ]

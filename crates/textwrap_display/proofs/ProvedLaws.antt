@@ -1,12 +1,12 @@
 -- The lemmas that the laws are proved by.
 use Rattle.textwrap_display.proofs.FittingWidths.{fitting-least, fitting-most, fitting-scarce}
 use Rattle.textwrap_display.proofs.FittingWidths.{fitting-sum, fitting-within}
-use Rattle.textwrap_display.proofs.KeptWords.{word_texts-take}
-use Rattle.textwrap_display.proofs.PennedLines.{aligned-pens, justified-pens, rows-apart}
-use Rattle.textwrap_display.proofs.TabTexts.{expanded-cut, expanded-free, expanded-lines}
-use Rattle.textwrap_display.proofs.TabTexts.{expanded-twice, no_tab-left, tab-reaches}
-use Rattle.textwrap_display.proofs.TableRows.{each-line-shown, rows-even}
-use Rattle.textwrap_display.proofs.Widths.{aligned-width, justified-width}
+use Rattle.textwrap_display.proofs.{KeptWords.word_texts-take, TabTexts.expanded-cut}
+use Rattle.textwrap_display.proofs.TabTexts.{expanded-free, expanded-lines, expanded-twice}
+use Rattle.textwrap_display.proofs.TabTexts.{no_tab-left, tab-reaches}
+use Rattle.textwrap_display.proofs.TableGroups.{each-line-shown, rows-even}
+use Rattle.textwrap_display.proofs.Widths.{aligned-pens, aligned-width, justified-pens}
+use Rattle.textwrap_display.proofs.Widths.{justified-width, rows-apart}
 
 pub ruleset lines = (aligned-pens, aligned-width, justified-pens, justified-width, word_texts-take)
 

@@ -1,10 +1,15 @@
--- Lines that were cut: what is kept and what closes it, what they show, and their widths; and that
--- only one number of bytes may be kept.
+-- Lines that are cut: whole words are kept, and of the next word, which is a text by itself, what has
+-- room; what closes that, what the lines show, and their widths. Only one number of bytes may be kept.
+use Rattle.std.proofs.lemmas.{List.Sums.prefix_len-le-length, Str.IsCharBoundary-from_rest}
 use Rattle.std.specs.Prelude.{chars}
-use Rattle.textwrap_display.proofs.Common.{IsShortened, IsWholeText, Line, closing, concat}
-use Rattle.textwrap_display.proofs.Common.{line_bytes, sequences, text_width-append, units}
-use Rattle.textwrap_display.proofs.{CutWords.no_columns, KeptParts.kept-room, KeptParts.kept-whole}
-use Rattle.textwrap_display.specs.Shortening.{IsCut, IsKeptBeginning, IsKeptLength}
+use Rattle.textwrap_display.proofs.Common.{CanCut, IsCut, IsKeptBeginning, IsShortened, IsWhole}
+use Rattle.textwrap_display.proofs.Common.{IsWholeText, Line, closing, concat, indent_len, is_blank}
+use Rattle.textwrap_display.proofs.Common.{line_bytes, sequences, text_width-append, text_width-nil}
+use Rattle.textwrap_display.proofs.{Common.units, Common.word_width, KeptLines.none-kept}
+use Rattle.textwrap_display.proofs.{KeptWords.may_end-boundary, Widths.indent-blanks}
+use Rattle.textwrap_display.specs.Shortening.{IsKeptLength, LeavesRoom, is_too_wide}
+use Rattle.textwrap_layout.{proofs.Paragraph.LeftOff.blanks-utf8, specs.Text.HasWholeSequences}
+use Rattle.textwrap_lines.proofs.Text.Printed.{blanks-whole}
 use Rattle.textwrap_styles.proofs.{PenStyles.ended, SequenceTexts.IsSequence}
 use Rattle.textwrap_styles.proofs.SequenceTexts.{closing-is, closing-sequences, closing_sequences}
 use Rattle.textwrap_styles.proofs.SequenceTexts.{concat-units, concat-whole, none-visible}
@@ -12,10 +17,226 @@ use Rattle.textwrap_styles.proofs.SequenceTexts.{penned-append, sequence_units, 
 use Rattle.textwrap_styles.proofs.SequenceTexts.{text_units-append, units-again, whole_text-append}
 use Rattle.textwrap_styles.specs.Penned.{penned_text, penned_units, plain_rendition, rendition_of}
 use Rattle.textwrap_styles.specs.Styled.{EndsPlain}
-use Rattle.textwrap_text.proofs.Common.{All, Bool, IsUtf8, List, ap, append-nil, arith, drop}
-use Rattle.textwrap_text.proofs.Common.{flat_map-append, inl, inr, length, rules, subst, sym, take}
-use Rattle.textwrap_text.proofs.Common.{take-append-drop, take_at, text_width, ℕ, ◌++◌, ◌+◌, ◌∙◌}
-use Rattle.textwrap_text.proofs.Common.{◌≡◌, ◌≤◌}
+use Rattle.textwrap_text.proofs.Common.{All, All-append, Bool, IsCharBoundary}
+use Rattle.textwrap_text.proofs.Common.{IsCharBoundary-from_drop, IsCharBoundary-from_take, IsUtf8}
+use Rattle.textwrap_text.proofs.Common.{IsUtf8-drop, IsUtf8-take, List, [], and_parts, ap}
+use Rattle.textwrap_text.proofs.Common.{append-nil, arith, cases_lt, drop, drop-drop}
+use Rattle.textwrap_text.proofs.Common.{flat_map-append, inl, inr, length, length-drop}
+use Rattle.textwrap_text.proofs.Common.{length-prefix_len, ltb-false, ltb-true, refl, rules, subst}
+use Rattle.textwrap_text.proofs.Common.{sym, take, take-add, take-append-drop, take_at, text_width}
+use Rattle.textwrap_text.proofs.Common.{true, units_width, ℕ, ◌&&◌, ◌++◌, ◌+◌, ◌-◌, ◌<◌, ◌∙◌, ◌≡◌}
+use Rattle.textwrap_text.proofs.{Common.◌≢◌, Common.◌≤◌, Common.◌⊎◌, Lists.Parts.all-right}
+
+-- ---- a word in a line, as a text by itself
+
+module _ {width : ℕ} {placeholder line : List ℕ} (utf8 : IsUtf8 line) {words start : ℕ}
+    (kept : IsKeptBeginning width placeholder line words)
+    (next : start ≡ words + indent_len (drop words line)) where
+  abbrev front : List ℕ
+  front = take start line
+
+  abbrev word : List ℕ
+  word = drop start line
+
+  abbrev gap : List ℕ
+  gap = take (indent_len (drop words line)) (drop words line)
+
+  front-is : front ≡ take words line ++ gap
+  front-is = ap (λ n. take n line) next ∙ take-add words (indent_len (drop words line)) line
+
+  words-whole : IsWholeText (take words line)
+  words-whole = (
+    IsUtf8-take line words utf8 (may_end-boundary line words utf8 kept.ends.0),
+    kept.ends.1,
+  )
+
+  gap-whole : IsWholeText gap
+  gap-whole =
+      let blanks = indent-blanks (drop words line) in (blanks-utf8 gap blanks, blanks-whole gap blanks)
+
+  front-whole : IsWholeText front
+  front-whole = subst IsWholeText (sym front-is) (whole_text-append (take words line) gap words-whole
+      gap-whole)
+
+  pub start-within : start ≤ length line
+  start-within =
+      let few = prefix_len-le-length is_blank (drop words line) in
+      omega (arith, next, few, kept.within, length-drop words line)
+
+  pub start-boundary : IsCharBoundary line start
+  start-boundary = IsCharBoundary-from_take line start utf8 start-within front-whole.0
+
+  longer : (k : ℕ) → take (start + k) line ≡ front ++ take k word
+  longer k = take-add start k line
+
+  longer-width : (k : ℕ) → text_width (take (start + k) line)
+      ≡ text_width front + text_width (take k word)
+  longer-width k =
+      ap text_width (longer k) ∙ text_width-append front (take k word) front-whole.0 front-whole.1
+
+  longer-units : (k : ℕ) → units (chars (take (start + k) line))
+      ≡ units (chars front) ++ units (chars (take k word))
+  longer-units k =
+      ap (λ l. units (chars l)) (longer k) ∙ text_units-append front (take k word) front-whole
+
+  longer-whole : (k : ℕ) → HasWholeSequences (take k word)
+      → HasWholeSequences (take (start + k) line)
+  longer-whole k whole = subst (All IsWhole) (sym (longer-units k))
+      (All-append IsWhole (units (chars front)) (units (chars (take k word))) front-whole.1 whole)
+
+  longer-own : (k : ℕ) → HasWholeSequences (take (start + k) line)
+      → HasWholeSequences (take k word)
+  longer-own k whole = all-right IsWhole (units (chars front)) (units (chars (take k word)))
+      (subst (All IsWhole) (longer-units k) whole)
+
+  rest-of : (k : ℕ) → drop (start + k) line ≡ drop k word
+  rest-of k = ap (λ n. drop n line) (omega arith) ∙ sym (drop-drop k start line)
+
+  to-line : (k : ℕ) → CanCut word 0 k → CanCut line start (start + k)
+  to-line k may =
+      search (rules, arith, longer-width, IsCharBoundary-from_rest, start-within, rest-of, longer-whole)
+
+  to-word : (k : ℕ) → CanCut line start (start + k) → CanCut word 0 k
+  to-word k may =
+      record {
+        after = omega arith;
+        behind = omega (arith, may.behind, longer-width k, text_width-nil);
+        place = IsCharBoundary-from_drop word k
+            (omega (arith, may.place.0, length-drop start line, start-within))
+            (subst IsUtf8 (rest-of k) (IsUtf8-drop line (start + k) utf8 may.place));
+        before = omega (arith, may.before, ap (λ l. units_width (take 1 (units (chars l)))) (rest-of k));
+        whole = longer-own k may.whole;
+      }
+
+  -- no place has room if the blanks before the word have none
+  pub cut-none : width < text_width front + text_width placeholder
+      → IsCut width placeholder line words start words
+  cut-none over = search (rules, arith)
+
+  -- what is kept of the word as a text is kept of it in the line
+  module _ {left k : ℕ} (fits : left + text_width front + text_width placeholder ≡ width)
+      (h : IsCut left [] word 0 0 k) where
+    cut-latest : (m : ℕ) → CanCut line start m → LeavesRoom width placeholder line m → m ≤ start + k
+    cut-latest m may room =
+        let at : m ≡ start + (m - start) = omega (arith, may.after) in
+        let own = to-word (m - start) (subst (CanCut line start) at may) in
+        let wide = ap (λ n. text_width (take n line)) at ∙ longer-width (m - start) in
+        let up = h.latest (m - start) own (omega (arith, room, wide, fits, text_width-nil)) in
+        omega (arith, up, may.after)
+
+    pub cut-no : k ≡ 0 → IsCut width placeholder line words start words
+    cut-no none = search (rules, arith, cut-latest)
+
+    pub cut-some : k ≢ 0 → IsCut width placeholder line words start (start + k)
+    cut-some some = search (rules, arith, to-line, longer-width, text_width-nil, cut-latest)
+
+    pub cut-within : k ≤ length word
+    cut-within = elim h.cut [ inl none ↦ omega (arith, none) | inr (may, room) ↦ may.place.0 ]
+
+-- where the first word after some bytes begins, and its text
+module _ (line : List ℕ) (words : ℕ) {rest : List ℕ} (after : rest ≡ drop words line) where
+  pub start-is : {blanks : List ℕ} → blanks ≡ take (indent_len rest) rest
+      → words + length blanks ≡ words + indent_len (drop words line)
+  start-is are = cc (are, length-prefix_len is_blank rest, after)
+
+  pub word-is : {text : List ℕ} {start : ℕ} → text ≡ drop (indent_len rest) rest
+      → start ≡ words + indent_len (drop words line) → text ≡ drop start line
+  word-is is next = cc (is, after, drop-drop (indent_len (drop words line)) words line, next)
+
+-- ---- what is kept
+
+-- whole words
+pub kept-words : {breaks : Bool} {width : ℕ} {placeholder line : List ℕ} {n start : ℕ}
+    → IsKeptBeginning width placeholder line n → start ≡ n + indent_len (drop n line)
+    → (breaks && is_too_wide width placeholder line start ≡ true
+    → IsCut width placeholder line n start n) → IsKeptLength breaks width placeholder line n
+kept-words {n = n} {start = start} kept next cut =
+    record { words = n; start = start; kept = kept; next = next; whole = λ stays. refl; cut = cut }
+
+-- whole words, and what is found of the next one
+pub record IsFoundWord (width : ℕ) (placeholder line : List ℕ) (words start room left k : ℕ)
+    (text : List ℕ) : Type 0 where
+  pub kept : IsKeptBeginning width placeholder line words
+  pub next : start ≡ words + indent_len (drop words line)
+  pub text_is : text ≡ drop start line
+  pub is : room + text_width placeholder ≡ width
+  pub fits : left + text_width (take start line) ≡ room
+  pub whole : word_width text ≤ room → k ≡ 0
+  pub cut : room < word_width text → IsCut left [] text 0 0 k
+
+module _ {width : ℕ} {placeholder line : List ℕ} (utf8 : IsUtf8 line) {words start room left k : ℕ}
+    {text : List ℕ} (h : IsFoundWord width placeholder line words start room left k text) where
+  sum : left + text_width (take start line) + text_width placeholder ≡ width
+  sum = omega (arith, h.is, h.fits)
+
+  found : room < word_width text → IsCut left [] (drop start line) 0 0 k
+  found over = subst (λ l. IsCut left [] l 0 0 k) h.text_is (h.cut over)
+
+  wide : (breaks : Bool) → breaks && is_too_wide width placeholder line start ≡ true
+      → room < word_width text
+  wide breaks passes = search (rules, arith, and_parts, ltb-true, h.is, h.text_is)
+
+  pub kept-uncut : {breaks : Bool} → k ≡ 0 → IsKeptLength breaks width placeholder line words
+  kept-uncut {breaks = breaks} none = kept-words h.kept h.next (λ passes.
+      cut-no utf8 h.kept h.next sum (found (wide breaks passes)) none)
+
+  pub kept-cut : {breaks : Bool} → breaks ≡ true → k ≢ 0
+      → IsKeptLength breaks width placeholder line (start + k)
+  kept-cut {breaks = breaks} breaking some = record {
+    words = words;
+    start = start;
+    kept = h.kept;
+    next = h.next;
+    whole = λ stays.
+        let few = ltb-false (width - text_width placeholder) (word_width (drop start line))
+        (rw breaking at stays) in
+        absurd (some (h.whole (omega (arith, h.is, ap word_width h.text_is, few))));
+    cut = λ passes. cut-some utf8 h.kept h.next sum (found (wide breaks passes)) some;
+  }
+
+  pub kept-within : k ≢ 0 → start + k ≤ length line
+  kept-within some =
+      let inside : room < word_width text → k ≤ length (drop start line) =
+      λ over. cut-within utf8 h.kept h.next sum (found over) in
+      let start = start-within utf8 h.kept h.next in
+      search (rules, arith, cases_lt room (word_width text), inside, length-drop, start, h.whole)
+
+-- nothing, where the placeholder alone is too wide
+pub kept-none : {breaks : Bool} {width : ℕ} {placeholder line : List ℕ}
+    → width < text_width placeholder → IsKeptLength breaks width placeholder line 0
+kept-none {line = line} over =
+    kept-words (record {
+      within = omega arith;
+      ends = none-kept line;
+      room = inl refl;
+      longest = λ m may room. absurd (omega (arith, room, over));
+    }) refl (λ is. record {
+      cut = inl refl;
+      latest = λ m may room. absurd (omega (arith, room, over));
+    })
+
+module _ {breaks : Bool} {width : ℕ} {placeholder line : List ℕ} {n : ℕ}
+    (h : IsKeptLength breaks width placeholder line n) where
+  -- what holds where words end, and where one may be cut
+  kept-by : (P : ℕ → Type 0) → P h.words
+      → (CanCut line h.start n → LeavesRoom width placeholder line n → P n) → P n
+  kept-by P words cut = search (rules, arith)
+
+  pub kept-boundary : IsUtf8 line → IsCharBoundary line n
+  kept-boundary utf8 =
+      kept-by (IsCharBoundary line) (may_end-boundary line h.words utf8 h.kept.ends.0)
+      (λ may room. may.place)
+
+  pub kept-whole : IsUtf8 line → IsWholeText (take n line)
+  kept-whole utf8 = (
+    IsUtf8-take line n utf8 (kept-boundary utf8),
+    kept-by (λ k. HasWholeSequences (take k line)) h.kept.ends.1 (λ may room. may.whole),
+  )
+
+  pub kept-room : (n ≡ 0) ⊎ LeavesRoom width placeholder line n
+  kept-room =
+      kept-by (λ k. (k ≡ 0) ⊎ LeavesRoom width placeholder line k) h.kept.room
+      (λ may room. inr room)
 
 -- ---- a text of whole sequences, and what closes it
 
@@ -96,13 +317,9 @@ module _ (breaks : Bool) (width : ℕ) (placeholder line : List ℕ) (short : Li
   shortened-width room =
       let sum = ap text_width bytes ∙ followed-width kept whole placeholder in
       elim (kept-room is.kept) [
-        | inl none ↦ omega (
-          arith,
-          sum,
-          room,
-          ap (λ n. text_width (take n line)) none,
-          no_columns,
-        )
+        | inl none ↦
+            let nothing = ap (λ n. text_width (take n line)) none in
+            omega (arith, sum, room, nothing, text_width-nil)
         | inr has ↦ omega (arith, sum, has)
       ]
 

@@ -1,57 +1,76 @@
 -- Texts with blanks in the place of their tabs: what stands behind the last line feed, one part
 -- after another, and the laws of them.
 use Rattle.std.proofs.{Common.◌%◌, Math.Nat.add-mul, Math.Nat.suc-mul}
-use Rattle.std.proofs.lemmas.List.{Elements.All-replicate, Splits.length-slice_split}
+use Rattle.std.proofs.lemmas.List.{Elements.All-replicate, Folds.list_any-append}
+use Rattle.std.proofs.lemmas.List.{Folds.list_any_none, Splits.length-slice_split}
 use Rattle.std.proofs.lemmas.List.Splits.{slice_split_at, slice_split_first, slice_split_none}
-use Rattle.std.proofs.lemmas.List.{Sums.prefix_len_passes, Sums.suffix_len_is, get_or_default}
-use Rattle.std.proofs.lemmas.Nat.{div-add-mod', mod_below}
-use Rattle.std.proofs.lemmas.Str.Pattern.{NoCharPasses-char, contains_char}
+use Rattle.std.proofs.lemmas.{List.Sums.prefix_len_passes, List.get_or_default, Nat.div-add-mod'}
+use Rattle.std.proofs.lemmas.{Nat.mod_below, Str.Pattern.NoCharPasses-char}
+use Rattle.std.proofs.lemmas.Str.Pattern.{contains_char, drop_at_char}
 use Rattle.std.specs.List.{after_first, before_first, list_any, position_or_len}
 use Rattle.std.specs.{Prelude.MatchBool, Prelude.replicate, Str.NoCharPasses, Str.Pattern.FindsChar}
 use Rattle.std.specs.Str.Pattern.{HasCharAt}
+use Rattle.textwrap_display.proofs.Common.{IsWholeText, text_width-append, text_width-nil}
 use Rattle.textwrap_display.{proofs.Widths.more-blanks, specs.Tabs.expanded_tabs}
 use Rattle.textwrap_display.specs.Tabs.{filled_parts, filled_up, last_line, tab, tab_blanks}
-use Rattle.textwrap_layout.proofs.Text.Paragraphs.{text_width-append}
-use Rattle.textwrap_styles.specs.Styled.{IsWholeText}
 use Rattle.textwrap_text.proofs.Common.{All, All-append, All-cons, All-head, All-nil, All-tail}
 use Rattle.textwrap_text.proofs.Common.{All-weaker, Bool, List, None, Some, [], ap, append-nil}
-use Rattle.textwrap_text.proofs.Common.{append_assoc, arith, blank, cases_Bool, drop, eqb-false}
-use Rattle.textwrap_text.proofs.Common.{eqb-true, false, false≢true, get_or, get_or-drop, inl, inr}
-use Rattle.textwrap_text.proofs.Common.{length, length-drop, ne_eqb, not, not-true, refl, rules}
-use Rattle.textwrap_text.proofs.Common.{slice_split, subst, suc, sym, text_width, true, ℕ, ◌*◌}
-use Rattle.textwrap_text.proofs.Common.{◌++◌, ◌+◌, ◌-◌, ◌/◌, ◌<◌, ◌==◌, ◌∙◌, ◌∷◌, ◌≡◌, ◌≢◌, ◌≤◌}
-use Rattle.textwrap_text.proofs.{Common.◌⊎◌, Lists.Elements.any-contains}
-use Rattle.textwrap_text.proofs.Lists.{Elements.contains-any, Parts.after_last-push}
-use Rattle.textwrap_words.proofs.Word.Words.{text_width-nil}
+use Rattle.textwrap_text.proofs.Common.{append_assoc, arith, blank, cases_Bool, cond, drop}
+use Rattle.textwrap_text.proofs.Common.{eqb-false, eqb-true, false, false_from_ne_true, inl, inr}
+use Rattle.textwrap_text.proofs.Common.{length, ne_eqb, not-true, refl, rules, slice_split, subst}
+use Rattle.textwrap_text.proofs.Common.{suc, sym, take, take-append-drop, text_width, true, ℕ, ◌*◌}
+use Rattle.textwrap_text.proofs.Common.{◌++◌, ◌+◌, ◌/◌, ◌<◌, ◌==◌, ◌||◌, ◌∙◌, ◌∷◌, ◌≡◌, ◌≢◌, ◌≤◌}
+use Rattle.textwrap_text.proofs.Lists.Elements.{any-contains, contains-any}
+use Rattle.textwrap_text.proofs.Lists.Parts.{after_last-push}
 
 -- ---- what stands behind the last line feed
 
-abbrev is_other : ℕ → Bool
-is_other b = not (b == 10)
+abbrev is_feed : ℕ → Bool
+is_feed b = b == 10
+
+-- of a text and more
+last_line-append : (text more : List ℕ) → last_line (text ++ more)
+    ≡ cond (list_any is_feed more) (last_line more) (last_line text ++ more)
+last_line-append text [] = ap last_line (append-nil text) ∙ sym (append-nil (last_line text))
+last_line-append text (c ∷ cs) =
+    let own = last_line-append (c ∷ []) cs in
+    ap last_line (sym (append_assoc text (c ∷ []) cs)) ∙ last_line-append (text ++ c ∷ []) cs
+    ∙ rw (after_last-push is_feed text c, own, after_last-push is_feed [] c)
+    (by (is_feed c) (list_any is_feed cs))
+  where
+    by : (feed later : Bool)
+        → cond later (last_line cs) (cond feed [] (last_line text ++ c ∷ []) ++ cs)
+        ≡ cond (feed || later) (cond later (last_line cs) (cond feed [] (c ∷ []) ++ cs))
+        (last_line text ++ c ∷ cs)
+    by true true = refl
+    by true false = refl
+    by false true = refl
+    by false false = append_assoc (last_line text) (c ∷ []) cs
+
+last_line-free : (text more : List ℕ) → list_any is_feed more ≡ false
+    → last_line (text ++ more) ≡ last_line text ++ more
+last_line-free text more lacks = rw lacks at (last_line-append text more)
+
+last_line-past : (text more : List ℕ) → last_line (text ++ 10 ∷ more) ≡ last_line more
+last_line-past text more =
+    let own = last_line-append (10 ∷ []) more in
+    grind (arith, cases_Bool, last_line-append text (10 ∷ more), own, last_line-append [] more)
+
+lacks-any : (c : ℕ) (text : List ℕ) → c < 128 → NoCharPasses (λ d. d == c) text
+    → list_any (λ b. b == c) text ≡ false
+lacks-any c text low none = false_from_ne_true _ (λ some.
+    let (k, within, is) = any-contains c text some in
+    NoCharPasses-char c text k none low within (get_or_default text k 0 c within ∙ is))
 
 pub last_line-none : (text : List ℕ) → NoCharPasses (λ d. d == 10) text → text ≡ last_line text
-last_line-none text none =
-    let others : (k : ℕ) → 0 ≤ k → k < length text → is_other (get_or text k 0) ≡ true =
-    λ k from within. ap not (ne_eqb (get_or text k 0) 10
-    (NoCharPasses-char 10 text k none (omega arith) within)) in
-    let all = suffix_len_is is_other text 0 0 (omega arith) others (λ some. absurd (omega arith)) in
-    grind (arith, all)
+last_line-none text none = sym (last_line-free [] text (lacks-any 10 text (omega arith) none))
 
 pub last_line-behind : (text : List ℕ) (i j : ℕ) → NoCharPasses (λ d. d == 10) (drop j text)
     → HasCharAt 10 text i j → j ≤ length text → drop j text ≡ last_line text
 last_line-behind text i j none feed within =
-    let others : (k : ℕ) → j ≤ k → k < length text → is_other (get_or text k 0) ≡ true =
-    λ k from below.
-    let at : j + (k - j) ≡ k = omega (arith, from) in
-    ap not (ne_eqb (get_or text k 0) 10 (subst (λ b. b ≢ 10)
-    (get_or-drop j text (k - j) 0 ∙ ap (λ n. get_or text n 0) at)
-    (NoCharPasses-char 10 (drop j text) (k - j) none (omega arith)
-    (omega (arith, length-drop j text, from, below))))) in
-    let place : j - 1 ≡ i = omega (arith, feed.ends) in
-    let stop : is_other (get_or text (j - 1) 0) ≡ false =
-    rw (place, feed.byte (omega arith)) refl in
-    let some = suffix_len_is is_other text j 0 within others (λ _. stop) in
-    let left : length text - (length text - j) ≡ j = omega (arith, within) in search (rules, arith)
+    let after = drop_at_char 10 text i j feed (omega arith) in
+    last_line-none (drop j text) none ∙ sym (last_line-past (take i text) (drop j text))
+    ∙ ap (λ l. last_line (take i text ++ l)) (sym after) ∙ ap last_line (take-append-drop i text)
 
 -- ---- whether a text has a tab
 
@@ -64,12 +83,7 @@ pub has-tab : (text : List ℕ) (r : Bool)
 has-tab text true found =
     let (k, within, is) = (contains_char 9 text true found (omega arith)).0 refl in
     sym (contains-any 9 text (k, within, get_or_default text k 9 0 within ∙ is))
-has-tab text false none = elim (cases_Bool (list_any is_tab text)) [
-  | inl some ↦ let (k, within, is) = any-contains 9 text some in
-      absurd (false≢true ((contains_char 9 text false none (omega arith)).1 k within
-      (get_or_default text k 0 9 within ∙ is)))
-  | inr lacks ↦ sym lacks
-]
+has-tab text false none = sym (lacks-any 9 text (omega arith) none)
 
 -- ---- one part after another
 
@@ -78,28 +92,18 @@ pub filled-more : (stop : ℕ) (part : List ℕ) (parts : List (List ℕ)) → 0
 filled-more stop part [] some = absurd (omega arith)
 filled-more stop part (next ∷ parts) some = refl
 
-expanded-next : (stop : ℕ) (text part rest : List ℕ)
+-- a part, and the tab behind it
+pub expanded-next : (stop : ℕ) (text part rest : List ℕ)
     → (position_or_len is_tab text < length text) × (part ≡ before_first is_tab text)
     × (rest ≡ after_first is_tab text)
     → expanded_tabs stop text ≡ filled_up stop part ++ expanded_tabs stop rest
 expanded-next stop text part rest (within, first, later) =
     search (rules, arith, slice_split_first, filled-more, length-slice_split)
 
--- a part more of what is expanded, and what is left
-pub expanded-step : (stop : ℕ) (text part rest old new whole : List ℕ)
-    → (position_or_len is_tab text < length text) × (part ≡ before_first is_tab text)
-    × (rest ≡ after_first is_tab text)
-    → new ≡ old ++ filled_up stop part → old ++ expanded_tabs stop text ≡ whole
-    → new ++ expanded_tabs stop rest ≡ whole
-expanded-step stop text part rest old new whole cut added is =
-    grind (arith, append_assoc, added, expanded-next stop text part rest cut, is)
-
--- and the last part
-pub expanded-last : (stop : ℕ) (text old new whole : List ℕ)
-    → position_or_len is_tab text ≡ length text → new ≡ old ++ text
-    → old ++ expanded_tabs stop text ≡ whole → new ≡ whole
-expanded-last stop text old new whole all added is =
-    search (rules, arith, slice_split_none, not-true, prefix_len_passes)
+-- the last part
+pub expanded-last : (stop : ℕ) (text : List ℕ) → position_or_len is_tab text ≡ length text
+    → expanded_tabs stop text ≡ text
+expanded-last stop text all = search (rules, arith, slice_split_none, not-true, prefix_len_passes)
 
 -- ---- a text is its parts between tabs
 
@@ -134,42 +138,7 @@ module _ (P : List ℕ → Type 0) (whole : (part : List ℕ) → Lacks 9 part �
   by-parts : (text : List ℕ) → P text
   by-parts text = parts-past [] text (All-nil (λ b. b ≢ 9))
 
--- ---- what stands behind the last line feed of a longer text
-
-last_line-free : (text more : List ℕ) → Lacks 10 more
-    → last_line (text ++ more) ≡ last_line text ++ more
-last_line-free text [] lacks = ap last_line (append-nil text) ∙ sym (append-nil (last_line text))
-last_line-free text (c ∷ cs) lacks =
-    let other = ne_eqb c 10 (All-head (λ b. b ≢ 10) c cs lacks) in
-    let push = after_last-push (λ b. b == 10) text c in
-    let others = last_line-free (text ++ c ∷ []) cs (All-tail (λ b. b ≢ 10) c cs lacks) in
-    grind (arith, cases_Bool, append_assoc, push, other, others)
-
-behind-feed : (text more : List ℕ) → Lacks 10 more → last_line (text ++ 10 ∷ more) ≡ more
-behind-feed text more lacks =
-    grind (arith, append_assoc, last_line-free (text ++ 10 ∷ []) more lacks, after_last-push)
-
--- a text has no line feed, or its last line is that of each text that ends with it
-last_line-cases : (more : List ℕ)
-    → ((text : List ℕ) → last_line (text ++ more) ≡ last_line more) ⊎ Lacks 10 more
-last_line-cases [] = inr (All-nil (λ b. b ≢ 10))
-last_line-cases (c ∷ cs) = elim (last_line-cases cs) [
-  | inl later ↦ inl (λ text. ap last_line (sym (append_assoc text (c ∷ []) cs))
-      ∙ later (text ++ c ∷ []) ∙ sym (later (c ∷ [])))
-  | inr lacks ↦ elim (cases_Bool (c == 10)) [
-    | inl here ↦ inl (subst
-        (λ d. (text : List ℕ) → last_line (text ++ d ∷ cs) ≡ last_line (d ∷ cs))
-        (sym (eqb-true c 10 here))
-        (λ text. behind-feed text cs lacks ∙ sym (behind-feed [] cs lacks)))
-    | inr other ↦ inr (lacks-one 10 c cs (eqb-false c 10 other) lacks)
-  ]
-]
-
-last_line-past : (text more : List ℕ) → last_line (text ++ 10 ∷ more) ≡ last_line more
-last_line-past text more = elim (last_line-cases more) [
-  | inl later ↦ ap last_line (sym (append_assoc text (10 ∷ []) more)) ∙ later (text ++ 10 ∷ [])
-  | inr lacks ↦ behind-feed text more lacks ∙ sym (last_line-free [] more lacks)
-]
+-- ---- parts between tabs, and lines
 
 module _ (stop : ℕ) where
   pub expanded-free : (text : List ℕ) → Lacks 9 text → expanded_tabs stop text ≡ text
@@ -193,10 +162,9 @@ module _ (stop : ℕ) where
 
   pub no_tab-left : (text : List ℕ) → Lacks 9 (expanded_tabs stop text)
   no_tab-left = by-parts (λ text. Lacks 9 (expanded_tabs stop text))
-      (λ part lacks. subst (Lacks 9) (sym (expanded-free part lacks)) lacks)
-      (λ part rest lacks left. subst (Lacks 9) (sym (expanded-tab part rest lacks))
-      (lacks-both 9 (filled_up stop part) (expanded_tabs stop rest) (lacks-both 9 part _ lacks
-      (lacks-blanks 9 (tab_blanks stop (text_width (last_line part))) (omega arith))) left))
+      (λ part lacks. rw (expanded-free part lacks) lacks)
+      (λ part rest lacks left. rw (expanded-tab part rest lacks)
+      (search (rules, arith, lacks-both 9, lacks-blanks 9)))
 
   -- ---- what follows a tab is expanded by itself
 
@@ -207,11 +175,9 @@ module _ (stop : ℕ) where
       ≡ expanded_tabs stop (text ++ 9 ∷ []) ++ expanded_tabs stop after)
       (λ part lacks.
       rw (expanded-tab part after lacks, expanded-tab part [] lacks, append-nil) refl)
-      (λ part rest lacks is. rw (
-        expanded-more part rest (9 ∷ after) lacks,
-        expanded-more part rest (9 ∷ []) lacks,
-        is,
-      ) (sym (append_assoc (filled_up stop part) _ _)))
+      (λ part rest lacks is.
+      let all = expanded-more part rest (9 ∷ after) lacks in
+      rw (all, expanded-more part rest (9 ∷ []) lacks, is) (sym (append_assoc (filled_up stop part) _ _)))
       before
 
   -- ---- each line is expanded by itself
@@ -222,12 +188,12 @@ module _ (stop : ℕ) where
   line-after line after lacks =
       by-parts (λ text. expanded_tabs stop (line ++ 10 ∷ text)
       ≡ line ++ 10 ∷ expanded_tabs stop text)
-      (λ part none. expanded-free (line ++ 10 ∷ part) (joined part none)
-      ∙ ap (λ t. line ++ 10 ∷ t) (sym (expanded-free part none)))
+      (λ part none.
+      rw (expanded-free (line ++ 10 ∷ part) (joined part none), expanded-free part none) refl)
       (λ part rest none _.
+      let first = expanded-tab (line ++ 10 ∷ part) rest (joined part none) in
       ap (expanded_tabs stop) (sym (append_assoc line (10 ∷ part) (9 ∷ rest)))
-      ∙ expanded-tab (line ++ 10 ∷ part) rest (joined part none)
-      ∙ rw (last_line-past line part, expanded-tab part rest none) (simp append_assoc))
+      ∙ rw (first, last_line-past line part, expanded-tab part rest none) (simp append_assoc))
       after
     where
       joined : (part : List ℕ) → Lacks 9 part → Lacks 9 (line ++ 10 ∷ part)
@@ -240,11 +206,9 @@ module _ (stop : ℕ) where
       by-parts (λ text. expanded_tabs stop (text ++ 10 ∷ after)
       ≡ expanded_tabs stop text ++ 10 ∷ expanded_tabs stop after)
       (λ part lacks. rw (line-after part after lacks, expanded-free part lacks) refl)
-      (λ part rest lacks is. rw (
-        expanded-more part rest (10 ∷ after) lacks,
-        expanded-tab part rest lacks,
-        is,
-      ) (sym (append_assoc (filled_up stop part) _ _)))
+      (λ part rest lacks is.
+      let all = expanded-more part rest (10 ∷ after) lacks in
+      rw (all, expanded-tab part rest lacks, is) (sym (append_assoc (filled_up stop part) _ _)))
       before
 
 pub expanded-twice : (stop later : ℕ) (text : List ℕ)
@@ -273,12 +237,15 @@ module _ (stop : ℕ) (some : stop ≢ 0) where
 
   reaches-more : (part rest : List ℕ) → EndsWhole part → Reaches rest
       → Reaches (filled_up stop part ++ rest)
-  reaches-more part rest whole reaches = elim (last_line-cases rest) [
-    | inl later ↦ rw (later (filled_up stop part)) reaches
+  reaches-more part rest whole reaches = elim (cases_Bool (list_any is_feed rest)) [
+    | inl some ↦ rw (rw some at (last_line-append (filled_up stop part) rest)) reaches
     | inr lacks ↦
         let n = tab_blanks stop (text_width (last_line part)) in
-        let free = last_line-free part (replicate n blank ++ rest)
-        (lacks-both 10 (replicate n blank) rest (lacks-blanks 10 n (omega arith)) lacks) in
+        let none : list_any is_feed (replicate n blank) ≡ false =
+        list_any_none is_feed (replicate n blank) (All-replicate (λ b. is_feed b ≡ false) n blank refl) in
+        let more : list_any is_feed (replicate n blank ++ rest) ≡ false =
+        rw (list_any-append, none, lacks) refl in
+        let free = last_line-free part (replicate n blank ++ rest) more in
         rw (append_assoc, free, text_width-append _ _ whole.0 whole.1, more-blanks n rest)
         (filled-columns stop (text_width (last_line part)) (text_width rest) some
         (rw (last_line-free [] rest lacks) at reaches))

@@ -67,21 +67,6 @@ begins : (each extra d : ℕ) (part : List ℕ) (parts : List (List ℕ))
 begins each extra d part [] = refl
 begins each extra d part (next ∷ parts) = refl
 
-module _ (each extra c d : ℕ) (part : List ℕ) (parts : List (List ℕ)) where
-  cut-before : is_blank c ≡ true → is_blank d ≡ false
-      → chunks (flat (widened_chunks each (extra - 1) ((d ∷ part) ∷ parts)))
-      ≡ widened_chunks each (extra - 1) ((d ∷ part) ∷ parts)
-      → chunks (flat (widened_chunks each extra ((c ∷ []) ∷ (d ∷ part) ∷ parts)))
-      ≡ widened_chunks each extra ((c ∷ []) ∷ (d ∷ part) ∷ parts)
-  cut-before blank other same = search (rules, arith, begins, blanks-chunk)
-
-  uncut-before : is_cut c d ≡ false
-      → chunks (flat (widened_chunks each extra ((d ∷ part) ∷ parts)))
-      ≡ widened_chunks each extra ((d ∷ part) ∷ parts)
-      → chunks (flat (widened_chunks each extra (onto_first c ((d ∷ part) ∷ parts))))
-      ≡ widened_chunks each extra (onto_first c ((d ∷ part) ∷ parts))
-  uncut-before uncut same = search (rules, arith, begins, flat-onto_first, onto-widened)
-
 pub widened-chunks : (each extra : ℕ) (line : List ℕ)
     → chunks (flat (widened_chunks each extra (chunks line)))
     ≡ widened_chunks each extra (chunks line)
@@ -92,11 +77,12 @@ widened-chunks each extra (c ∷ d ∷ cs) =
     elim (cases_Bool (is_cut c d)) [
       | inl cut ↦
           let both = and_parts (is_blank c) (not (is_blank d)) cut in
-          rw (cut, h.shape)
-          (cut-before each extra c d h.first h.rest both.0 (grind (arith, cases_Bool))
-          (rw h.shape at (widened-chunks each (extra - 1) (d ∷ cs))))
-      | inr uncut ↦ rw (uncut, h.shape) (uncut-before each extra c d h.first h.rest uncut
-          (rw h.shape at (widened-chunks each extra (d ∷ cs))))
+          let other : is_blank d ≡ false = grind (arith, cases_Bool) in
+          let same = rw h.shape at (widened-chunks each (extra - 1) (d ∷ cs)) in
+          rw (cut, h.shape) (search (rules, arith, begins, blanks-chunk, both.0, same))
+      | inr uncut ↦
+          let same = rw h.shape at (widened-chunks each extra (d ∷ cs)) in
+          rw (uncut, h.shape) (search (rules, arith, begins, flat-onto_first, onto-widened, same))
     ]
 
 -- a text that begins with no blank begins with none where its gaps are widened

@@ -1,28 +1,22 @@
 use Rattle.textwrap_display.proofs.filling.fill_justified.Goals as goal
-use Rattle.textwrap_display.proofs.Common.{layout_view, line_bytes, paragraphs_left}
-use Rattle.textwrap_display.proofs.JustifiedLines.{so_far-end, so_far-more, so_far-start}
-use Rattle.textwrap_display.proofs.JustifiedSinks.{justified-none, paragraph-written}
+use Rattle.textwrap_display.proofs.Common.{line_bytes, paragraphs_left, passed-on}
+use Rattle.textwrap_display.proofs.JustifiedLines.{justified-none, paragraph-written, so_far-end}
+use Rattle.textwrap_display.proofs.JustifiedLines.{so_far-more, so_far-start}
 use Rattle.textwrap_display.specs.JustifiedSinks.{HoldsJustified}
-use Rattle.textwrap_display.specs.JustifiedText.{added_lines}
 use Rattle.textwrap_layout.proofs.Common.{cut_lines, line_from}
-use Rattle.textwrap_layout.proofs.Text.Sinks.{lines_of-cut_lines, lines_of-more}
-use Rattle.textwrap_layout.{proofs.Text.Lines.paragraphs_left-split, specs.Paragraph.DividesWith}
-use Rattle.textwrap_lines.proofs.Paragraph.KeepsTo.{passed-on}
-use Rattle.textwrap_text.proofs.Common.{[], ap, length-map, map, nat_lt, refl, string_bytes, subst}
-use Rattle.textwrap_text.proofs.Common.{◌++◌, ◌||◌, ◌∙◌}
+use Rattle.textwrap_layout.proofs.Text.{Lines.paragraphs_left-split, Sinks.lines_of-cut_lines}
+use Rattle.textwrap_layout.proofs.Text.Sinks.{lines_of-more}
+use Rattle.textwrap_text.proofs.Common.{[], ap, length-map, map, refl, subst, ◌++◌, ◌∙◌}
 
 pub loop-rest-init : goal.loop-rest-init
-loop-rest-init g c =
-    let settings = layout_view c.args.layout in record {
-      so_far = so_far-start settings (DividesWith (g.P.Parts.may c.args.parts.now) settings)
-          c.args.text.now _ c.in_ok-filled.ensures.bytes;
-      waits = refl;
-      layout_is = refl;
-    }
+loop-rest-init g c = record {
+  so_far = so_far-start c.args.text.now _ c.in_ok-filled.ensures.bytes;
+  waits = refl;
+  layout_is = refl;
+}
 
 pub loop-rest-preserved : goal.loop-rest-preserved
 loop-rest-preserved g c =
-    let settings = layout_view c.args.layout in
     let ending = c.args.layout.line_ending in
     let first = c.loop-rest.lines in
     let paragraph = c.split_paragraph.result.0.now in
@@ -30,33 +24,24 @@ loop-rest-preserved g c =
     let so_far = c.loop-rest.invariant in
     let (own, are, pushed) = c.in_ok-push_paragraph_by.ensures.taken in
     let lines = map line_bytes (map line_from own) in
-    let more = paragraph-written first c.push_paragraph_by.new.lines c.end_paragraph.new.self lines
-    (subst (HoldsJustified first c.push_paragraph_by.new.lines) (ap (map line_bytes)
-    (lines_of-more [] 0 (cut_lines 0 own) ∙ lines_of-cut_lines 0 own))
+    let more = paragraph-written (subst (HoldsJustified first c.push_paragraph_by.new.lines)
+    (ap (map line_bytes) (lines_of-more [] 0 (cut_lines 0 own) ∙ lines_of-cut_lines 0 own))
     (pushed.held first 0 [] (justified-none first so_far.waits)))
     c.in_ok-end_paragraph.ensures.written c.in_ok-end_paragraph.ensures.none in
     record {
-      so_far = so_far-more settings (DividesWith (g.P.Parts.may c.args.parts.now) settings)
-          c.args.text.now (string_bytes first.text) (string_bytes c.end_paragraph.new.self.text)
-          first.has_lines c.end_paragraph.new.self.has_lines paragraph (paragraphs_left ending after)
-          own (rw (
-            c.in-Some.is,
-            paragraphs_left-split ending c.in-Some.text.now after paragraph
-                c.split_paragraph.ensures.paragraphs,
-          ) at so_far.so_far) are
-          (more.text ∙ ap (λ l. string_bytes first.text ++ added_lines (layout_view l) first.has_lines
-          lines) so_far.layout_is)
-          (more.has_lines ∙ ap (λ n. first.has_lines || nat_lt 0 n)
-          (length-map (map line_from own) line_bytes ∙ length-map own line_from));
+      so_far = so_far-more own (rw (
+        c.in-Some.is,
+        paragraphs_left-split ending c.in-Some.text.now after paragraph
+            c.split_paragraph.ensures.paragraphs,
+      ) at so_far.so_far) are
+          (cc (more.text, so_far.layout_is))
+          (cc (more.has_lines, length-map (map line_from own) line_bytes, length-map own line_from));
       waits = more.waits;
       layout_is = more.layout_is ∙ so_far.layout_is;
     }
 
 pub returns-clause-filled : goal.returns-clause-filled
-returns-clause-filled g c =
-    let settings = layout_view c.args.layout in
-    so_far-end settings (DividesWith (g.P.Parts.may c.args.parts.now) settings) c.args.text.now _ _
-    (rw c.in_default.is at c.loop-rest.invariant.so_far)
+returns-clause-filled g c = so_far-end (rw c.in_default.is at c.loop-rest.invariant.so_far)
 
 pub returns-in_err-push_paragraph_by-clause-no_overflow :
     goal.returns-in_err-push_paragraph_by-clause-no_overflow

@@ -1,18 +1,16 @@
 use Rattle.textwrap_display.proofs.justifying.split_indent.Goals as goal
-use Rattle.textwrap_display.proofs.Common.{BlanksBetween, blank, indent_len}
+use Rattle.textwrap_display.proofs.Common.{BlanksBetween, indent_len}
 use Rattle.textwrap_display.proofs.WidenedWords.{indent-boundary, indent-is}
 use Rattle.textwrap_display.proofs.justifying.split_indent.Goals.{After-blanks_end}
-use Rattle.textwrap_text.proofs.Common.{ap, arith, drop, length, rules, slice_index, subst, take}
-use Rattle.textwrap_text.proofs.Common.{◌<◌, ◌∙◌, ◌≡◌, ◌≢◌}
+use Rattle.textwrap_text.proofs.Common.{ap, arith, drop, length, rules, take, ◌∙◌, ◌≡◌}
 
 blanks : (c : After-blanks_end) → BlanksBetween c.args.line.now 0 c.blanks_end.result
-blanks c = subst (λ t. BlanksBetween t 0 c.blanks_end.result) c.as_bytes.ensures.value c.blanks_end.ensures.blanks
+blanks c = rw c.as_bytes.ensures.value at c.blanks_end.ensures.blanks
 
 at : (c : After-blanks_end) → c.blanks_end.result ≡ indent_len c.args.line.now
 at c =
-    let n = c.blanks_end.result in
-    indent-is c.args.line.now n (omega (arith, ap length c.as_bytes.ensures.value)) (blanks c)
-    (subst (λ t. n < length t → slice_index t n ≢ blank) c.as_bytes.ensures.value c.blanks_end.ensures.stops)
+    indent-is c.args.line.now c.blanks_end.result (omega (arith, ap length c.as_bytes.ensures.value))
+    (blanks c) (rw c.as_bytes.ensures.value at c.blanks_end.ensures.stops)
 
 pub split_at-requires : goal.split_at-requires
 split_at-requires c = search (rules, arith, indent-boundary, blanks, c.as_bytes.ensures.value)

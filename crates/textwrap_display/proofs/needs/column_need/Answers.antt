@@ -1,20 +1,15 @@
 use Rattle.textwrap_display.proofs.needs.column_need.Goals as goal
 use Rattle.std.specs.Slice.Iter.{chunks_rest}
-use Rattle.textwrap_display.proofs.{ColumnNeeds.widest-more, TableGroups.group-map}
+use Rattle.textwrap_display.proofs.{FittingWidths.widest-more, TableGroups.first-group}
 use Rattle.textwrap_display.specs.Needs.{lines_in, words_in}
 use Rattle.textwrap_text.proofs.Common.{arith, ◌∙◌}
 
 pub loop-row-preserved : goal.loop-row-preserved
 loop-row-preserved c =
-    let (size, (whole, front, some)) = c.in-Some.ensures.steps in
-    let row = group-map (λ text. text.now) c.args.columns (chunks_rest c.loop-row.row-iterator)
-    c.in-Some.row.now (chunks_rest c.next.new.self)
-    (record {
-      some = c.requires;
-      whole = whole;
-      more = omega (arith, some);
-      size = omega (arith, front, c.loop-row.invariant.size);
-    }) in
+    let (size, chunk) = c.in-Some.ensures.steps in
+    let row = first-group (λ text. text.now) (chunks_rest c.loop-row.row-iterator) c.in-Some.row.now
+    (chunks_rest c.next.new.self) (omega (arith, c.requires, c.loop-row.invariant.size))
+    c.loop-row.invariant.size chunk in
     record {
       size = size ∙ c.loop-row.invariant.size;
       words = rw (c.max.ensures, c.widest_word.ensures, c.text_at-text.ensures)

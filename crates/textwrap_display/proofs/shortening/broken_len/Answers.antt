@@ -1,10 +1,10 @@
 use Rattle.textwrap_display.proofs.shortening.broken_len.Goals as goal
-use Rattle.textwrap_display.proofs.Common.{encode_utf8}
-use Rattle.textwrap_display.proofs.CutWords.{IsFoundCut, IsTurn, found-cut, found-past}
-use Rattle.textwrap_display.proofs.CutWords.{read_word-start, turn, turn-end, turn-full}
-use Rattle.textwrap_display.proofs.CutWords.{turn-hidden, turn-le, turn-wide, turn-word, word-all}
-use Rattle.textwrap_display.proofs.shortening.broken_len.Goals.{In-Some, Joined-taken-gt0}
-use Rattle.textwrap_text.proofs.Common.{arith, characters_left, length, sym, ◌+◌, ◌∙◌}
+use Rattle.textwrap_display.proofs.{Common.encode_utf8, KeptLines.IsFoundCut, KeptLines.IsReadWord}
+use Rattle.textwrap_display.proofs.KeptLines.{cut-here, cut-past, read_word-start, turn-end}
+use Rattle.textwrap_display.proofs.KeptLines.{turn-full, turn-hidden, turn-le, turn-wide, turn-word}
+use Rattle.textwrap_display.proofs.{KeptLines.word-all, shortening.broken_len.Goals.In-Some}
+use Rattle.textwrap_display.proofs.shortening.broken_len.Goals.{Joined-taken-gt0}
+use Rattle.textwrap_text.proofs.Common.{arith, characters_left, length, ◌+◌, ◌∷◌}
 
 pub loop-character-init : goal.loop-character-init
 loop-character-init c =
@@ -14,15 +14,13 @@ loop-character-init c =
     })
 
 -- the reader before the character
-before : (c : In-Some) → IsTurn c.args.left c.args.text.now c.in-Some.character
-    (characters_left c.next.new.self) c.loop-character.taken c.loop-character.cut
-before c = turn _ _ _ _ _ _ (grind arith)
+before : (c : In-Some) → IsReadWord c.args.left c.args.text.now
+    (c.in-Some.character ∷ characters_left c.next.new.self) c.loop-character.taken c.loop-character.cut
+before c = grind arith
 
 pub loop-character-preserved : goal.loop-character-preserved
 loop-character-preserved c = record {
-  read = turn-hidden c.utf8.text
-      (before (goal.at.loop-character-preserved c).In-Some)
-      c.if-character.false;
+  read = turn-hidden c.utf8.text (before (goal.at.loop-character-preserved c).In-Some) c.if-character.false;
   room = c.loop-character.invariant.room;
 }
 
@@ -41,17 +39,17 @@ overflow_add-taken c =
 found : (c : Joined-taken-gt0) → IsFoundCut c.args.left c.args.text.now
     (c.in-Some.character.at + length (encode_utf8 c.in-Some.character.ch)) c.if-taken-gt0.cut
 found c =
-    let t : IsTurn c.args.left c.args.text.now c.in-Some.character (characters_left c.next.new.self)
-    c.loop-character.taken c.loop-character.cut = turn _ _ _ _ _ _ (grind arith) in
+    let h : IsReadWord c.args.left c.args.text.now (c.in-Some.character ∷ characters_left c.next.new.self)
+    c.loop-character.taken c.loop-character.cut = grind arith in
+    let wide = c.columns-width.ensures in
     elim c.if-taken-gt0.branch [
       | goal.then-taken-gt0+then-taken-left+then-width-gt0 w ↦ rw w.cut-is
-          (found-cut c.utf8.text t (sym t.shown ∙ c.if-character.true)
-          (omega (arith, w.if-width-gt0.true, c.columns-width.ensures)) w.if-taken-gt0.true
-          w.if-taken-left.true)
+          (cut-here c.utf8.text h c.if-character.true (omega (arith, w.if-width-gt0.true, wide))
+          w.if-taken-gt0.true w.if-taken-left.true)
       | goal.else-taken-gt0 w ↦ rw w.cut-is
-          (found-past c.utf8.text t (λ shown wide some room. elim w.else-taken-gt0.branch [
+          (cut-past c.utf8.text h (λ shown columns some room. elim w.else-taken-gt0.branch [
             | goal.else-taken-gt0-via-then-taken-gt0+then-taken-left+else-width-gt0 w' ↦
-                absurd (omega (arith, wide, w'.if-width-gt0.false, c.columns-width.ensures))
+                absurd (omega (arith, columns, w'.if-width-gt0.false, wide))
             | goal.else-taken-gt0-via-then-taken-gt0+else-taken-left w' ↦
                 absurd (omega (arith, room, w'.if-taken-left.false))
             | goal.else-taken-gt0-via-else-taken-gt0 w' ↦
@@ -69,7 +67,7 @@ returns-then-taken-room-clause-whole c = λ fits.
 pub returns-then-taken-room-clause-cut : goal.returns-then-taken-room-clause-cut
 returns-then-taken-room-clause-cut c = λ wide.
     turn-full c.utf8.text (before (goal.at.returns-then-taken-room-clause-cut c).In-Some)
-    c.if-taken-gt0.cut c.if-character.true c.if-character-eq32.false
+    c.if-taken-gt0.cut c.if-character.true
     (omega (arith, c.requires, c.if-taken-room.true, c.columns-width.ensures))
     (found (goal.at.returns-then-taken-room-clause-cut c).Joined-taken-gt0)
 

@@ -1,5 +1,5 @@
 use Rattle.textwrap_display.proofs.shortening.broken_len.Given as goal
-use Rattle.textwrap_display.proofs.CutWords.{IsReadWord}
+use Rattle.textwrap_display.proofs.KeptLines.{IsReadWord}
 use Rattle.textwrap_text.proofs.Common.{characters_left, ◌≤◌}
 
 -- the iterator has left what the reader has not read

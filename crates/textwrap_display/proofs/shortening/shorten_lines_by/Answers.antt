@@ -1,8 +1,8 @@
 use Rattle.textwrap_display.proofs.shortening.shorten_lines_by.Goals as goal
 use Rattle.textwrap_display.proofs.Common.{AreShortened, Built, IsShortened, Slice, line_view}
-use Rattle.textwrap_display.proofs.{Common.texts_of, KeptLines.cut-lines, KeptLines.views-push}
-use Rattle.textwrap_text.proofs.Common.{[], ap, arith, map, string_bytes, subst, sym, take, ◌++◌}
-use Rattle.textwrap_text.proofs.Common.{◌+◌, ◌∙◌, ◌∷◌, ◌≡◌}
+use Rattle.textwrap_display.proofs.{Common.texts_of, KeptLines.cut-lines}
+use Rattle.textwrap_text.proofs.Common.{[], ap, arith, map, map-append, string_bytes, subst, sym}
+use Rattle.textwrap_text.proofs.Common.{take, ◌++◌, ◌+◌, ◌∷◌, ◌≡◌}
 
 pub returns-clause-cut : goal.returns-clause-cut
 returns-clause-cut g c = λ some fewer. elim c.if-lines-most.branch [
@@ -15,10 +15,8 @@ returns-clause-cut g c = λ some fewer. elim c.if-lines-most.branch [
       let last = Built (string_bytes w.in_ok-last.last) in
       let whole = map Slice (texts_of (take w.in-Some.whole lines)) in
       let are : map line_view c.if-lines-most.short.items ≡ whole ++ last ∷ [] =
-      ap (λ v. map line_view v.items) w.short-is
-      ∙ views-push w.push_whole-in-Some.new.short.items _ whole w.in_ok-last.last
-      (w.in_ok-push_whole-2.ensures ∙ ap (λ l. map line_view l ++ whole) c.in_ok-short.ensures.items)
-      w.in_ok-push.ensures.items in
+      rw (w.short-is, w.in_ok-push.ensures.items, map-append, w.in_ok-push_whole-2.ensures)
+      (ap (λ l. (map line_view l ++ whole) ++ last ∷ []) c.in_ok-short.ensures.items) in
       let number : w.in-Some.whole + 1 ≡ c.args.most = omega (arith, w.in-Some.ensures) in
       subst (AreShortened breaks c.args.most width placeholder (texts_of lines)) (sym are)
       (cut-lines breaks c.args.most width placeholder lines w.in-Some.whole

@@ -1,5 +1,5 @@
 use Rattle.textwrap_display.proofs.shortening.shortened.Goals as goal
-use Rattle.textwrap_display.proofs.KeptParts.{kept-boundary}
+use Rattle.textwrap_display.proofs.ShortenedLines.{kept-boundary}
 use Rattle.textwrap_text.proofs.Common.{arith, rules}
 
 pub range-kept-requires-clause-end_boundary : goal.range-kept-requires-clause-end_boundary

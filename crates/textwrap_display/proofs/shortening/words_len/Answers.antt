@@ -1,11 +1,11 @@
 use Rattle.textwrap_display.proofs.shortening.words_len.Goals as goal
-use Rattle.textwrap_display.proofs.{Common.added, Common.char_indices_rest, KeptLines.IsFound}
-use Rattle.textwrap_display.proofs.KeptLines.{found-blank, found-here, found-kept, found-none}
-use Rattle.textwrap_display.proofs.KeptLines.{found-on, found-open, found-past, found-whole}
-use Rattle.textwrap_display.proofs.KeptWords.{IsReadTo, read-le, read_to-start, read_to-step}
+use Rattle.textwrap_display.proofs.Common.{CanEnd, added, char_indices_rest}
+use Rattle.textwrap_display.proofs.KeptLines.{IsFound, found-here, found-kept, found-on, found-past}
+use Rattle.textwrap_display.proofs.{KeptLines.found-rest, KeptLines.found-whole, KeptWords.IsReadTo}
+use Rattle.textwrap_display.proofs.KeptWords.{latest-none, read-le, read_to-start, read_to-step}
 use Rattle.textwrap_display.proofs.shortening.words_len.Goals.{Joined-ch-eq32, Joined-is_visible}
-use Rattle.textwrap_text.proofs.Common.{arith, char_indices_offset, eqb, false≢true, inl, inr, refl}
-use Rattle.textwrap_text.proofs.Common.{sym, ◌+◌, ◌∙◌, ◌≡◌}
+use Rattle.textwrap_text.proofs.Common.{arith, char_indices_offset, eqb, false≢true, inl, inr, sym}
+use Rattle.textwrap_text.proofs.Common.{◌+◌, ◌∙◌, ◌≡◌}
 
 pub loop-at-init : goal.loop-at-init
 loop-at-init c =
@@ -13,7 +13,7 @@ loop-at-init c =
     let line = c.args.line.now in
     rw (c.into_iter-at-iterator.ensures.into_iter_gives, items.offset, items.rest) (record {
       read = read_to-start line c.utf8.line;
-      found = found-none c.args.room line 0 refl;
+      found = latest-none (CanEnd line) c.args.room line;
     })
 
 pub returns-then-taken-room : goal.returns-then-taken-room
@@ -75,11 +75,11 @@ returns-then-not-outside c =
     let ended = c.in-None.ensures.steps.0 in
     λ width placeholder is. found-kept is (elim c.if-not-outside.either [
       | inl past ↦ found-past c.utf8.line h.read h.found past
-      | inr within ↦ elim within [
-        | inl (_, blank) ↦ found-blank c.utf8.line h.read h.found ended blank
-        | inr (_, _, inside) ↦ found-open c.utf8.line h.read h.found ended (λ outside.
-            absurd (false≢true (sym inside ∙ c.is_outside-outside-2.ensures.1 outside)))
-      ]
+      | inr within ↦ found-rest c.utf8.line h.read h.found ended (λ some outside. elim within [
+        | inl (_, blank) ↦ absurd (false≢true (sym some ∙ blank))
+        | inr (_, _, inside) ↦
+            absurd (false≢true (sym inside ∙ c.is_outside-outside-2.ensures.1 outside))
+      ])
     ])
 
 pub returns-else-not-outside : goal.returns-else-not-outside

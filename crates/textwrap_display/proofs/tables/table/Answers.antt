@@ -1,13 +1,11 @@
 use Rattle.textwrap_display.proofs.tables.table.Goals as goal
 use Rattle.std.specs.Slice.Iter.{chunks_rest}
-use Rattle.textwrap_display.proofs.TableGroups.{IsFirstGroup, group-map, groups-more, table-more}
-use Rattle.textwrap_display.proofs.{TableGroups.table-none, tables.table.Goals.In-Some}
-use Rattle.textwrap_display.specs.Tables.{IsTableBy, NonePasses, cell_texts, gaps_view, group_rows}
-use Rattle.textwrap_display.specs.Tables.{texts_in}
-use Rattle.textwrap_lines.proofs.Paragraph.KeepsTo.{passed-on}
+use Rattle.textwrap_display.proofs.{Common.passed-on, TableGroups.IsFirstGroup}
+use Rattle.textwrap_display.proofs.TableGroups.{first-group, groups-more, table-more, table-none}
+use Rattle.textwrap_display.{proofs.tables.table.Goals.In-Some, specs.Tables.NonePasses}
+use Rattle.textwrap_display.specs.Tables.{cell_texts, gaps_view, group_rows, texts_in}
 use Rattle.textwrap_text.proofs.Common.{All-head, All-tail, [], append-nil, append_assoc, arith}
-use Rattle.textwrap_text.proofs.Common.{length, length-map, map, rules, string_bytes, subst, ◌++◌}
-use Rattle.textwrap_text.proofs.Common.{◌∙◌}
+use Rattle.textwrap_text.proofs.Common.{length, length-map, map, rules, ◌++◌, ◌∙◌}
 
 pub loop-texts-init : goal.loop-texts-init
 loop-texts-init g c = search (rules, arith)
@@ -16,15 +14,9 @@ first_group : (g : _) (c : In-Some g) → IsFirstGroup (length c.args.columns.no
     (texts_in (chunks_rest c.loop-texts.texts-iterator)) (texts_in c.in-Some.texts.now)
     (texts_in (chunks_rest c.next.new.self))
 first_group g c =
-    let (size, (whole, front, some)) = c.in-Some.ensures.steps in
-    group-map (λ text. text.now) (length c.args.columns.now)
-    (chunks_rest c.loop-texts.texts-iterator) c.in-Some.texts.now (chunks_rest c.next.new.self)
-    (record {
-      some = omega (arith, c.loop-texts.iterator.0, c.loop-texts.invariant.0);
-      whole = whole;
-      more = omega (arith, some);
-      size = omega (arith, front, c.loop-texts.invariant.0);
-    })
+    first-group (λ text. text.now) (chunks_rest c.loop-texts.texts-iterator) c.in-Some.texts.now
+    (chunks_rest c.next.new.self) c.loop-texts.iterator.0 c.loop-texts.invariant.0
+    c.in-Some.ensures.steps.1
 
 pub loop-texts-preserved : goal.loop-texts-preserved
 loop-texts-preserved g c =
@@ -55,9 +47,7 @@ returns-in_err-group-clause-no_overflow g c = λ fit.
 
 pub returns-clause-rows : goal.returns-clause-rows
 returns-clause-rows g c =
-    subst (IsTableBy g.C.AnyColumn.makes g.C.AnyColumn.shape c.args.columns.now (gaps_view c.args.gaps.now) (texts_in c.args.cells.now))
-    (append-nil (map string_bytes c.loop-texts.rows.items))
-    (c.loop-texts.invariant.1 [] (table-none g.C.AnyColumn.makes g.C.AnyColumn.shape c.args.columns.now
-    (gaps_view c.args.gaps.now) (texts_in (chunks_rest c.loop-texts.texts-iterator))
-    (length-map (chunks_rest c.loop-texts.texts-iterator) (λ text. text.now)
-    ∙ c.in-None.ensures.steps.1.0)))
+    let left = chunks_rest c.loop-texts.texts-iterator in
+    rw append-nil at (c.loop-texts.invariant.1 [] (table-none g.C.AnyColumn.makes g.C.AnyColumn.shape
+    c.args.columns.now (gaps_view c.args.gaps.now) (texts_in left)
+    (length-map left (λ text. text.now) ∙ c.in-None.ensures.steps.1.0)))

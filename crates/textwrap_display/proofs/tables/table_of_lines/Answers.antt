@@ -1,27 +1,21 @@
 use Rattle.textwrap_display.proofs.tables.table_of_lines.Goals as goal
 use Rattle.std.specs.Slice.Iter.{chunks_rest}
-use Rattle.textwrap_display.proofs.TableGroups.{cells-rows-more, cells-rows-none, group-map}
+use Rattle.textwrap_display.proofs.{Common.texts_of, TableGroups.cells-rows-more}
+use Rattle.textwrap_display.proofs.TableGroups.{cells-rows-none, first-group}
 use Rattle.textwrap_display.specs.Tables.{cell_texts, gaps_view, shape_of}
-use Rattle.textwrap_styles.specs.Styles.{texts_of}
-use Rattle.textwrap_text.proofs.Common.{append-nil, append_assoc, arith, length, length-map, map}
-use Rattle.textwrap_text.proofs.Common.{rules, ◌∙◌}
+use Rattle.textwrap_text.proofs.Common.{append-nil, append_assoc, arith, length-map, map, rules}
+use Rattle.textwrap_text.proofs.Common.{sym, ◌∙◌}
 
 pub loop-group-init : goal.loop-group-init
 loop-group-init g c = search (rules, arith)
 
 pub loop-group-preserved : goal.loop-group-preserved
 loop-group-preserved g c =
-    let (size, (whole, front, some)) = c.in-Some.ensures.steps in
+    let (size, chunk) = c.in-Some.ensures.steps in
     let columns = map shape_of c.args.columns.now in
-    let shapes = length-map c.args.columns.now shape_of in
-    let group = group-map (λ lines. texts_of lines.items) (length columns)
-    (chunks_rest c.loop-group.group-iterator) c.in-Some.group.now (chunks_rest c.next.new.self)
-    (record {
-      some = omega (arith, shapes, c.loop-group.iterator.0, c.loop-group.invariant.0);
-      whole = whole;
-      more = omega (arith, some);
-      size = omega (arith, shapes, front, c.loop-group.invariant.0);
-    }) in (
+    let count = c.loop-group.invariant.0 ∙ sym (length-map c.args.columns.now shape_of) in
+    let group = first-group (λ lines. texts_of lines.items) (chunks_rest c.loop-group.group-iterator)
+    c.in-Some.group.now (chunks_rest c.next.new.self) c.loop-group.iterator.0 count chunk in (
       size ∙ c.loop-group.invariant.0,
       rw (
         c.in_ok-push_group.ensures,

@@ -2,73 +2,62 @@ use Rattle.textwrap_display.proofs.tables.wrap_cells.Goals as goal
 use Rattle.std.proofs.lemmas.Slice.Zip.{all_zipped_more, length-zip, zip_end, zip_turn}
 use Rattle.std.specs.Iterator.Adapters.{zip_first, zip_second}
 use Rattle.std.specs.Slice.Iter.{iter_rest}
-use Rattle.textwrap_display.proofs.{TableGroups.cell-at, tables.wrap_cells.Goals.In-Some}
-use Rattle.textwrap_display.specs.Tables.{IsCell, cell_texts, texts_in}
+use Rattle.textwrap_display.proofs.{Common.passed-on, Common.texts_of, TableGroups.cell-at}
+use Rattle.textwrap_display.{proofs.tables.wrap_cells.Goals.In-Some, specs.Tables.IsCell}
+use Rattle.textwrap_display.specs.Tables.{cell_texts, texts_in}
 use Rattle.textwrap_layout.proofs.Common.{line_view}
-use Rattle.textwrap_lines.proofs.Paragraph.KeepsTo.{passed-on}
-use Rattle.textwrap_styles.specs.Styles.{texts_of}
 use Rattle.textwrap_text.proofs.Common.{arith, get_or, length, length-map, length_push, map}
 use Rattle.textwrap_text.proofs.Common.{map-append, refl, rules, subst, sym, take, take_all}
 use Rattle.textwrap_text.proofs.Common.{take_more, zip, ◌<◌, ◌≡◌}
 
--- which text this is, and which column
-turn : (g : _) (c : In-Some g) → let n = length c.loop-text.yielded in
-    (n < length c.args.texts.now) × (n < length c.args.columns.now)
-    × ((d : _) → c.in-Some.text.now ≡ get_or c.args.texts.now n d)
-    × ((d : _) → c.in-Some.column.now ≡ get_or c.args.columns.now n d)
+-- which column this is, and which text beside it
+turn : (g : _) (c : In-Some g)
+    → let n = length c.loop-text.yielded in let columns = c.args.columns.now in
+    let all = zip columns (texts_in c.args.texts.now) in
+    let column = c.in-Some.column.now in let text = c.in-Some.text.now.now in
+    (n < length columns) × ((d : _) → column ≡ get_or columns n d) × (n < length all)
+    × ((column, text) ≡ get_or all n (column, text))
 turn g c =
     let first : iter_rest (zip_first c.into_iter-text-iterator.result) ≡ c.args.texts.now =
     search rules in
     let second : iter_rest (zip_second c.into_iter-text-iterator.result) ≡ c.args.columns.now =
     search rules in
-    zip_turn c.args.texts.now c.args.columns.now c.loop-text.yielded _ _ c.next.new.self _ first
-    second c.loop-text.yielded_by (c.in-Some.text, c.in-Some.column) c.in-Some.is
-    c.next.ensures.steps
+    let (some, within, text_is, column_is) = zip_turn c.args.texts.now c.args.columns.now
+    c.loop-text.yielded _ _ c.next.new.self _ first second c.loop-text.yielded_by
+    (c.in-Some.text, c.in-Some.column) c.in-Some.is c.next.ensures.steps in
+    let (inside, is) = cell-at c.args.columns.now c.args.texts.now (length c.loop-text.yielded)
+    c.in-Some.column.now c.in-Some.text.now within some (column_is _) (text_is _) in
+    (within, column_is, inside, is)
 
 pub loop-text-preserved : goal.loop-text-preserved
 loop-text-preserved g c =
-    let (some, within, text_is, column_is) =
-    turn g (goal.at.loop-text-preserved g c).In-Some in
+    let (_, _, inside, is) = turn g (goal.at.loop-text-preserved g c).In-Some in
     let n = length c.loop-text.yielded in
     let column = c.in-Some.column.now in
-    let text = c.in-Some.text.now in
+    let text = c.in-Some.text.now.now in
     let lines = c.in_ok-wrap_cell.field-0 in
-    let (inside, is) = cell-at c.args.columns.now c.args.texts.now n column text within some
-    (column_is column) (text_is text) in
     let all = zip c.args.columns.now (texts_in c.args.texts.now) in
-    rw (
-      length_push,
-      c.in_ok-push.ensures.items,
-      map-append,
-      take_more all n (column, text.now) inside,
-      ← is,
-    )
-    (all_zipped_more (IsCell g.C.AnyColumn.makes) (take n all)
-    (cell_texts c.loop-text.cells.items) (column, text.now) (texts_of lines.items)
-    c.loop-text.invariant (map line_view lines.items, c.in_ok-wrap_cell.ensures.lines, refl))
+    rw (length_push, c.in_ok-push.ensures.items, map-append, take_more all n (column, text) inside, ← is)
+    (all_zipped_more (IsCell g.C.AnyColumn.makes) (take n all) (cell_texts c.loop-text.cells.items)
+    (column, text) (texts_of lines.items) c.loop-text.invariant
+    (map line_view lines.items, c.in_ok-wrap_cell.ensures.lines, refl))
 
 pub returns-in_err-wrap_cell-clause-only_memory : goal.returns-in_err-wrap_cell-clause-only_memory
 returns-in_err-wrap_cell-clause-only_memory g c = λ never.
-    let (some, within, text_is, column_is) =
-    turn g (goal.at.returns-in_err-wrap_cell-clause-only_memory g c).In-Some in
+    let (within, is, _, _) = turn g (goal.at.returns-in_err-wrap_cell-clause-only_memory g c).In-Some in
     let column = c.in-Some.column.now in
     passed-on c.from_residual.result c.in_err-wrap_cell.field-0.0 c.from_residual.ensures.1
     (c.in_err-wrap_cell.ensures.only_memory
-    (subst (λ column. ¬ g.C.AnyColumn.may_overflow column) (sym (column_is column))
+    (subst (λ column. ¬ g.C.AnyColumn.may_overflow column) (sym (is column))
     (never (length c.loop-text.yielded) column within)))
 
 pub returns-in_err-wrap_cell-clause-no_overflow : goal.returns-in_err-wrap_cell-clause-no_overflow
 returns-in_err-wrap_cell-clause-no_overflow g c = λ fit.
-    let (some, within, text_is, column_is) =
-    turn g (goal.at.returns-in_err-wrap_cell-clause-no_overflow g c).In-Some in
-    let n = length c.loop-text.yielded in
-    let column = c.in-Some.column.now in
-    let text = c.in-Some.text.now in
-    let (inside, is) = cell-at c.args.columns.now c.args.texts.now n column text within some
-    (column_is column) (text_is text) in
+    let (_, _, inside, is) = turn g (goal.at.returns-in_err-wrap_cell-clause-no_overflow g c).In-Some in
     passed-on c.from_residual.result c.in_err-wrap_cell.field-0.0 c.from_residual.ensures.1
     (c.in_err-wrap_cell.ensures.no_overflow
-    (subst (λ p. ¬ g.C.AnyColumn.may_pass p.0 p.1) (sym is) (fit n (column, text.now) inside)))
+    (subst (λ p. ¬ g.C.AnyColumn.may_pass p.0 p.1) (sym is)
+    (fit (length c.loop-text.yielded) (c.in-Some.column.now, c.in-Some.text.now.now) inside)))
 
 pub returns-clause-cells : goal.returns-clause-cells
 returns-clause-cells g c =
@@ -79,10 +68,7 @@ returns-clause-cells g c =
     let second : iter_rest (zip_second c.into_iter-text-iterator.result) ≡ columns = search rules in
     let ended = zip_end texts columns c.loop-text.yielded _ _ c.next.new.self _ first second
     c.loop-text.yielded_by c.in-None.is c.next.ensures.steps in
-    let all = take_all n (zip columns (texts_in texts)) (omega (
-      arith,
-      ended,
-      length-zip columns (texts_in texts),
-      length-map texts (λ t. t.now),
-    )) in
+    let some = length-map texts (λ t. t.now) in
+    let all = take_all n (zip columns (texts_in texts))
+    (omega (arith, ended, length-zip columns (texts_in texts), some)) in
     rw all at c.loop-text.invariant

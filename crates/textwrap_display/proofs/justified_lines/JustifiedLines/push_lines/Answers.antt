@@ -1,10 +1,11 @@
 use Rattle.textwrap_display.proofs.justified_lines.JustifiedLines.push_lines.Goals as goal
 use Rattle.textwrap_display.proofs.Common.{line_bytes, line_bytes-line_view, line_view}
-use Rattle.textwrap_display.proofs.JustifiedSinks.{justified-none, justified-one, paragraph-written}
+use Rattle.textwrap_display.proofs.JustifiedLines.{justified-none, justified-one, paragraph-written}
 use Rattle.textwrap_display.specs.JustifiedSinks.{HoldsJustified}
 use Rattle.textwrap_layout.proofs.Text.Sinks.{on_ok_both}
-use Rattle.textwrap_text.proofs.Common.{[], ap, append-nil, length, map, map_push, subst, sym, take}
-use Rattle.textwrap_text.proofs.Common.{arith, take_all, take_more, ◌++◌, ◌+◌, ◌∙◌, ◌∷◌, ◌≡◌, ◌≤◌}
+use Rattle.textwrap_text.proofs.Common.{[], ap, append-nil, arith, length, map, map_push, subst}
+use Rattle.textwrap_text.proofs.Common.{sym, take, take_all, take_more, ◌++◌, ◌+◌, ◌∙◌, ◌∷◌, ◌≡◌}
+use Rattle.textwrap_text.proofs.Common.{◌≤◌}
 
 pub loop-line-init : goal.loop-line-init
 loop-line-init g c = justified-none c.args.self.now c.requires
@@ -21,15 +22,12 @@ loop-line-preserved g c =
     ∙ sym (line_bytes-line_view line) in
     subst (HoldsJustified c.args.self.now c.take_line.new.self)
     (ap (λ b. before ++ b ∷ []) text ∙ sym more)
-    (justified-one c.args.self.now c.loop-line.self c.take_line.new.self before _
-    c.loop-line.invariant c.in_ok-take_line.ensures)
+    (justified-one c.loop-line.invariant c.in_ok-take_line.ensures)
 
 pub returns : goal.returns
 returns g c =
     let lines = c.args.lines.now in
     let all : length lines ≤ c.loop-line.line-index = omega arith in
-    on_ok_both c.end_paragraph.result (paragraph-written c.args.self.now c.loop-line.self
-    c.end_paragraph.new.self (map line_bytes (map line_view lines)) (subst (HoldsJustified c.args.self.now
-    c.loop-line.self) (ap (λ ls. map line_bytes (map line_view ls))
-    (take_all c.loop-line.line-index lines all)) c.loop-line.invariant))
+    on_ok_both c.end_paragraph.result (paragraph-written
+    (rw (take_all c.loop-line.line-index lines all) at c.loop-line.invariant))
     c.end_paragraph.ensures.written c.end_paragraph.ensures.none

@@ -1,9 +1,10 @@
 use Rattle.textwrap_display.proofs.justified_lines.JustifiedLinesLineSink.push_line.Goals as goal
-use Rattle.textwrap_display.proofs.{Common.line_bytes, JustifiedSinks.justified-one}
+use Rattle.textwrap_display.proofs.{Common.line_bytes, JustifiedLines.justified-one}
 use Rattle.textwrap_display.specs.JustifiedSinks.{HoldsJustified}
 use Rattle.textwrap_layout.proofs.Common.{assembled_line, cut_line, lines_of}
 use Rattle.textwrap_layout.proofs.Text.Sinks.{assembled-bytes, lines_of-more}
-use Rattle.textwrap_text.proofs.Common.{[], ap, map, map-append, on_ok_weaker, subst, sym, ◌++◌, ◌∙◌, ◌∷◌}
+use Rattle.textwrap_text.proofs.Common.{[], ap, map, map-append, on_ok_weaker, subst, sym, ◌++◌}
+use Rattle.textwrap_text.proofs.Common.{◌∙◌, ◌∷◌}
 
 pub returns-clause-pushed : goal.returns-clause-pushed
 returns-clause-pushed g c =
@@ -16,5 +17,5 @@ returns-clause-pushed g c =
           (ap (λ b. map line_bytes (lines_of before) ++ b ∷ []) (assembled-bytes indent slice penalty)
           ∙ sym (map-append line_bytes (lines_of before) (line ∷ []))
           ∙ ap (map line_bytes) (sym (lines_of-more before start (cut_line c.args.start line ∷ []))))
-          (justified-one first c.args.self.now c.take_line.new.self _ _ given takes);
+          (justified-one given takes);
     }) c.take_line.ensures

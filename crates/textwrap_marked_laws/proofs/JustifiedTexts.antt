@@ -1,18 +1,16 @@
 -- The printed lines of a division are lines of the paragraph's words, with blanks between them.
-use Rattle.textwrap_display.proofs.Common.{◌%◌, widened_words, indent_len, justified, gaps, line_bytes, Slice}
-use Rattle.textwrap_display.proofs.Common.{chunks, chunks-from, words_of, tiled}
+use Rattle.textwrap_display.proofs.Common.{widened_words, chunks-from, indent_len, line_bytes, justified, ◌%◌}
+use Rattle.textwrap_display.proofs.Common.{words_of, chunks, Slice, tiled, gaps}
 use Rattle.textwrap_display.proofs.WidenedWords.{widened_chunks, widened-text}
 use Rattle.textwrap_marked.proofs.PrintedLines.{texts_more}
-use Rattle.textwrap_marked_laws.proofs.Common.{ReflowOptions, append_assoc, shown_lines, IsDivision, all-right}
-use Rattle.textwrap_marked_laws.proofs.Common.{all-left, is_blank, covered, word_of, blanks, get_or, length, ℕ}
-use Rattle.textwrap_marked_laws.proofs.Common.{append-nil, first_room, later_room, line_texts, onto_first, All}
-use Rattle.textwrap_marked_laws.proofs.Common.{cond, drop, flat, refl, take, true, ◌&&◌, ◌++◌, ◌==◌, ◌||◌, map}
-use Rattle.textwrap_marked_laws.proofs.Common.{nat_lt, ne_eqb, pieces, arith, blank, false, subst, Bool, List}
-use Rattle.textwrap_marked_laws.proofs.Common.{not, sym, ◌+◌, ◌-◌, ◌<◌, ◌∙◌, ◌∷◌, ◌≡◌, ◌≢◌, ◌≤◌, [], ap}
-use Rattle.textwrap_marked_laws.proofs.Common.{text_width, line_text, All-head, All-tail, LineText, WordText}
-use Rattle.textwrap_marked_laws.proofs.LineWords.{division-words, AreCutInto, all_shown, ink-blank, joined}
-use Rattle.textwrap_marked_laws.proofs.{LineWords.shown, SpacedBack.IsPlain, SpacedBack.IsInk}
 use Rattle.textwrap_text.proofs.Common.{cond_both, eq-eqb, min, ◌/◌}
+use Rattle.textwrap_marked_laws.proofs as own
+use own.Common.{ReflowOptions, append_assoc, shown_lines, IsDivision, append-nil, first_room, later_room, All}
+use own.Common.{WordText, all-left, is_blank, covered, word_of, blanks, get_or, length, nat_lt, ne_eqb, blank}
+use own.Common.{line_texts, onto_first, text_width, all-right, line_text, All-head, All-tail, LineText, arith}
+use own.Common.{pieces, false, subst, Bool, List, cond, drop, flat, refl, take, true, ◌&&◌, ◌++◌, ◌==◌, ◌||◌}
+use own.{Common.{map, not, sym, ◌+◌, ◌-◌, ◌<◌, ◌∙◌, ◌∷◌, ◌≡◌, ◌≢◌, ◌≤◌, [], ap, ℕ}, SpacedBack.IsPlain}
+use own.{LineWords.{division-words, AreCutInto, all_shown, ink-blank, joined, shown}, SpacedBack.IsInk}
 
 -- ---- the chunks of a line
 

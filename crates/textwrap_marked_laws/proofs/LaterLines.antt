@@ -1,16 +1,14 @@
 -- Lines of a paragraph, and lines of other words behind the same marks.
-use Rattle.textwrap_marked_laws.proofs.Common.{StateText, has_words, is_bullet, LineText, bytes_eq, is_ended, []}
-use Rattle.textwrap_marked_laws.proofs.Common.{closes_early, line_as_read, begins_text, bullets_len, has_columns}
-use Rattle.textwrap_marked_laws.proofs.Common.{flat_map-append, hanging_bullets, without_returns, ReflowOptions}
-use Rattle.textwrap_marked_laws.proofs.Common.{is_comment_at, length-append, append_assoc, closes_block, is_box}
-use Rattle.textwrap_marked_laws.proofs.Common.{is_quote, length, passed, arith, codes, false, subst, List, cond}
-use Rattle.textwrap_marked_laws.proofs.Common.{refl, true, ◌&&◌, ◌++◌, suc, sym, ◌+◌, ◌<◌, ◌∙◌, ◌∷◌, ◌≡◌, ap, ℕ}
-use Rattle.textwrap_marked_laws.proofs.Common.{spaced_text, SpacedText, first_word, quotes_len, true≢false, Bool}
-use Rattle.textwrap_marked_laws.proofs.{HangingKinds.{quotes-all, quotes-are}, LineKinds.{hanging_of, HaveKinds}}
-use Rattle.textwrap_marked_laws.proofs.LineKinds.{kinds-cut, line-is, line_by, none-if, one_if, Kinds, kinds}
-use Rattle.textwrap_marked_laws.proofs.OpenBehind.{behind-free, behind_text, apart-free, starred_at, block_at}
-use Rattle.textwrap_marked_laws.proofs.{OpenBehind.begun, SpacedBack.{IsLineText, AreSpaced, line-text}}
 use Rattle.textwrap_marked_lines.proofs.FirstWords.{comment_is}
+use Rattle.textwrap_marked_laws.proofs as own
+use own.Common.{Bool, List, cond, refl, true, ◌&&◌, ◌++◌, suc, sym, ◌+◌, ◌<◌, ◌∙◌, ◌∷◌, ◌≡◌, [], ap}
+use own.Common.{LineText, bytes_eq, is_ended, is_quote, is_box, length, passed, arith, codes, false, subst, ℕ}
+use own.Common.{flat_map-append, hanging_bullets, without_returns, ReflowOptions, is_comment_at, append_assoc}
+use own.Common.{has_columns, spaced_text, first_word, quotes_len, true≢false, StateText, has_words, is_bullet}
+use own.Common.{length-append, closes_block, closes_early, line_as_read, begins_text, bullets_len, SpacedText}
+use own.LineKinds.{hanging_of, HaveKinds, kinds-cut, line-is, line_by, none-if, one_if, Kinds, kinds}
+use own.OpenBehind.{behind-free, behind_text, apart-free, starred_at, block_at, begun}
+use own.{HangingForms.{quotes-all, quotes-are}, SpacedBack.{IsLineText, AreSpaced, line-text}}
 
 -- ---- what is read of a line
 
@@ -48,11 +46,18 @@ module _ (options : ReflowOptions) (state : StateText) (raw : List ℕ) (r : IsR
   abbrev pub read_kinds : Kinds
   read_kinds = kinds r.lead r.cs r.qs r.bs r.ws
 
+  -- the line that is read, and whether it is in a block comment
+  abbrev pub read_as : Bool → LineText
+  read_as fed = line_by options state raw fed read_kinds
+
+  abbrev pub read_block : Bool
+  read_block = block_at state read_kinds
+
   -- the marks before the text
   abbrev pub read_marks : List SpacedText
   read_marks = r.cs ++ (r.qs ++ r.bs)
 
-  pub read-line : (fed : Bool) → line_as_read options state raw fed ≡ line_by options state raw fed read_kinds
+  pub read-line : (fed : Bool) → line_as_read options state raw fed ≡ read_as fed
   read-line fed = line-is r.lead r.cs r.qs r.bs r.ws options state raw fed r.text r.have
 
   pub read-spaced : AreSpaced (read_marks ++ r.ws)
@@ -126,8 +131,7 @@ bullets-none w (v ∷ ws) none box =
     (suc (suc (bullets_len ws))) 0) box
 
 bullet-none : (xs bs : List SpacedText) → 0 < length xs → bullets_len xs ≡ 0
-    → first_word xs ≡ first_word bs → bytes_eq (first_word xs) (codes "[") ≡ false
-    → bullets_len bs ≡ 0
+    → first_word xs ≡ first_word bs → bytes_eq (first_word xs) (codes "[") ≡ false → bullets_len bs ≡ 0
 bullet-none [] bs some none same box = absurd (omega (arith, some))
 bullet-none (a ∷ xs) [] some none same box = refl
 bullet-none (a ∷ xs) (b ∷ bs) some none same box =
@@ -141,8 +145,7 @@ bullet-none (a ∷ xs) (b ∷ bs) some none same box =
 abbrev bullets_by : SpacedText → SpacedText → List SpacedText → Bool → Bool → ℕ
 bullets_by b c ws t u = cond t (suc (bullets_len (c ∷ ws))) (cond u (suc (suc (bullets_len ws))) 0)
 
-pub one-bullet : (t u : Bool) (n m : ℕ) → cond t (suc n) (cond u (suc (suc m)) 0) ≡ 1
-    → (t ≡ true) × (n ≡ 0)
+pub one-bullet : (t u : Bool) (n m : ℕ) → cond t (suc n) (cond u (suc (suc m)) 0) ≡ 1 → (t ≡ true) × (n ≡ 0)
 one-bullet true u n m is = (refl, omega (arith, is))
 one-bullet false true n m is = absurd (omega (arith, is))
 one-bullet false false n m is = absurd (omega (arith, is))

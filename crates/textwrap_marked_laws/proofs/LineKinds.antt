@@ -1,18 +1,16 @@
 -- What is read of a line, from its words by kind: a comment mark, quote marks, bullets and text.
 use Rattle.std.proofs.Common.{length-take-le, drop_at, eq-eqb}
-use Rattle.textwrap_marked_laws.proofs.Common.{append-nil, cases_Bool, first_word, quotes_len, LineText, is_deep}
-use Rattle.textwrap_marked_laws.proofs.Common.{bullets_len, comment_len, slice_range, spaced_text, SpacedText, ℕ}
-use Rattle.textwrap_marked_laws.proofs.Common.{closes_block, line_as_read, spaced_words, stands_apart, is_bullet}
-use Rattle.textwrap_marked_laws.proofs.Common.{flat_map-append, hanging_bullets, line_from_words, ReflowOptions}
-use Rattle.textwrap_marked_laws.proofs.Common.{has_byte, is_ended, list_any, is_some, take_at, is_box, is_key}
-use Rattle.textwrap_marked_laws.proofs.Common.{is_comment_opening, hanging_comments, take-append-drop, StateText}
-use Rattle.textwrap_marked_laws.proofs.Common.{length, lt-ltb, ne_eqb, arith, false, List, cond, drop, refl, not}
-use Rattle.textwrap_marked_laws.proofs.Common.{take, true, ◌&&◌, ◌++◌, ◌==◌, ◌||◌, suc, sym, ◌+◌, ◌-◌, ◌∙◌, ◌∷◌}
-use Rattle.textwrap_marked_laws.proofs.Common.{without_returns, is_comment_at, length-append, append_assoc, Bool}
-use Rattle.textwrap_marked_laws.proofs.{Common.◌≡◌, Common.◌≤◌, Common.[], Common.ap, SpacedBack.begins-plain}
-use Rattle.textwrap_marked_laws.proofs.SpacedBack.{BeginsPlain, IsLineText, lead_words, line-back, with_lead}
-use Rattle.textwrap_marked_lines.specs.{Lines.is_chosen, Prefixes.prefix_ends, Prefixes.lead_len}
-use Rattle.textwrap_marked_lines.specs.declared.prefixes.PrefixEnds.{PrefixEnds}
+use Rattle.textwrap_marked_lines.specs.Prefixes.{prefix_ends, lead_len}
+use Rattle.textwrap_marked_lines.{specs.Lines.is_chosen, specs.declared.prefixes.PrefixEnds.PrefixEnds}
+use Rattle.textwrap_marked_laws.proofs as own
+use own.Common.{LineText, has_byte, is_ended, list_any, is_deep, is_some, take_at, is_box, is_key, length, []}
+use own.Common.{closes_block, line_as_read, spaced_words, stands_apart, bullets_len, comment_len, slice_range}
+use own.Common.{is_comment_opening, hanging_comments, take-append-drop, flat_map-append, hanging_bullets, not}
+use own.Common.{line_from_words, without_returns, ReflowOptions, is_comment_at, length-append, append_assoc}
+use own.Common.{lt-ltb, ne_eqb, arith, false, Bool, List, cond, drop, refl, take, true, ◌&&◌, ◌++◌, ◌==◌, suc}
+use own.Common.{spaced_text, SpacedText, append-nil, cases_Bool, first_word, quotes_len, StateText, is_bullet}
+use own.Common.{◌||◌, sym, ◌+◌, ◌-◌, ◌∙◌, ◌∷◌, ◌≡◌, ◌≤◌, ap, ℕ}
+use own.SpacedBack.{begins-plain, BeginsPlain, IsLineText, lead_words, line-back, with_lead}
 
 -- ---- what is read of words by kind
 
@@ -71,8 +69,7 @@ cut_kinds all ends = record {
   bare = ends.margin == ends.text;
 }
 
-abbrev pub kinds : List ℕ → List SpacedText → List SpacedText → List SpacedText → List SpacedText
-    → Kinds
+abbrev pub kinds : List ℕ → List SpacedText → List SpacedText → List SpacedText → List SpacedText → Kinds
 kinds lead comments quotes bullets words = record {
   lead = lead;
   comments = comments;
@@ -210,8 +207,7 @@ module _ (lead : List ℕ) (cs qs bs ws : List SpacedText) where
 
   -- the line that is read of such words
   pub line-is : (options : ReflowOptions) (state : StateText) (raw : List ℕ) (fed : Bool)
-      → IsLineText (without_returns raw) lead all_words
-      → HaveKinds options state.in_block cs qs bs ws
+      → IsLineText (without_returns raw) lead all_words → HaveKinds options state.in_block cs qs bs ws
       → line_as_read options state raw fed ≡ line_by options state raw fed (kinds lead cs qs bs ws)
   line-is options state raw fed is have =
       ap (λ a. line_from_words options state raw fed a (prefix_ends options state.in_block a))

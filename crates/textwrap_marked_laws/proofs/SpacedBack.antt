@@ -1,12 +1,12 @@
 -- Words with white between them are read back from their text.
-use Rattle.textwrap_marked_laws.proofs.Common.{cond, refl, true, ◌++◌, ◌==◌, map, sym, ◌<◌, ◌∙◌, ◌∷◌, ◌≡◌, ℕ, ⊤}
-use Rattle.textwrap_marked_laws.proofs.Common.{flat_map, is_white, All-nil, length, lt-ltb, arith, false, List}
-use Rattle.textwrap_marked_laws.proofs.Common.{slice_split, spaced_text, SpacedText, append-nil, onto_first, All}
-use Rattle.textwrap_marked_laws.proofs.Common.{slice_split_none, flat_map-append, append_assoc, spaced_words, []}
-use Rattle.textwrap_marked_laws.proofs.Common.{true≢false, has_bytes, All-cons, All-head, All-tail, eqb-true, ap}
-use Rattle.textwrap_marked_laws.proofs.Common.{words_between_white, false_from_ne_true, length-slice_split, Bool}
 use Rattle.textwrap_marks.specs.Words.{onto_word, with_byte}
 use Rattle.textwrap_text.proofs.Lists.Parts.{onto_first-append}
+use Rattle.textwrap_marked_laws.proofs as own
+use own.Common.{All-nil, length, lt-ltb, arith, false, Bool, List, cond, refl, true, ◌++◌, ◌==◌, All, map, []}
+use own.Common.{flat_map-append, spaced_words, slice_split, spaced_text, SpacedText, append-nil, first_word}
+use own.Common.{onto_first, true≢false, has_bytes, All-cons, All-head, All-tail, eqb-true, flat_map, is_white}
+use own.Common.{sym, ◌<◌, ◌∙◌, ◌∷◌, ◌≡◌, ap, ℕ, ⊤}
+use own.Common.{words_between_white, false_from_ne_true, length-slice_split, slice_split_none, append_assoc}
 
 -- ---- texts
 
@@ -54,6 +54,16 @@ word-alone word plain =
 
 -- ---- words with white between them are read back from their text
 
+abbrev pub words_in : List SpacedText → List (List ℕ)
+words_in ws = map (λ w. w.word) ws
+
+-- what holds of each word
+pub each-word : (P : List ℕ → Type 0) (ws : List SpacedText) → All P (words_in ws) → All (λ w. P w.word) ws
+each-word P [] all = All-nil (λ w. P w.word)
+each-word P (w ∷ ws) all =
+    All-cons (λ w. P w.word) w ws (All-head P w.word (words_in ws) all)
+    (each-word P ws (All-tail P w.word (words_in ws) all))
+
 abbrev pub IsWhite : ℕ → Type 0
 IsWhite c = is_white c ≡ true
 
@@ -79,6 +89,15 @@ AreSpaced (w ∷ v ∷ ws) = IsSpaced w × (0 < length w.white) × AreSpaced (v 
 pub spaced-first : (w : SpacedText) (ws : List SpacedText) → AreSpaced (w ∷ ws) → IsSpaced w
 spaced-first w [] are = are
 spaced-first w (v ∷ ws) are = are.0
+
+pub plain-first : (ws : List SpacedText) → 0 < length ws → AreSpaced ws → IsPlain (first_word ws)
+plain-first [] some are = absurd (omega (arith, some))
+plain-first (w ∷ ws) some are = (spaced-first w ws are).word
+
+pub spaced-cons : (w : SpacedText) (ws : List SpacedText) → IsSpaced w
+    → (0 < length ws → 0 < length w.white) → AreSpaced ws → AreSpaced (w ∷ ws)
+spaced-cons w [] here some are = here
+spaced-cons w (v ∷ ws) here some are = (here, some (omega arith), are)
 
 pub spaced-plain : (ws : List SpacedText) → AreSpaced ws → All (λ w. IsPlain w.word) ws
 spaced-plain [] are = All-nil (λ w. IsPlain w.word)
@@ -183,20 +202,16 @@ onto-spaced c w [] ink are =
 onto-spaced c w (v ∷ ws) ink (here, some, later) =
     (record { word = plain-more c w.word ink here.word; white = here.white }, some, later)
 
-word-spaced : (c d : ℕ) (lead : List ℕ) (ws : List SpacedText) → IsInk c → All IsWhite (d ∷ lead)
-    → AreSpaced ws → AreSpaced (record { word = c ∷ []; white = d ∷ lead } ∷ ws)
-word-spaced c d lead [] ink white are = record { word = plain-one c ink; white = white }
-word-spaced c d lead (v ∷ ws) ink white are =
-    (record { word = plain-one c ink; white = white }, omega arith, are)
-
-pub line-text : (text : List ℕ)
-    → (lead : List ℕ) × (ws : List SpacedText) × IsLineText text lead ws
+pub line-text : (text : List ℕ) → (lead : List ℕ) × (ws : List SpacedText) × IsLineText text lead ws
 line-text [] = ([], [], record { white = All-nil IsWhite; spaced = tt; is = refl })
 line-text (c ∷ cs) =
     let (lead, ws, is) = line-text cs in more (is_white c) refl lead ws is
   where
-    more : (w : Bool) → is_white c ≡ w → (lead : List ℕ) (ws : List SpacedText)
-        → IsLineText cs lead ws
+    of : (ws : List SpacedText) → AreSpaced ws → c ∷ cs ≡ spaced_text ws
+        → (lead : List ℕ) × (ws : List SpacedText) × IsLineText (c ∷ cs) lead ws
+    of ws spaced is = ([], ws, record { white = All-nil IsWhite; spaced = spaced; is = is })
+
+    more : (w : Bool) → is_white c ≡ w → (lead : List ℕ) (ws : List SpacedText) → IsLineText cs lead ws
         → (lead : List ℕ) × (ws : List SpacedText) × IsLineText (c ∷ cs) lead ws
     more true white lead ws is = (
       c ∷ lead,
@@ -207,33 +222,15 @@ line-text (c ∷ cs) =
         is = ap (λ l. c ∷ l) is.is;
       },
     )
-    more false ink [] [] is = (
-      [],
-      record { word = c ∷ []; white = [] } ∷ [],
-      record {
-        white = All-nil IsWhite;
-        spaced = record { word = plain-one c ink; white = All-nil IsWhite };
-        is = ap (λ l. c ∷ l) is.is;
-      },
-    )
-    more false ink [] (w ∷ ws) is = (
-      [],
-      onto_word c w ∷ ws,
-      record {
-        white = All-nil IsWhite;
-        spaced = onto-spaced c w ws ink is.spaced;
-        is = ap (λ l. c ∷ l) is.is;
-      },
-    )
-    more false ink (d ∷ lead) ws is = (
-      [],
-      record { word = c ∷ []; white = d ∷ lead } ∷ ws,
-      record {
-        white = All-nil IsWhite;
-        spaced = word-spaced c d lead ws ink is.white is.spaced;
-        is = ap (λ l. c ∷ l) is.is;
-      },
-    )
+    more false ink [] [] is =
+        of (record { word = c ∷ []; white = [] } ∷ []) (record { word = plain-one c ink; white = All-nil IsWhite })
+        (ap (λ l. c ∷ l) is.is)
+    more false ink [] (w ∷ ws) is =
+        of (onto_word c w ∷ ws) (onto-spaced c w ws ink is.spaced) (ap (λ l. c ∷ l) is.is)
+    more false ink (d ∷ lead) ws is =
+        let w : SpacedText = record { word = c ∷ []; white = d ∷ lead } in
+        of (w ∷ ws) (spaced-cons w ws (record { word = plain-one c ink; white = is.white }) (λ more. omega arith)
+        is.spaced) (ap (λ l. c ∷ l) is.is)
 
 -- ---- its words between white
 
@@ -246,7 +243,7 @@ word-in word (c ∷ white) rest plain all some =
     ∙ ap (λ l. l ++ words_between_white (white ++ rest)) (word-alone word plain)
     ∙ ap (λ l. word ∷ l) (white-words white rest (All-tail IsWhite c white all))
 
-pub spaced-in : (ws : List SpacedText) → AreSpaced ws → words_between_white (spaced_text ws) ≡ map (λ w. w.word) ws
+pub spaced-in : (ws : List SpacedText) → AreSpaced ws → words_between_white (spaced_text ws) ≡ words_in ws
 spaced-in [] are = refl
 spaced-in (w ∷ []) are = cut w.white are.white
   where
@@ -259,7 +256,7 @@ spaced-in (w ∷ v ∷ ws) (here, some, later) =
     ∙ ap (λ l. w.word ∷ l) (spaced-in (v ∷ ws) later)
 
 pub text-words : (text lead : List ℕ) (ws : List SpacedText) → IsLineText text lead ws
-    → words_between_white text ≡ map (λ w. w.word) ws
+    → words_between_white text ≡ words_in ws
 text-words text lead ws is =
     ap words_between_white is.is ∙ white-words lead (spaced_text ws) is.white ∙ spaced-in ws is.spaced
 

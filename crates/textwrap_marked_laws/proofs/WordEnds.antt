@@ -1,14 +1,14 @@
--- The words of a paragraph's last line, and the last of them.
-use Rattle.textwrap_marked_laws.proofs.Common.{Bool, List, cond, refl, true, ◌&&◌, ◌++◌, ◌||◌, map, not, sym, ap}
-use Rattle.textwrap_marked_laws.proofs.Common.{ReflowOptions, closes_block, closes_early, begins_text, and-false}
-use Rattle.textwrap_marked_laws.proofs.Common.{SpacedText, append-nil, cases_Bool, first_word, deeper_by, is_cut}
-use Rattle.textwrap_marked_laws.proofs.Common.{ends_with, last_word, All-cons, bytes_eq, contains, none-any, All}
-use Rattle.textwrap_marked_laws.proofs.Common.{or-false, All-nil, length, nat_eq, arith, codes, false, subst, []}
-use Rattle.textwrap_marked_laws.proofs.{Common.{◌<◌, ◌∙◌, ◌∷◌, ◌≡◌, ◌≢◌, ℕ}, LineWords.{MayPart, spread}}
-use Rattle.textwrap_marked_laws.proofs.{OpenBehind.text-other, SpreadWords.{spread-words, spread-any, last_text}}
-use Rattle.textwrap_marked_laws.proofs.TextBlocks.{closing-before, closes_badly, closing-same, AreClosing}
-use Rattle.textwrap_marked_laws.proofs.TextBlocks.{NoClose}
-use Rattle.textwrap_marks.{proofs.Letterless.dots-plain, specs.Signs.{is_example_key, may_go_on}}
+-- The words of a paragraph's last line, the last of them, and what stands behind it.
+use Rattle.textwrap_marks.{proofs.Letterless.dots-plain, specs.Signs.{is_example_key, first_white, may_go_on}}
+use Rattle.textwrap_marked_laws.proofs as own
+use own.Common.{ReflowOptions, closes_block, closes_early, begins_text, break_white, SpacedText, append-nil}
+use own.Common.{cases_Bool, filled_end, first_word, last_white, and-false, deeper_by, ending_if, ends_with, ℕ}
+use own.Common.{is_cut, length, nat_eq, arith, codes, false, subst, Bool, List, cond, drop, refl, true, ◌&&◌}
+use own.Common.{last_word, All-cons, LineText, bytes_eq, contains, flat_map, none-any, or-false, All-nil, All}
+use own.SpacedBack.{AreSpaced, words_in, IsWhite}
+use own.TextBlocks.{closing-before, closes_badly, closing-same, AreClosing, last_line, NoClose}
+use own.{Common.{◌++◌, ◌||◌, not, sym, ◌-◌, ◌<◌, ◌∙◌, ◌∷◌, ◌≡◌, ◌≢◌, [], ap}, LineWords.{MayPart, spread}}
+use own.{OpenBehind.text-other, SpreadWords.{spread-words, spread-any, last-more, last_text}}
 
 -- ---- the last of some texts
 
@@ -69,14 +69,13 @@ spread-free in_block justify gaps words end are =
 
 -- whether they close one, the last says
 pub closes-last : (in_block : Bool) (words : List SpacedText) → 0 < length words
-    → AreClosing in_block (map (λ w. w.word) words)
-    → (in_block && closes_block words)
-    ≡ (in_block && contains (codes "*/") (last_text (map (λ w. w.word) words)))
+    → AreClosing in_block (words_in words) → (in_block && closes_block words)
+    ≡ (in_block && contains (codes "*/") (last_text (words_in words)))
 closes-last in_block [] some are = absurd (omega (arith, some))
 closes-last in_block (w ∷ []) some are = ap (λ b. in_block && b) (or-false (contains (codes "*/") w.word))
 closes-last in_block (w ∷ v ∷ ws) some are =
     let (none, rest) = closing-parts in_block (contains (codes "*/") w.word)
-    (closes_badly (map (λ w. w.word) (v ∷ ws))) are in
+    (closes_badly (words_in (v ∷ ws))) are in
     more in_block (contains (codes "*/") w.word) (closes_block (v ∷ ws)) none
     ∙ closes-last in_block (v ∷ ws) (omega arith) rest
   where
@@ -106,3 +105,57 @@ pub deeper-same : (hanging : List ℕ) (starred other : Bool) (words others : Li
 deeper-same hanging starred other words others begins begin same =
     deeper-one hanging starred words begins ∙ ap (deeper_behind hanging false) same
     ∙ sym (deeper-one hanging other others begin)
+
+-- ---- what stands behind the last line
+
+drop-last : (line : LineText) (lines : List LineText)
+    → drop (length (line ∷ lines) - 1) (line ∷ lines) ≡ last_line line lines ∷ []
+drop-last line [] = refl
+drop-last line (next ∷ lines) = last-more line (next ∷ lines) (omega arith) ∙ drop-last next lines
+
+abbrev pub ends_as : List ℕ → LineText → List ℕ
+ends_as ending line = break_white line ++ ending_if line.fed ending
+
+pub filled-last : (ending : List ℕ) (line : LineText) (lines : List LineText)
+    → filled_end ending (line ∷ lines) ≡ ends_as ending (last_line line lines)
+filled-last ending line lines =
+    ap (flat_map (ends_as ending)) (drop-last line lines)
+    ∙ append-nil (ends_as ending (last_line line lines))
+
+pub break-same : (line : LineText)
+    → ends_with nat_eq (break_white line) (codes "  ") ≡ ends_with nat_eq (last_white line.words) (codes "  ")
+break-same line = cut (ends_with nat_eq (last_white line.words) (codes "  ")) refl
+  where
+    cut : (b : Bool) → ends_with nat_eq (last_white line.words) (codes "  ") ≡ b
+        → ends_with nat_eq (cond (ends_with nat_eq (last_white line.words) (codes "  "))
+        (last_white line.words) []) (codes "  ") ≡ ends_with nat_eq (last_white line.words) (codes "  ")
+    cut true is =
+        ap (λ b. ends_with nat_eq (cond b (last_white line.words) []) (codes "  ")) is
+    cut false is =
+        ap (λ b. ends_with nat_eq (cond b (last_white line.words) []) (codes "  ")) is ∙ sym is
+
+-- a line that ends in what is left of this one's white ends in the same
+pub break-again : (line other : LineText) → last_white other.words ≡ break_white line
+    → break_white other ≡ break_white line
+break-again line other is =
+    ap (λ w. cond (ends_with nat_eq w (codes "  ")) w []) is
+    ∙ ap (λ b. cond b (break_white line) []) (break-same line)
+    ∙ twice (ends_with nat_eq (last_white line.words) (codes "  ")) (last_white line.words)
+  where
+    twice : (b : Bool) (w : List ℕ) → cond b (cond b w []) [] ≡ cond b w []
+    twice true w = refl
+    twice false w = refl
+
+white-last : (ws : List SpacedText) → AreSpaced ws → All IsWhite (last_white ws)
+white-last [] are = All-nil IsWhite
+white-last (w ∷ []) are = are.white
+white-last (w ∷ v ∷ ws) are =
+    subst (λ l. All IsWhite (first_white l)) (sym (last-more w (v ∷ ws) (omega arith))) (white-last (v ∷ ws) are.2)
+
+pub break-spaced : (line : LineText) → AreSpaced line.words → All IsWhite (break_white line)
+break-spaced line are =
+    elim (ends_with nat_eq (last_white line.words) (codes "  "))
+    as (λ b. All IsWhite (cond b (last_white line.words) [])) [
+      | true ↦ white-last line.words are
+      | false ↦ All-nil IsWhite
+    ]

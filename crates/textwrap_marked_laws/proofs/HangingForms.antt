@@ -7,7 +7,7 @@ use own.Common.{comment_len, spaced_text, All-append, All-weaker, SpacedText, ap
 use own.Common.{is_comment_opening, bytes_eq-Decides, hanging_comments, flat_map-append, hanging_bullets, All}
 use own.Common.{refl, true, zero, ◌++◌, ◌||◌, suc, sym, ◌+◌, ◌<◌, ◌∙◌, ◌∷◌, ◌≡◌, ◌≤◌, [], ap, ℕ, ⊤}
 use own.Common.{text_width, told-apart, true≢false, all-right, each-flat, All-cons, All-head, All-tail, arith}
-use own.LineKinds.{has_opening_in, hanging_of, HaveKinds, none-if, some-if, one_if, kinds}
+use own.LineKinds.{has_opening_in, comment-most, hanging_of, HaveKinds, none-if, some-if, one_if, kinds}
 use own.SpacedBack.{spaced-cons, AreSpaced, plain-one, IsSpaced, words_in, IsWhite}
 
 -- ---- words with white behind each
@@ -273,15 +273,6 @@ more-white options in_block text more h white = cut h.cs h.qs h.full h.marks h.i
     cut (c ∷ d ∷ cs) [] full marks is = absurd marks
 
 -- ---- the margin of a line
-
-comment-most : (options : ReflowOptions) (in_block : Bool) (ws : List SpacedText)
-    → comment_len options in_block ws ≤ 1
-comment-most options in_block [] = omega arith
-comment-most options in_block (w ∷ ws) =
-    elim (is_comment_at options in_block w.word) as (λ b. one_if b ≤ 1) [
-      | true ↦ omega arith
-      | false ↦ omega arith
-    ]
 
 -- no opening is the mark inside a block comment
 opening-outside : (options : ReflowOptions) (in_block : Bool) (word : List ℕ)

@@ -9,7 +9,7 @@ use own.Common.{is_comment_opening, hanging_comments, take-append-drop, flat_map
 use own.Common.{line_from_words, without_returns, ReflowOptions, is_comment_at, length-append, append_assoc}
 use own.Common.{lt-ltb, ne_eqb, arith, false, Bool, List, cond, drop, refl, take, true, ◌&&◌, ◌++◌, ◌==◌, suc}
 use own.Common.{spaced_text, SpacedText, append-nil, cases_Bool, first_word, quotes_len, StateText, is_bullet}
-use own.Common.{◌||◌, sym, ◌+◌, ◌-◌, ◌∙◌, ◌∷◌, ◌≡◌, ◌≤◌, ap, ℕ}
+use own.Common.{◌||◌, sym, ◌+◌, ◌-◌, ◌<◌, ◌∙◌, ◌∷◌, ◌≡◌, ◌≤◌, ap, ℕ}
 use own.SpacedBack.{begins-plain, BeginsPlain, IsLineText, lead_words, line-back, with_lead}
 
 -- ---- what is read of words by kind
@@ -231,27 +231,33 @@ cut-at count ws few = (
   sym (length-take-le (count ws) ws few),
 )
 
-if-few : (b : Bool) (n m most : ℕ) → n ≤ most → m ≤ most → cond b n m ≤ most
-if-few true n m most few less = few
-if-few false n m most few less = less
+pub comment-most : (options : ReflowOptions) (in_block : Bool) (ws : List SpacedText)
+    → comment_len options in_block ws ≤ 1
+comment-most options in_block [] = omega arith
+comment-most options in_block (w ∷ ws) =
+    elim (is_comment_at options in_block w.word) as (λ b. one_if b ≤ 1) [
+      | true ↦ omega arith
+      | false ↦ omega arith
+    ]
 
 comment-few : (options : ReflowOptions) (in_block : Bool) (ws : List SpacedText)
     → comment_len options in_block ws ≤ length ws
 comment-few options in_block [] = omega arith
-comment-few options in_block (w ∷ ws) =
-    if-few (is_comment_at options in_block w.word) 1 0 (length (w ∷ ws)) (omega arith) (omega arith)
+comment-few options in_block (w ∷ ws) = omega (arith, comment-most options in_block (w ∷ ws))
 
 quotes-few : (ws : List SpacedText) → quotes_len ws ≤ length ws
 quotes-few [] = omega arith
 quotes-few (w ∷ ws) = grind (arith, cases_Bool, quotes-few ws)
 
+few : (t u : Bool) (n m most : ℕ) → n < most → m + 1 < most → cond t (suc n) (cond u (suc (suc m)) 0) ≤ most
+few t u n m most one two = grind (arith, cases_Bool)
+
 bullets-few : (ws : List SpacedText) → bullets_len ws ≤ length ws
 bullets-few [] = omega arith
 bullets-few (w ∷ []) = grind (arith, cases_Bool)
 bullets-few (w ∷ v ∷ ws) =
-    let most = length (w ∷ v ∷ ws) in
-    if-few (is_bullet w.word) (suc (bullets_len (v ∷ ws))) _ most (omega (arith, bullets-few (v ∷ ws)))
-    (if-few (is_box w v) (suc (suc (bullets_len ws))) 0 most (omega (arith, bullets-few ws)) (omega arith))
+    few (is_bullet w.word) (is_box w v) (bullets_len (v ∷ ws)) (bullets_len ws) (length (w ∷ v ∷ ws))
+    (omega (arith, bullets-few (v ∷ ws))) (omega (arith, bullets-few ws))
 
 pub kinds-cut : (options : ReflowOptions) (in_block : Bool) (ws : List SpacedText)
     → (cs : List SpacedText) × (qs : List SpacedText) × (bs : List SpacedText)

@@ -4,27 +4,27 @@ use Rattle.textwrap_base.{proofs.Division.Map.IsDivision-whole, specs.declared.p
 use Rattle.textwrap_display.proofs.Widths.{justified-width}
 use Rattle.textwrap_lines.{proofs.Common.ByFirstFit, proofs.PlacedPieces.two-equal}
 use Rattle.textwrap_marked.{proofs.PrintedLines.texts_more, specs.Reflow.IsReflowed}
-use Rattle.textwrap_marked_laws.specs.Laws.{AreWithin, IsWithin}
+use Rattle.textwrap_marked_laws.specs.Laws.{AreOfParts, CostsLeast, FillsWidth, AreAsWide, AreWithin}
+use Rattle.textwrap_marked_laws.specs.Laws.{IsWithin}
 use Rattle.textwrap_marked_laws.specs.Laws.{PartKeepsToWidth, IsKeptOrBehind, PartKeepsWords, AreNewParts}
-use Rattle.textwrap_marked_laws.specs.Laws.{widths_left, AreOfParts, CostsLeast, FillsWidth, AreAsWide}
 use Rattle.textwrap_marked_lines.specs.Columns.{text_columns}
 use Rattle.textwrap_marks.specs.declared.options.Algorithm.TheVariants as by
 use Rattle.textwrap_text.proofs.Common.{reverse-append}
 use Rattle.textwrap_marked_laws.proofs as own
-use own.Common.{All-head, All-tail, LineText, WordText, all-left, flat_map, is_blank, sizes_of, take_all, All}
-use own.Common.{All-nil, covered, printed, reverse, word_of, length, nat_eq, nat_lt, pieces, arith, blank, ap}
-use own.Common.{AreOfBlocks, IsDividedBy, first_state, length-drop, piece_words, shown_lines, slice_split, []}
-use own.Common.{ReflowOptions, filled_ending, lines_of_text, append_assoc, ending_bytes, line_as_read, blocks}
-use own.Common.{StateText, all-right, each-flat, flat-each, is_beside, kept_line, line_text, All-cons, is_cut}
-use own.Common.{false, stays, subst, Bool, List, None, Part, cond, drop, refl, true, ◌&&◌, ◌++◌, ◌==◌, inl, ℕ}
-use own.Common.{later_room, line_texts, onto_front, prefix_len, suffix_len, text_parts, with_blank, IsOfBlock}
-use own.Common.{starts_with, trimmed_len, All-weaker, IsDivision, SpacedText, filled_end, first_room, All-map}
-use own.Common.{starts_with-rest, byte_order_mark, parts_of_blocks, IsReflowedFrom, words_of_lines, Algorithm}
-use own.Common.{suffix_len-le-length, words_between_white, dividing_algorithm, IsReflowedBehind, ByOptimalFit}
-use own.{Common.{inr, map, sym, ◌+◌, ◌-◌, ◌<◌, ◌∙◌, ◌∷◌, ◌≡◌, ◌≤◌, ⊤}, TextParts.{blocks-flat, text-parts}}
+use own.Common.{Bool, List, None, Part, cond, drop, refl, true, ◌&&◌, ◌++◌, ◌==◌, inl, inr, map, sym, ◌+◌, []}
+use own.Common.{ByOptimalFit, append_assoc, ending_bytes, line_as_read, AreOfBlocks, IsDividedBy, first_state}
+use own.Common.{IsDivision, SpacedText, filled_end, first_room, later_room, line_texts, onto_front, Algorithm}
+use own.Common.{all-left, flat_map, is_blank, sizes_of, take_all, All-map, All-nil, covered, printed, reverse}
+use own.Common.{byte_order_mark, parts_of_blocks, words_of_lines, ReflowOptions, filled_ending, lines_of_text}
+use own.Common.{flat-each, is_beside, kept_line, line_text, All-cons, All-head, All-tail, LineText, WordText}
+use own.Common.{length-drop, piece_words, shown_lines, slice_split, starts_with, trimmed_len, All-weaker, All}
+use own.Common.{prefix_len, suffix_len, text_parts, with_blank, IsOfBlock, StateText, all-right, each-flat, ℕ}
+use own.Common.{suffix_len-le-length, words_between_white, IsReflowedBehind, starts_with-rest, IsReflowedFrom}
+use own.Common.{word_of, blocks, is_cut, length, nat_eq, nat_lt, pieces, arith, blank, false, stays, subst, ⊤}
+use own.{Common.{◌-◌, ◌<◌, ◌∙◌, ◌∷◌, ◌≡◌, ◌≤◌, ap}, LineWords.{AreCutInto, all_shown, spread, shown}}
 use own.{JustifiedTexts.lines-shown, SpacedBack.{spaced-plain, spaced-in, words_in, IsPlain, IsWhite}}
-use own.{LaterLines.{read-spaced, read_marks, line-read, read-line}, TextBlocks.read-all}
-use own.{LineWords.{AreCutInto, all_shown, spread, shown}, SpreadWords.{spread-spaced, spread-words}}
+use own.{LaterLines.{read-spaced, read_marks, line-read, read-line}, TextParts.{blocks-flat, text-parts}}
+use own.{SpreadWords.{spread-spaced, spread-words}, TextBlocks.read-all}
 
 -- ---- the words of a paragraph are those of its printed lines
 
@@ -298,8 +298,7 @@ module _ (options : ReflowOptions) where
   pub within-width : options.algorithm ≡ by.FirstFit → HoldsOfEach options (PartKeepsToWidth options)
   within-width fits ending true first lines text plain is = tt
   within-width fits ending false first lines text plain (division, divided, is) =
-      let greedy = subst (λ a. IsDividedBy (dividing_algorithm a) sizes_of (widths_left options first)
-      (piece_words options first lines) division) fits divided in (
+      let greedy = rw fits at divided in (
         division,
         (greedy.admissible.division, is),
         printed-within options first lines division greedy.admissible.division greedy.admissible.fit,
@@ -309,8 +308,7 @@ module _ (options : ReflowOptions) where
       → HoldsOfEach options (CostsLeast options penalties)
   costs-least penalties least ending true first lines text plain is = tt
   costs-least penalties least ending false first lines text plain (division, divided, is) =
-      let cheapest = subst (λ a. IsDividedBy (dividing_algorithm a) sizes_of (widths_left options first)
-      (piece_words options first lines) division) least divided in
+      let cheapest = rw least at divided in
       let chosen = cheapest.chosen (two-equal _ _) in
       (division, (chosen.division, is), chosen.least)
 
@@ -321,7 +319,5 @@ module _ (options : ReflowOptions) where
         division,
         (whole, is),
         printed-words options first lines division plain whole,
-        subst (λ b. AreAsWide options.width first.prefix first.hanging division
-            (line_texts b (first_room options first) (later_room options first) division)) (sym justify)
-            (lines-as-wide options.width first.prefix first.hanging division),
+        rw justify (lines-as-wide options.width first.prefix first.hanging division),
       )

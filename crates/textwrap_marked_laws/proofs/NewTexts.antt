@@ -274,8 +274,8 @@ module _ (options : ReflowOptions) (text reflowed : List ℕ) where
   read-within range is =
       let (same, laid) = opened (IsReflowedWithinFrom options range) text reflowed
       (λ b. IsReflowedWithinBehind b options range text reflowed) (λ marked. marked) (λ laid. laid)
-      (λ laid. begins-alike options text reflowed (within-back options range text reflowed laid)) is in
-      (same, within-back options range _ _ laid)
+      (λ laid. begins-alike options text reflowed (within-back options text reflowed range laid)) is in
+      (same, within-back options _ _ range laid)
 
   pub parts-same : IsBack options text reflowed
       → AreSameParts options.ending (text_parts options (behind_mark text)) (text_parts options (behind_mark reflowed))

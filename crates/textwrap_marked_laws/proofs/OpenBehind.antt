@@ -3,6 +3,7 @@ use Rattle.std.{proofs.Common.nat_le, specs.Str.chars}
 use Rattle.textwrap_marked_lines.specs.Fences.{opens_formula, has_pre_end, opened_by, opened, run_of}
 use Rattle.textwrap_marked_lines.specs.Lines.{begins_code, is_in_block, is_prompted, new_before, is_before}
 use Rattle.textwrap_marked_lines.specs.declared.fences.FenceKind.TheVariants.{Formula, Code, Pre}
+use Rattle.textwrap_marked_lines.specs.declared.fences.FenceKind.{FenceKind}
 use Rattle.textwrap_marked_lines.{specs.Columns.{DepthText, is_deeper, depth_of}, specs.Lines.new_by}
 use Rattle.textwrap_marks.proofs.ListLemmas.{or-right}
 use Rattle.textwrap_marks.specs.Signs.{is_directive, opens_code, is_rule, is_sign, is_gap}
@@ -108,26 +109,6 @@ behind_text in_block hanging words = record {
   by = deeper_by hanging words;
 }
 
-pub passed-is : (state : StateText) (line : LineText) (in_block : Bool) → state.fence ≡ None
-    → line.deeper ≡ false → opened line.words ≡ None → has_words line.words ≡ true
-    → is_prompted state.prompted false line.words ≡ false
-    → is_in_block state.in_block false line ≡ (in_block && not (closes_block line.words))
-    → passed state line ≡ behind_text in_block line.hanging line.words
-passed-is state line in_block none level opens some prompts block =
-    let unfenced : is_some state.fence ≡ false = ap is_some none in
-    let before : is_before (is_some state.fence) line ≡ true =
-    ap (λ b. is_before b line) unfenced ∙ ap (λ d. not d && has_words line.words) level ∙ some in
-    λ i. record {
-      in_block = (ap (λ b. is_in_block state.in_block b line) unfenced ∙ block) i;
-      fence = (ap (λ f. new_fence f line) none
-          ∙ ap (λ d. cond d None (option_map (λ kind. record { marks = marks_of line.hanging; kind = kind })
-          (opened line.words))) level
-          ∙ ap (option_map (λ kind. record { marks = marks_of line.hanging; kind = kind })) opens) i;
-      prompted = (ap (λ b. is_prompted state.prompted b line.words) unfenced ∙ prompts) i;
-      before = ap (λ b. new_before state.before b line) before i;
-      by = ap (λ b. new_by state.by b line) before i;
-    }
-
 -- ---- lines that do not stand apart, by themselves, and what is open behind them
 
 abbrev pub block_at : StateText → Kinds → Bool
@@ -200,17 +181,29 @@ module _ (options : ReflowOptions) (state : StateText) (raw : List ℕ) (fed : B
       → passed state (line_by options state raw fed k)
       ≡ behind_text (block_at state k) (line_by options state raw fed k).hanging k.words
   behind-free at are =
+      let line = line_by options state raw fed k in
       let starred = starred_at options state k in
-      let first = first_word k.words in
-      let prompts : is_prompted state.prompted false k.words ≡ false =
-      ap (λ b. has_words k.words && (b || opens_session k.words)) at.prompt
-      ∙ ap (λ b. has_words k.words && b) (no-session k.words (text-letter starred first are.begins))
+      let none = some-none state.fence at.fence in
+      let unfenced : is_some state.fence ≡ false = ap is_some none in
+      let opens = opened-none starred k.words are.begins (no-columns options.justify k.words are.columns) in
+      let fence_of : Option FenceKind → Option FenceText =
+      option_map (λ kind. record { marks = marks_of line.hanging; kind = kind }) in
+      let before : is_before (is_some state.fence) line ≡ true = ap (λ b. is_before b line) unfenced
+      ∙ ap (λ d. not d && has_words k.words) at.level ∙ begun starred k.words are.begins in
+      let prompts : is_prompted state.prompted (is_some state.fence) k.words ≡ false =
+      ap (λ b. is_prompted state.prompted b k.words) unfenced
+      ∙ ap (λ b. has_words k.words && (b || opens_session k.words)) at.prompt
+      ∙ ap (λ b. has_words k.words && b) (no-session k.words (text-letter starred (first_word k.words) are.begins))
       ∙ and-false (has_words k.words) in
-      passed-is state (line_by options state raw fed k) (block_at state k)
-      (some-none state.fence at.fence) at.level
-      (opened-none starred k.words are.begins (no-columns options.justify k.words are.columns))
-      (begun starred k.words are.begins) prompts
-      (block state.in_block (has_opening_in k.comments) (closes_block k.words))
+      λ i. record {
+        in_block = (ap (λ b. is_in_block state.in_block b line) unfenced
+            ∙ block state.in_block (has_opening_in k.comments) (closes_block k.words)) i;
+        fence = (ap (λ f. new_fence f line) none
+            ∙ ap (λ d. cond d None (fence_of (opened k.words))) at.level ∙ ap fence_of opens) i;
+        prompted = prompts i;
+        before = ap (λ b. new_before state.before b line) before i;
+        by = ap (λ b. new_by state.by b line) before i;
+      }
     where
       block : (i o c : Bool) → cond i (not c) (true && (o && not c)) ≡ ((i || o) && not c)
       block true o c = refl

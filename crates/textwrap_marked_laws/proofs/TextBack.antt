@@ -2,16 +2,15 @@
 use Rattle.textwrap_marked.specs.Within.{IsReflowedWithinFrom}
 use Rattle.textwrap_text.proofs.Common.{ltb-true}
 use Rattle.textwrap_marked_laws.proofs as own
-use own.Common.{blocks, length, lt-ltb, nat_lt, arith, false, stays, subst, Bool, List, None, Some, flat, All}
-use own.Common.{false_from_ne_true, AreOfBlocksWithin, parts_of_blocks, IsReflowedFrom, ReflowOptions, Option}
-use own.Common.{filled_ending, lines_of_text, AreSameParts, AreOfBlocks, first_state, LineEnding, text_parts}
-use own.Common.{true≢false, IsOfBlock, LineRange, StateText, is_beside, LineText, all-left, All-nil, or-left}
+use own.Common.{StateText, is_beside, LineText, all-left, All-nil, or-left, Option, blocks, length, lt-ltb, ℕ}
+use own.Common.{false_from_ne_true, parts_of_blocks, IsReflowedFrom, ReflowOptions, filled_ending, LineEnding}
+use own.Common.{lines_of_text, AreSameParts, first_state, text_parts, true≢false, IsOfBlock, LineRange, arith}
+use own.Common.{nat_lt, false, stays, subst, Bool, List, None, Some, flat, refl, true, ◌++◌, ◌||◌, All, sym}
 use own.Feedless.{IsFeedlessLine, split-feedless, read-feedless, split-joined, IsFeedless, raws-some, raws_of}
 use own.ReadBack.{AreOfBlocksAny, IsReadBack, within-any, kept-step, laid-any, ending, Walks}
 use own.{AnewLines.{returns_by, bytes-by, IsTold, Tells}, TextBlocks.{paragraph-at, read-more, read}}
-use own.{BegunAlike.AreBegun, FenceLeft.safe-none}
-use own.{Common.{refl, true, ◌++◌, ◌||◌, sym, ◌<◌, ◌∙◌, ◌∷◌, ◌≡◌, [], ap, ℕ}, FilledBack.filled-step}
-use own.{LinesAlone.{none-alike, AreAlike}, TextParts.{blocks-back, blocks-flat, blocks-are, AreBlocks}}
+use own.{BegunAlike.AreBegun, FenceLeft.safe-none, FilledBack.filled-step, LinesAlone.{none-alike, AreAlike}}
+use own.{Common.{◌<◌, ◌∙◌, ◌∷◌, ◌≡◌, [], ap}, TextParts.{blocks-back, blocks-flat, blocks-are, AreBlocks}}
 
 module _ (options : ReflowOptions) (returns : Bool) (told : IsTold options.ending returns) where
   read-none : (state : StateText) (raws : List (List ℕ)) → [] ≡ read options state raws → [] ≡ raws
@@ -102,22 +101,25 @@ IsTextBack options text reflowed =
     AreReadBack options (returns_by (filled_ending options.ending text)) (told-by options.ending text) text
     reflowed
 
-pub text-back : (options : ReflowOptions) → (text reflowed : List ℕ)
-    → IsReflowedFrom options text reflowed → IsTextBack options text reflowed
-text-back options text reflowed laid =
-    let e = filled_ending options.ending text in
-    let bs = blocks (lines_of_text options text) in
-    let told = told-by options.ending text in
-    parts-back options (returns_by e) told text reflowed (laid-any options (returns_by e) told bs false reflowed
-    (subst (λ b. AreOfBlocks options b false bs reflowed) (bytes-by e) laid))
+module _ (options : ReflowOptions) (text reflowed : List ℕ) where
+  abbrev returns_of : Bool
+  returns_of = returns_by (filled_ending options.ending text)
 
--- where only some lines are filled
-pub within-back : (options : ReflowOptions) (range : LineRange) (text reflowed : List ℕ)
-    → IsReflowedWithinFrom options range text reflowed → IsTextBack options text reflowed
-within-back options range text reflowed laid =
-    let e = filled_ending options.ending text in
-    let bs = blocks (lines_of_text options text) in
-    let told = told-by options.ending text in
-    parts-back options (returns_by e) told text reflowed
-    (within-any options (returns_by e) told range 0 bs false reflowed
-    (subst (λ b. AreOfBlocksWithin options range b 0 false bs reflowed) (bytes-by e) laid))
+  abbrev told_of : IsTold options.ending returns_of
+  told_of = told-by options.ending text
+
+  back-by : AreOfBlocksAny options returns_of told_of false (blocks (lines_of_text options text)) reflowed
+      → IsTextBack options text reflowed
+  back-by = parts-back options returns_of told_of text reflowed
+
+  pub text-back : IsReflowedFrom options text reflowed → IsTextBack options text reflowed
+  text-back laid =
+      back-by (laid-any options returns_of told_of (blocks (lines_of_text options text)) false reflowed
+      (rw (bytes-by (filled_ending options.ending text)) at laid))
+
+  -- where only some lines are filled
+  pub within-back : (range : LineRange) → IsReflowedWithinFrom options range text reflowed
+      → IsTextBack options text reflowed
+  within-back range laid =
+      back-by (within-any options returns_of told_of range 0 (blocks (lines_of_text options text)) false reflowed
+      (rw (bytes-by (filled_ending options.ending text)) at laid))

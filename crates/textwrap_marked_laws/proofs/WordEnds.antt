@@ -124,15 +124,7 @@ filled-last ending line lines =
 
 pub break-same : (line : LineText)
     → ends_with nat_eq (break_white line) (codes "  ") ≡ ends_with nat_eq (last_white line.words) (codes "  ")
-break-same line = cut (ends_with nat_eq (last_white line.words) (codes "  ")) refl
-  where
-    cut : (b : Bool) → ends_with nat_eq (last_white line.words) (codes "  ") ≡ b
-        → ends_with nat_eq (cond (ends_with nat_eq (last_white line.words) (codes "  "))
-        (last_white line.words) []) (codes "  ") ≡ ends_with nat_eq (last_white line.words) (codes "  ")
-    cut true is =
-        ap (λ b. ends_with nat_eq (cond b (last_white line.words) []) (codes "  ")) is
-    cut false is =
-        ap (λ b. ends_with nat_eq (cond b (last_white line.words) []) (codes "  ")) is ∙ sym is
+break-same line = grind (arith, cases_Bool)
 
 -- a line that ends in what is left of this one's white ends in the same
 pub break-again : (line other : LineText) → last_white other.words ≡ break_white line

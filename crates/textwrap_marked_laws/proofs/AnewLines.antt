@@ -1,20 +1,19 @@
 -- Lines that stay, with the ending that is asked for, and carriage returns at the end of any line.
 use Rattle.std.proofs.lemmas.List.Elements.{All-get_or}
 use Rattle.std.proofs.lemmas.List.Sums.{suffix_len-take_no, prefix_len_stops}
-use Rattle.textwrap_marked_lines.specs.Prefixes.{prefix_ends}
 use Rattle.textwrap_text.proofs.Common.{reverse-append, take_more, All-take}
 use Rattle.textwrap_text.proofs.Lists.Parts.{ends_with-front, ends_with-true}
 use Rattle.textwrap_words.proofs.Common.{get_or-reverse, length-reverse}
 use Rattle.textwrap_marked_laws.proofs as own
-use own.Common.{All-append, LineEnding, append-nil, prefix_len, suffix_len, FenceText, StateText, ending_if}
-use own.Common.{ReflowOptions, length-append, append_assoc, ending_bytes, line_as_read, spaced_words, All-nil}
-use own.Common.{ends_with, is_return, kept_line, new_fence, All-cons, All-head, All-tail, LineText, any-none}
-use own.Common.{false, Bool, CRLF, List, None, Some, cond, refl, take, true, zero, ◌&&◌, ◌++◌, All, ap₂, map}
-use own.Common.{flat_map, take_all, reverse, take_at, Option, get_or, length, nat_eq, passed, arith, codes, ⊤}
-use own.Common.{suffix_len-le-length, false_from_ne_true, line_from_words, without_returns, is_column_word, ℕ}
+use own.Common.{All-nil, reverse, take_at, Option, get_or, length, nat_eq, passed, arith, codes, false, Bool}
+use own.Common.{CRLF, List, None, Some, cond, refl, take, true, zero, ◌&&◌, ◌++◌, ap₂, map, suc, sym, ◌+◌, []}
+use own.Common.{cases_Bool, prefix_len, suffix_len, FenceText, StateText, ending_if, ends_with, is_return, LF}
+use own.Common.{kept_line, new_fence, All-cons, All-head, All-tail, LineText, any-none, flat_map, take_all, ℕ}
+use own.Common.{length-append, append_assoc, ending_bytes, line_as_read, All-append, LineEnding, append-nil}
+use own.Common.{suffix_len-le-length, false_from_ne_true, without_returns, is_column_word, ReflowOptions, All}
 use own.OpenBehind.{no-return}
-use own.{Common.{suc, sym, ◌+◌, ◌-◌, ◌<◌, ◌∙◌, ◌∷◌, ◌≡◌, LF, [], ap}, TextBlocks.{AreOneBlock, last_line}}
-use own.{Feedless.{IsFeedless, NoFeed}, LineWords.{shown, gap}, SpacedBack.{white-other, IsPlain, IsWhite}}
+use own.{Common.{◌-◌, ◌<◌, ◌∙◌, ◌∷◌, ◌≡◌, ap, ⊤}, SpacedBack.{white-other, IsPlain, IsWhite}}
+use own.{Feedless.{IsFeedless, NoFeed}, LineWords.{shown, gap}, TextBlocks.{AreOneBlock, last_line}}
 
 -- a text whose last byte is no carriage return
 abbrev pub EndsWell : List ℕ → Type 0
@@ -41,10 +40,7 @@ word-end word plain none = all-end word plain.some (any-none is_return word (no-
 pub shown-end : (justify : Bool) (gaps : ℕ → ℕ) (word : List ℕ) (words : List (List ℕ))
     → All IsPlain (word ∷ words) → All (λ w. is_column_word w ≡ false) (word ∷ words)
     → EndsWell (shown justify gaps (word ∷ words))
-shown-end justify gaps word [] plain none =
-    let (front, c, is, other) = word-end word (All-head IsPlain word [] plain)
-    (All-head (λ w. is_column_word w ≡ false) word [] none) in
-    (front, c, append-nil (word ++ []) ∙ append-nil word ∙ is, other)
+shown-end justify gaps word [] plain none = grind (arith, cases_Bool, word-end, All-head, append-nil)
 shown-end justify gaps word (next ∷ words) plain none =
     ends-behind (word ++ gap justify gaps (length words)) (shown justify gaps (next ∷ words))
     (shown-end justify gaps next words (All-tail IsPlain word (next ∷ words) plain)
@@ -52,16 +48,12 @@ shown-end justify gaps word (next ∷ words) plain none =
 
 pub white-end : (text end : List ℕ) → EndsWell text → All IsWhite end → EndsWell (text ++ end)
 white-end text [] (front, c, is, other) white = (front, c, append-nil text ∙ is, other)
-white-end text (e ∷ end) ends white =
-    ends-behind text (e ∷ end) (all-end (e ∷ end) (omega arith)
-    (λ k d within. white-other (get_or (e ∷ end) k d) 13 (white k d within) refl))
+white-end text (e ∷ end) ends white = grind (arith, cases_Bool, ends-behind, all-end, white-other)
 
 -- ---- returns behind it
 
 pub returns-none : (text : List ℕ) → EndsWell text → suffix_len is_return text ≡ 0
-returns-none text (front, c, is, other) =
-    ap (prefix_len is_return) (ap reverse is ∙ reverse-append front (c ∷ []))
-    ∙ ap (λ b. cond b (1 + prefix_len is_return (reverse front)) 0) other
+returns-none text (front, c, is, other) = grind (arith, cases_Bool, reverse-append)
 
 pub returns-more : (text : List ℕ) → suffix_len is_return (text ++ 13 ∷ []) ≡ 1 + suffix_len is_return text
 returns-more text = ap (prefix_len is_return) (reverse-append text (13 ∷ []))
@@ -72,13 +64,8 @@ return_if b = cond b (13 ∷ []) []
 
 pub returns-off : (text : List ℕ) (b : Bool) → suffix_len is_return text ≡ 0
     → without_returns (text ++ return_if b) ≡ text
-returns-off text false none =
-    ap without_returns (append-nil text)
-    ∙ take_all (length text - suffix_len is_return text) text (omega (arith, none))
-returns-off text true none =
-    let whole = text ++ 13 ∷ [] in
-    take_at text (13 ∷ []) (length whole - suffix_len is_return whole)
-    (omega (arith, length-append text (13 ∷ []), returns-more text, none))
+returns-off text false none = grind (arith, cases_Bool, append-nil, take_all)
+returns-off text true none = grind (arith, cases_Bool, take_at, length-append, returns-more)
 
 -- the ending of a line
 pub return-ends : (text : List ℕ) (b : Bool) → suffix_len is_return text ≡ 0
@@ -148,9 +135,7 @@ anew-content (Some e) returns fed raw = content-same raw (returns && fed)
 pub anew-line : (options : ReflowOptions) (state : StateText) (e : Option LineEnding) (returns : Bool)
     (raw : List ℕ) (fed : Bool)
     → line_as_read options state (anew_raw e returns fed raw) fed ≡ anew e returns (line_as_read options state raw fed)
-anew-line options state e returns raw fed =
-    ap (λ c. line_from_words options state (anew_raw e returns fed raw) fed (spaced_words c)
-    (prefix_ends options state.in_block (spaced_words c))) (anew-content e returns fed raw)
+anew-line options state e returns raw fed = grind (arith, cases_Bool, anew-content)
 
 -- nor does it change what is open behind it
 fence-anew : (fence : Option FenceText) (e : Option LineEnding) (returns : Bool) (line : LineText)
@@ -199,10 +184,7 @@ pub anew-text : (e : Option LineEnding) (returns : Bool) → IsTold e returns �
     → kept_line e line ≡ anew_raw e returns fed raw ++ ending_if fed (10 ∷ [])
 anew-text None returns told raw fed line r f = ap₂ (λ a b. a ++ ending_if b (10 ∷ [])) r f
 anew-text (Some e) returns told raw fed line r f =
-    ap₂ (λ a b. without_returns a ++ ending_if b (ending_bytes e)) r f
-    ∙ ap (λ b. without_returns raw ++ ending_if fed b) (bytes-by e ∙ ap (λ b. return_if b ++ 10 ∷ []) told)
-    ∙ ap (λ t. without_returns raw ++ t) (end-parts returns fed)
-    ∙ sym (append_assoc (without_returns raw) (return_if (returns && fed)) (ending_if fed (10 ∷ [])))
+    grind (arith, cases_Bool, bytes-by, end-parts, append_assoc)
 
 -- ---- several of them
 

@@ -1,14 +1,13 @@
 -- How a new text begins, and how its first line ends.
 use Rattle.textwrap_marked.specs.Reflow.{ending_of_line, first_ending}
 use Rattle.textwrap_marked_laws.proofs as own
-use own.Common.{LineText, all-left, flat_map, is_white, printed, length, lt-ltb, nat_eq, nat_lt, ne_eqb, Bool}
-use own.Common.{break_white, shown_lines, starts_with, LineEnding, append-nil, cases_Bool, filled_end, Option}
+use own.Common.{IsOfBlock, all-right, ends_with, is_return, All-head, LineText, all-left, flat_map, Option, ℕ}
+use own.Common.{None, Some, cond, refl, true, ◌&&◌, ◌++◌, ◌||◌, ap₂, inl, inr, sym, ◌<◌, ◌∙◌, ◌∷◌, ◌≡◌, ◌≤◌}
 use own.Common.{byte_order_mark, join_with_byte, ReflowOptions, filled_ending, append_assoc, AreOfBlocks, All}
-use own.Common.{codes, false, stays, subst, CRLF, List, None, Some, cond, refl, true, ◌&&◌, ◌++◌, ◌||◌, ap₂}
-use own.Common.{true≢false, IsOfBlock, all-right, ending_if, ends_with, is_return, nat_tests, All-head, arith}
-use own.FenceLeft.{EndsText, EndsWord}
-use own.{AnewLines.{returns_by, return_if}, Feedless.{raws-some, raws_of, NoFeed}}
-use own.{Common.{inl, inr, sym, ◌<◌, ◌∙◌, ◌∷◌, ◌≡◌, ◌≤◌, ◌⊎◌, LF, [], ap, ℕ, ⊤}, WordEnds.filled-last}
+use own.Common.{length, lt-ltb, nat_eq, nat_lt, ne_eqb, arith, codes, false, stays, subst, Bool, CRLF, List}
+use own.Common.{shown_lines, starts_with, LineEnding, append-nil, cases_Bool, filled_end, true≢false, printed}
+use own.{AnewLines.{returns_by, return_if}, Feedless.{raws-some, raws_of, NoFeed}, WordEnds.filled-last}
+use own.{Common.{◌⊎◌, LF, [], ap, ⊤}, FenceLeft.{EndsText, EndsWord}}
 
 -- a first line in the place of another: what both begin with goes up to the end of a word, and if lines
 -- follow, it ends in a carriage return where the others do
@@ -50,23 +49,14 @@ none-first (c ∷ cs) m ms small large =
 
 same-start : (common a b : List ℕ) → SmallFirst a → SmallFirst b
     → starts_with nat_eq (common ++ a) byte_order_mark ≡ starts_with nat_eq (common ++ b) byte_order_mark
-same-start [] a b small other =
-    none-first a 0xEF (0xBB ∷ 0xBF ∷ []) small (omega arith)
-    ∙ sym (none-first b 0xEF (0xBB ∷ 0xBF ∷ []) other (omega arith))
-same-start (x ∷ []) a b small other =
-    ap (λ t. nat_eq 0xEF x && t) (none-first a 0xBB (0xBF ∷ []) small (omega arith)
-    ∙ sym (none-first b 0xBB (0xBF ∷ []) other (omega arith)))
-same-start (x ∷ y ∷ []) a b small other =
-    ap (λ t. nat_eq 0xEF x && (nat_eq 0xBB y && t)) (none-first a 0xBF [] small (omega arith)
-    ∙ sym (none-first b 0xBF [] other (omega arith)))
+same-start [] a b small other = grind (arith, cases_Bool, none-first)
+same-start (x ∷ []) a b small other = grind (arith, cases_Bool, none-first)
+same-start (x ∷ y ∷ []) a b small other = grind (arith, cases_Bool, none-first)
 same-start (x ∷ y ∷ z ∷ common) a b small other = refl
 
 word-small : (text more : List ℕ) → EndsWord text → SmallFirst more → SmallFirst (text ++ more)
 word-small [] more ends small = small
-word-small (c ∷ cs) more ends small = low c ends
-  where
-    low : (c : ℕ) → (is_white c || is_return c) ≡ true → c < 128
-    low c is = grind (arith, nat_tests, cases_Bool)
+word-small (c ∷ cs) more ends small = grind (arith, cases_Bool)
 
 feed-small : (raws : List (List ℕ)) (raw : List ℕ)
     → (more : List ℕ) × (join_with_byte 10 (raw ∷ raws) ≡ raw ++ more) × SmallFirst more
@@ -106,10 +96,7 @@ first-ends : (raws news : List (List ℕ)) → 0 < length raws
 first-ends [] news more begun some = absurd (omega (arith, more))
 first-ends (raw ∷ raws) [] more begun some = absurd (omega (arith, some))
 first-ends (raw ∷ raws) (new ∷ news) more (inl (same, fed)) some = λ i. ending_of_line (sym same i) (sym fed i)
-first-ends (raw ∷ raws) (new ∷ news) more (inr place) some =
-    let fed = lt-ltb 0 (length news) (omega (arith, some)) in
-    ap (λ b. cond (b && ends_with nat_eq new (codes "\r")) CRLF LF) fed
-    ∙ ap (λ b. cond (true && b) CRLF LF) (place.ends fed) ∙ ending-by (first_ending (raw ∷ raws))
+first-ends (raw ∷ raws) (new ∷ news) more (inr place) some = grind (arith, cases_Bool, lt-ltb, ending-by)
 
 pub ends-alike : (e : Option LineEnding) (text reflowed : List ℕ)
     → AreBegun (returns_by (filled_ending e text)) (raws_of text) (raws_of reflowed)
@@ -123,9 +110,7 @@ ends-alike None text reflowed begun some =
 module _ (options : ReflowOptions) (ending other front_end : List ℕ) (feed : ending ≡ front_end ++ 10 ∷ [])
     (line : LineText) (unfed : line.fed ≡ false) where
   end-same : filled_end ending (line ∷ []) ≡ filled_end other (line ∷ [])
-  end-same =
-      filled-last ending line [] ∙ ap (λ b. break_white line ++ ending_if b ending) unfed
-      ∙ sym (filled-last other line [] ∙ ap (λ b. break_white line ++ ending_if b other) unfed)
+  end-same = grind (arith, cases_Bool, filled-last)
 
   -- an ending stands between two printed lines
   printed-one : (first later : List ℕ) (texts : List (List ℕ)) (end : List ℕ)

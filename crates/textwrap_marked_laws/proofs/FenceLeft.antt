@@ -8,18 +8,18 @@ use Rattle.textwrap_marks.proofs.Letterless.{star-plain}
 use Rattle.textwrap_text.{proofs.Common.not-true, proofs.Lists.Parts.starts_with-true}
 use Rattle.textwrap_marked_laws.proofs as own
 use own.Common.{LineText, drop_all, fence_at, is_white, marks_of, All-nil, entered, is_some, reverse, get_or}
-use own.Common.{append-nil, first_word, has_letter, map-append, option_map, prefix_len, suffix_len, FenceText}
-use own.Common.{length, nat_eq, passed, arith, codes, false, subst, Bool, List, None, Some, cond, drop, refl}
+use own.Common.{append-nil, cases_Bool, first_word, map-append, option_map, prefix_len, suffix_len, FenceText}
+use own.Common.{length, nat_eq, passed, arith, false, subst, Bool, List, None, Some, cond, drop, refl, true}
 use own.Common.{length-append, closes_block, line_as_read, begins_text, comment_len, spaced_text, starts_with}
 use own.Common.{starts_with-rest, take-append-drop, without_returns, ReflowOptions, is_comment_at, SpacedText}
 use own.Common.{suffix_len-le-length, words_between_white, false_from_ne_true, bytes_eq-Decides, append_assoc}
-use own.Common.{true, zero, ◌&&◌, ◌++◌, ◌||◌, All, inl, inr, not, suc, sym, ◌+◌, ◌-◌, ◌<◌, ◌∙◌, ◌∷◌, ◌≡◌, ◌⊎◌}
 use own.Common.{true≢false, StateText, all-right, drop_more, is_return, new_fence, All-head, All-tail, Option}
-use own.HangingForms.{before-full, full-before, hanging-is, IsHanging, AreMarks, IsQuote}
+use own.Common.{zero, ◌&&◌, ◌++◌, ◌||◌, All, inl, inr, not, suc, sym, ◌+◌, ◌-◌, ◌<◌, ◌∙◌, ◌∷◌, ◌≡◌, ◌⊎◌, []}
 use own.LaterLines.{read-spaced, read-split, read_kinds, read_marks, text-parts, line-read, read-line, IsRead}
 use own.SpacedBack.{spaced-first, plain-first, words-white, text-words, AreSpaced, spaced-in, words_in, IsInk}
-use own.{Common.{[], ap, ℕ, ⊤}, ParagraphLines.all-spaced, SpreadWords.text-no-quote}
-use own.{LineKinds.{has_opening_in, line_by, one_if}, OpenBehind.text-letter, SpacedBack.{IsPlain, IsWhite}}
+use own.{Common.{ap, ℕ, ⊤}, HangingForms.{before-full, full-before, hanging-is, IsHanging, AreMarks, IsQuote}}
+use own.{LineKinds.{has_opening_in, line_by}, ParagraphLines.all-spaced, SpacedBack.{IsPlain, IsWhite}}
+use own.{OpenBehind.text-letter, SpreadWords.text-no-quote}
 
 -- white and marks, or the beginning of them, of a line before which a block comment was open, or not
 abbrev pub AreSafeMarks : ReflowOptions → Bool → List ℕ → Type 0
@@ -189,12 +189,7 @@ splits : (xs ys zs ws : List ℕ) → xs ++ ys ≡ zs ++ ws → Splits xs ys zs 
 splits [] ys [] ws is = inl ([], refl)
 splits [] ys (z ∷ zs) ws is = inr (z, zs, refl, is)
 splits (x ∷ xs) ys [] ws is = inl (x ∷ xs, refl)
-splits (x ∷ xs) ys (z ∷ zs) ws is =
-    more (ap (λ l. get_or l 0 0) is) (splits xs ys zs ws (ap (drop 1) is))
-  where
-    more : x ≡ z → Splits xs ys zs ws → Splits (x ∷ xs) ys (z ∷ zs) ws
-    more same (inl (d, e)) = inl (d, λ i. same i ∷ e i)
-    more same (inr (c, d, e, f)) = inr (c, d, (λ i. sym same i ∷ e i), f)
+splits (x ∷ xs) ys (z ∷ zs) ws is = grind (arith, cases_Bool, splits xs ys zs ws (ap (drop 1) is))
 
 -- ---- no mark goes on with a word of a text
 
@@ -208,18 +203,14 @@ module _ (options : ReflowOptions) (block : Bool) (word : List ℕ) (more : List
 
   no-comment : (b : Bool) → (b ≡ false → is_comment_at options false word ≡ true → ⊥)
       → is_comment_at options b word ≡ true → ⊥
-  no-comment true other comment =
-      true≢false (sym (text-letter starred word begins)
-      ∙ ap has_letter ((bytes_eq-Decides word (codes "*")).0 comment) ∙ star-plain)
+  no-comment true other comment = grind (arith, cases_Bool, text-letter, bytes_eq-Decides, star-plain)
   no-comment false other comment = other refl comment
 
   never : (cs qs marks : List SpacedText) → AreMarks options block (words_in cs) (words_in qs)
       → (length marks ≡ 0 → block ≡ false → is_comment_at options false word ≡ true → ⊥)
       → words_in (cs ++ qs) ≡ words_in marks ++ (word ∷ more) → ⊥
   never [] qs marks are other same = no-quote (words_in marks) (subst (All IsQuote) same are.1)
-  never (c ∷ []) qs [] are other same =
-      no-comment block (other refl)
-      (sym (ap (λ l. is_comment_at options block (get_or l 0 [])) same) ∙ are.0)
+  never (c ∷ []) qs [] are other same = grind (arith, cases_Bool, no-comment)
   never (c ∷ []) qs (m ∷ marks) are other same =
       no-quote (words_in marks) (subst (All IsQuote) (ap (drop 1) same) are.2)
   never (c ∷ d ∷ cs) qs marks are other same = absurd are
@@ -227,12 +218,7 @@ module _ (options : ReflowOptions) (block : Bool) (word : List ℕ) (more : List
 -- ---- the fence
 
 left-by : (fence : FenceText) (raw : List ℕ) → fence_at (Some fence) raw ≡ None → is_left_by fence raw ≡ true
-left-by fence raw is = cut (is_left_by fence raw) refl
-  where
-    cut : (b : Bool) → is_left_by fence raw ≡ b → is_left_by fence raw ≡ true
-    cut true left = left
-    cut false left =
-        let bad : ◌≡◌ {A = Option FenceText} (Some fence) None = sym (ap (λ b. cond b None (Some fence)) left) ∙ is in cc
+left-by fence raw is = grind (arith, cases_Bool)
 
 -- the carriage returns at the end of a line
 pub returned : (raw : List ℕ) → EndsWord (drop (length raw - suffix_len is_return raw) raw)
@@ -282,11 +268,7 @@ would-be-mark : (options : ReflowOptions) (in_block : Bool) (ws cs qs bs : List 
 would-be-mark options in_block ws (c ∷ cs) qs bs some count none out comment = omega (arith, none)
 would-be-mark options in_block ws [] (q ∷ qs) bs some count none out comment = omega (arith, none)
 would-be-mark options in_block ws [] [] (b ∷ bs) some count none out comment = omega (arith, none)
-would-be-mark options in_block ws [] [] [] some count none out comment =
-    let one : 1 ≡ 0 =
-    sym (ap one_if (ap (λ b. is_comment_at options b (first_word ws)) out ∙ comment))
-    ∙ sym (comment_is options in_block ws some) ∙ count in
-    omega (arith, one)
+would-be-mark options in_block ws [] [] [] some count none out comment = grind (arith, cases_Bool, comment_is)
 
 first-rest : (ws : List SpacedText) → 0 < length ws
     → (rest : List ℕ) × (spaced_text ws ≡ first_word ws ++ rest)
@@ -311,15 +293,11 @@ module _ (options : ReflowOptions) (state : StateText) (raw : List ℕ)
       full-before marks (first ∷ []) full (record { word = plain-first r.ws some spaced; white = All-nil IsWhite })
 
   begun-text : spaced_text begun ≡ spaced_text marks ++ first.word
-  begun-text =
-      text-parts marks (first ∷ [])
-      ∙ ap (λ l. spaced_text marks ++ l) (append-nil (first.word ++ []) ∙ append-nil first.word)
+  begun-text = grind (arith, cases_Bool, text-parts, append-nil)
 
   behind-begun : (more : List ℕ)
       → behind_white (r.lead ++ (spaced_text begun ++ more)) ≡ spaced_text begun ++ more
-  behind-begun more =
-      behind-lead r.lead (spaced_text begun ++ more) r.text.white
-      (behind-words begun more begun-spaced (omega (arith, length-append marks (first ∷ []))))
+  behind-begun more = grind (arith, cases_Bool, behind-lead, behind-words, begun-spaced, length-append)
 
   module _ (starred : Bool) (tail : List ℕ) (begins : begins_text starred first.word ≡ true) (ends : EndsText tail)
     where

@@ -2,13 +2,13 @@
 use Rattle.textwrap_text.{proofs.Common.nil_from_length, proofs.Lists.Parts.same_parts}
 use Rattle.textwrap_marked_laws.proofs as own
 use own.Common.{All-replicate, ReflowOptions, is_comment_at, length-append, append_assoc, bullets_len, blanks}
-use own.Common.{all-left, bytes_eq, is_quote, or-false, length, blank, codes, false, subst, Bool, List, cond}
-use own.Common.{comment_len, spaced_text, All-append, All-weaker, SpacedText, append-nil, quotes_len, All-nil}
+use own.Common.{All-tail, all-left, bytes_eq, is_quote, or-false, length, arith, blank, codes, false, subst}
+use own.Common.{Bool, List, cond, refl, true, zero, ◌++◌, ◌||◌, sym, ◌+◌, ◌<◌, ◌∙◌, ◌∷◌, ◌≡◌, ◌≤◌, [], ap, ℕ}
+use own.Common.{comment_len, spaced_text, All-append, All-weaker, SpacedText, append-nil, cases_Bool, All-nil}
 use own.Common.{is_comment_opening, bytes_eq-Decides, hanging_comments, flat_map-append, hanging_bullets, All}
-use own.Common.{refl, true, zero, ◌++◌, ◌||◌, suc, sym, ◌+◌, ◌<◌, ◌∙◌, ◌∷◌, ◌≡◌, ◌≤◌, [], ap, ℕ, ⊤}
-use own.Common.{text_width, told-apart, true≢false, all-right, each-flat, All-cons, All-head, All-tail, arith}
+use own.Common.{quotes_len, text_width, told-apart, true≢false, all-right, each-flat, All-cons, All-head, suc}
 use own.LineKinds.{has_opening_in, comment-most, hanging_of, HaveKinds, none-if, some-if, one_if, kinds}
-use own.SpacedBack.{spaced-cons, AreSpaced, plain-one, IsSpaced, words_in, IsWhite}
+use own.{Common.⊤, SpacedBack.{spaced-cons, AreSpaced, plain-one, IsSpaced, words_in, IsWhite}}
 
 -- ---- words with white behind each
 
@@ -42,12 +42,8 @@ onto_last (w ∷ v ∷ ws) more = w ∷ onto_last (v ∷ ws) more
 
 pub last-text : (w : SpacedText) (ws : List SpacedText) (more : List ℕ)
     → spaced_text (onto_last (w ∷ ws) more) ≡ spaced_text (w ∷ ws) ++ more
-last-text w [] more =
-    append-nil (w.word ++ (w.white ++ more)) ∙ sym (append_assoc w.word w.white more)
-    ∙ ap (λ l. l ++ more) (sym (append-nil (w.word ++ w.white)))
-last-text w (v ∷ ws) more =
-    ap (λ l. (w.word ++ w.white) ++ l) (last-text v ws more)
-    ∙ sym (append_assoc (w.word ++ w.white) (spaced_text (v ∷ ws)) more)
+last-text w [] more = grind (arith, cases_Bool, append-nil, append_assoc)
+last-text w (v ∷ ws) more = grind (arith, cases_Bool, append_assoc, last-text v ws more)
 
 pub last-words : (ws : List SpacedText) (more : List ℕ) → words_in (onto_last ws more) ≡ words_in ws
 last-words [] more = refl
@@ -115,11 +111,7 @@ pub marks-comments : (options : ReflowOptions) (in_block : Bool) (cs qs : List S
     → AreMarks options in_block (words_in cs) (words_in qs)
     → (length cs ≤ 1) × All (λ w. is_comment_at options in_block w.word ≡ true) cs
 marks-comments options in_block [] qs are = (omega arith, All-nil (λ w. is_comment_at options in_block w.word ≡ true))
-marks-comments options in_block (c ∷ []) qs are = (
-  omega arith,
-  All-cons (λ w. is_comment_at options in_block w.word ≡ true) c [] are.0
-      (All-nil (λ w. is_comment_at options in_block w.word ≡ true)),
-)
+marks-comments options in_block (c ∷ []) qs are = grind (arith, cases_Bool, All-cons, All-nil)
 marks-comments options in_block (c ∷ d ∷ cs) qs are = absurd are
 
 -- a text that begins with no mark
@@ -148,11 +140,7 @@ module _ (options : ReflowOptions) (in_block : Bool) (cs qs : List SpacedText)
 
   pub marks-kinds : (words : List SpacedText) → HasNoMark options in_block words
       → HaveKinds options in_block cs qs [] words
-  marks-kinds words lacks = record {
-    comment = comment-count words (λ none. lacks.comment);
-    quote = quotes-all qs words all-quotes ∙ ap (λ n. length qs + n) lacks.quote ∙ omega arith;
-    bullet = lacks.bullet;
-  }
+  marks-kinds words lacks = grind (arith, cases_Bool, comment-count, quotes-all, all-quotes)
 
   -- other words of the kinds that a line with the same marks has
   pub kinds-same : (ds rs bs words : List SpacedText) → HaveKinds options in_block ds rs bs words

@@ -5,19 +5,17 @@ use Rattle.textwrap_display.proofs.WidenedWords.{widened_chunks, widened-text}
 use Rattle.textwrap_marked.proofs.PrintedLines.{texts_more}
 use Rattle.textwrap_text.proofs.Common.{cond_both, eq-eqb, min, ◌/◌}
 use Rattle.textwrap_marked_laws.proofs as own
-use own.Common.{ReflowOptions, append_assoc, shown_lines, IsDivision, append-nil, first_room, later_room, All}
-use own.Common.{WordText, all-left, is_blank, covered, word_of, blanks, get_or, length, nat_lt, ne_eqb, blank}
-use own.Common.{line_texts, onto_first, text_width, all-right, line_text, All-head, All-tail, LineText, arith}
-use own.Common.{pieces, false, subst, Bool, List, cond, drop, flat, refl, take, true, ◌&&◌, ◌++◌, ◌==◌, ◌||◌}
-use own.{Common.{map, not, sym, ◌+◌, ◌-◌, ◌<◌, ◌∙◌, ◌∷◌, ◌≡◌, ◌≢◌, ◌≤◌, [], ap, ℕ}, SpacedBack.IsPlain}
-use own.{LineWords.{division-words, AreCutInto, all_shown, ink-blank, joined, shown}, SpacedBack.IsInk}
+use own.Common.{LineText, WordText, all-left, is_blank, covered, word_of, blanks, get_or, length, nat_lt, not}
+use own.Common.{ReflowOptions, append_assoc, shown_lines, IsDivision, append-nil, cases_Bool, first_room, All}
+use own.Common.{later_room, line_texts, onto_first, text_width, all-right, line_text, All-head, All-tail, map}
+use own.Common.{ne_eqb, pieces, arith, blank, false, subst, Bool, List, cond, drop, flat, refl, take, true, ℕ}
+use own.{Common.{◌++◌, ◌==◌, ◌||◌, sym, ◌+◌, ◌-◌, ◌<◌, ◌∙◌, ◌∷◌, ◌≡◌, ◌≢◌, ◌≤◌, [], ap}, SpacedBack.IsInk}
+use own.{LineWords.{division-words, AreCutInto, all_shown, ink-blank, joined, shown}, SpacedBack.IsPlain}
 
 -- ---- the chunks of a line
 
 ink-onto : (c x : ℕ) (xs : List ℕ) → IsInk c → chunks (c ∷ x ∷ xs) ≡ onto_first c (chunks (x ∷ xs))
-ink-onto c x xs ink =
-    ap (λ b. cond (b && not (is_blank x)) ((c ∷ []) ∷ chunks (x ∷ xs)) (onto_first c (chunks (x ∷ xs))))
-    (ink-blank c ink)
+ink-onto c x xs ink = grind (arith, cases_Bool, ink-blank)
 
 chunks-one : (c : ℕ) (cs : List ℕ) → All IsInk (c ∷ cs) → chunks (c ∷ cs) ≡ (c ∷ cs) ∷ []
 chunks-one c [] ink = refl
@@ -131,9 +129,7 @@ all-same : (wide other : ℕ → ℕ → ℕ) (lines : List (List (List ℕ)))
     → ((n : ℕ) → n < length lines → other n ≡ wide n) → all_shown true other lines ≡ all_shown true wide lines
 all-same wide other [] same = refl
 all-same wide other (words ∷ lines) same =
-    ap (λ more. shown true more words ∷ all_shown true other lines) (same (length lines) (omega arith))
-    ∙ ap (λ l. shown true (wide (length lines)) words ∷ l)
-    (all-same wide other lines (λ n less. same n (omega (arith, less))))
+    grind (arith, cases_Bool, all-same wide other lines (λ n less. same n (omega (arith, less))))
 
 abbrev AreShown : Bool → List (List ℕ) → List (List (List ℕ)) → Type 0
 AreShown justify texts lines = (wide : ℕ → ℕ → ℕ) × (texts ≡ all_shown justify wide lines)

@@ -162,17 +162,11 @@ module _ (lead : List ℕ) (cs qs bs ws : List SpacedText) where
 
   text-before : (front rest ks : List SpacedText) → all ≡ front ++ rest → front ≡ lead_words lead ++ ks
       → spaced_text (take (length front) all) ≡ lead ++ spaced_text ks
-  text-before front rest ks is parts =
-      ap spaced_text (ap (take (length front)) is ∙ take_at front rest (length front) refl ∙ parts)
-      ∙ flat_map-append (λ w. w.word ++ w.white) (lead_words lead) ks
-      ∙ ap (λ t. t ++ spaced_text ks) (lead-text lead)
+  text-before front rest ks is parts = grind (arith, cases_Bool, take_at, flat_map-append, lead-text)
 
   no-bullets : (xs : List SpacedText) → (length to_bullets == length (to_bullets ++ xs)) ≡ (length xs == 0)
   no-bullets [] = eq-eqb (length to_bullets) (length (to_bullets ++ [])) (omega (arith, length-append to_bullets []))
-  no-bullets (x ∷ xs) =
-      ne_eqb (length to_bullets) (length (to_bullets ++ (x ∷ xs)))
-      (λ e. omega (arith, e, length-append to_bullets (x ∷ xs)))
-      ∙ sym (ne_eqb (length (x ∷ xs)) 0 (λ e. omega (arith, e)))
+  no-bullets (x ∷ xs) = grind (arith, cases_Bool, ne_eqb, length-append)
 
   cut-is : cut_kinds all all_ends ≡ kinds lead cs qs bs ws
   cut-is = λ i. record {

@@ -1,14 +1,14 @@
 -- The lines of a division of a paragraph's pieces are lines of its words, parted where they may be.
 use Rattle.std.proofs.lemmas.List.Elements.{All-get_or}
 use Rattle.textwrap_base.proofs.Cost.Chosen.{division_joined}
-use Rattle.textwrap_text.proofs.Common.{without_final_blanks, take-append-add, length-take, take_more}
+use Rattle.textwrap_text.proofs.Common.{take-append-add, length-take, take_more}
 use Rattle.textwrap_words.{proofs.Common.piece, proofs.Word.Texts.{trimmed-front, word_of-seam, AreBlanks}}
 use Rattle.textwrap_marked_laws.proofs as own
-use own.Common.{ReflowOptions, append_assoc, final_blanks, spaced_text, trimmed_len, IsDivision, SpacedText}
-use own.Common.{append-nil, onto_front, with_blank, All-cons, All-head, All-tail, WordText, is_blank, All-nil}
-use own.Common.{false, subst, Bool, List, cond, drop, flat, refl, take, true, ◌++◌, ◌==◌, All, map, sym, ◌+◌}
-use own.Common.{take_all, covered, or-left, word_of, blanks, get_or, is_cut, length, pieces, arith, blank, []}
-use own.{Common.{◌-◌, ◌<◌, ◌∙◌, ◌∷◌, ◌≡◌, ◌≢◌, ap, ℕ, ⊤}, SpacedBack.{IsPlain, IsInk}}
+use own.Common.{ReflowOptions, append_assoc, spaced_text, trimmed_len, IsDivision, SpacedText, append-nil, []}
+use own.Common.{cases_Bool, onto_front, with_blank, All-cons, All-head, All-tail, WordText, is_blank, All-nil}
+use own.Common.{false, Bool, List, cond, drop, flat, refl, take, true, ◌++◌, ◌==◌, All, map, sym, ◌+◌, ◌-◌, ℕ}
+use own.Common.{take_all, covered, or-left, word_of, blanks, get_or, is_cut, length, pieces, arith, blank, ap}
+use own.{Common.{◌<◌, ◌∙◌, ◌∷◌, ◌≡◌, ◌≢◌, ⊤}, SpacedBack.{IsPlain, IsInk}}
 
 -- the gap before a word with so many others behind it: a blank, and more where lines are justified
 abbrev pub gap : Bool → (ℕ → ℕ) → ℕ → List ℕ
@@ -61,11 +61,7 @@ one_blank : AreBlanks (blank ∷ [])
 one_blank = All-cons (λ c. is_blank c ≡ true) blank [] refl no_blank
 
 word-spaced : (word : List ℕ) → IsPlain word → word_of (with_blank word) ≡ piece word (blank ∷ []) []
-word-spaced word is =
-    let ends = word-ends word is in
-    subst (λ w. word_of (w ++ blank ∷ []) ≡ piece w (blank ∷ []) []) (sym ends.2)
-    (ap word_of (append_assoc ends.0 (ends.1 ∷ []) (blank ∷ []))
-    ∙ word_of-seam ends.0 (blank ∷ []) ends.1 ends.3 one_blank)
+word-spaced word is = grind (arith, cases_Bool, word-ends, append_assoc, word_of-seam)
 
 word-begins : (word : List ℕ) → IsPlain word → 0 < trimmed_len (with_blank word)
 word-begins word is = omega (
@@ -78,22 +74,7 @@ word-begins word is = omega (
 
 covered-front : (front part : List ℕ) (others : List WordText) → 0 < trimmed_len part
     → covered (word_of (front ++ part) ∷ others) ≡ front ++ covered (word_of part ∷ others)
-covered-front front part others some = front-of others
-  where
-    text : without_final_blanks (front ++ part) ≡ front ++ without_final_blanks part
-    text = ap (λ n. take n (front ++ part)) (trimmed-front front part some).0
-        ∙ take-append-add front part (trimmed_len part)
-
-    front-of : (others : List WordText)
-        → covered (word_of (front ++ part) ∷ others) ≡ front ++ covered (word_of part ∷ others)
-    front-of [] = text
-    front-of (next ∷ others) =
-        let last = without_final_blanks part in
-        let space = (trimmed-front front part some).1 in
-        ap (λ l. (l ++ final_blanks (front ++ part)) ++ covered (next ∷ others)) text
-        ∙ ap (λ l. ((front ++ last) ++ l) ++ covered (next ∷ others)) space
-        ∙ ap (λ l. l ++ covered (next ∷ others)) (append_assoc front last (final_blanks part))
-        ∙ append_assoc front (last ++ final_blanks part) (covered (next ∷ others))
+covered-front front part others some = grind (arith, cases_Bool, trimmed-front, take-append-add, append_assoc)
 
 -- the first part is not all blanks
 abbrev BeginWell : List (List ℕ) → Type 0

@@ -1,21 +1,21 @@
 -- What lines show behind their margins, and lines that stand for themselves: no line of a paragraph does.
-use Rattle.std.{proofs.lemmas.Bool.{or_right, or_left}, specs.List.filter}
+use Rattle.std.proofs.lemmas.Bool.{or_right, or_left}
 use Rattle.textwrap_marked_laws.specs.Laws.{LineShows, IsMargin}
 use Rattle.textwrap_marked_laws.specs.Laws.{begins_no_text, HasNoBarMark, is_line_mark, stands_alone}
 use Rattle.textwrap_marks.specs.Signs.{is_sign}
 use Rattle.textwrap_text.proofs.Common.{filter-append, and_parts}
 use Rattle.textwrap_marked_laws.proofs as own
-use own.Common.{All-tail, AreShown, LineText, bytes_eq, is_quote, list_any, none-any, All-map, All-nil, codes}
+use own.Common.{All-head, All-tail, AreShown, LineText, bytes_eq, is_quote, list_any, none-any, All-map, Bool}
+use own.Common.{All-nil, or-left, is_box, length, lt-ltb, nat_lt, codes, false, subst, List, cond, refl, true}
+use own.Common.{cases_Bool, first_word, has_letter, length-map, map-append, told-apart, and-false, is_bullet}
 use own.Common.{comment_len, has_columns, lines_alone, spaced_text, All-append, All-weaker, SpacedText, arith}
-use own.Common.{first_word, has_letter, length-map, map-append, told-apart, and-false, is_bullet, All-head, ℕ}
 use own.Common.{is_comment_at, length-append, append_assoc, line_as_read, begins_text, bullets_len, StateText}
-use own.Common.{or-left, is_box, length, lt-ltb, nat_lt, false, subst, Bool, List, cond, refl, true, ◌&&◌, []}
 use own.Common.{words_between_white, without_returns, is_column_word, words_of_lines, ReflowOptions, All-cons}
+use own.Common.{◌&&◌, ◌++◌, ◌||◌, All, ap₂, map, not, suc, sym, ◌<◌, ◌∙◌, ◌∷◌, ◌≡◌, [], ap, ℕ}
 use own.HangingForms.{marks-comments, marks-quotes, full-before, quotes-are, IsHanging, IsQuote, IsFull}
 use own.LaterLines.{one-bullet, read-split, text-parts, line-read, read-line, IsOfText}
-use own.LineKinds.{HaveKinds, some-if}
 use own.SpacedBack.{IsLineText, text-words, AreSpaced, each-word, spaced-in, words_in, IsWhite}
-use own.{Common.{◌++◌, ◌||◌, All, ap₂, map, not, suc, sym, ◌<◌, ◌∙◌, ◌∷◌, ◌≡◌, ap}, OpenBehind.no-columns}
+use own.{LineKinds.{HaveKinds, some-if}, OpenBehind.no-columns}
 
 -- ---- a line
 
@@ -178,35 +178,16 @@ module _ (line lead : List ℕ) (marks ws : List SpacedText) (white : All IsWhit
       text-words line lead (marks ++ ws) text ∙ map-append (λ (w : SpacedText). w.word) marks ws
 
   has-words : nat_lt 0 (length (words_between_white line)) ≡ true
-  has-words =
-      ap (λ l. nat_lt 0 (length l)) line-words
-      ∙ lt-ltb 0 (length (words_in marks ++ words_in ws)) (omega (
-        arith,
-        length-append (words_in marks) (words_in ws),
-        length-map ws (λ (w : SpacedText). w.word),
-      ))
+  has-words = grind (arith, cases_Bool, line-words, lt-ltb, length-append, length-map)
 
   -- it shows its marks too
   pub shows-first : (options : ReflowOptions) → LineShows options line (words_in marks ++ words_in ws)
-  shows-first options = (
-    [],
-    line,
-    no-margin options,
-    refl,
-    sym (ap (λ b. cond b (words_between_white line) ((10 ∷ []) ∷ [])) has-words ∙ line-words),
-  )
+  shows-first options = grind (arith, cases_Bool, no-margin, has-words, line-words)
 
   -- or, behind the margin that they are, its words alone
   shows-behind : (options : ReflowOptions) → IsMargin options (lead ++ spaced_text marks)
       → LineShows options line (words_in ws)
-  shows-behind options margin = (
-    lead ++ spaced_text marks,
-    spaced_text ws,
-    margin,
-    is,
-    sym (ap (λ b. cond b (words_between_white (spaced_text ws)) ((10 ∷ []) ∷ [])) has-words
-        ∙ spaced-in ws spaced),
-  )
+  shows-behind options margin = grind (arith, cases_Bool, has-words, spaced-in)
 
   -- it does not stand for itself, if these are such marks, and a text
   pub not-alone : (options : ReflowOptions) (plain : HasNoBarMark options) → All (IsLineMark options plain) marks
@@ -245,9 +226,7 @@ module _ (options : ReflowOptions) where
 
   alone-append : (lines later : List (List ℕ))
       → lines_alone options (lines ++ later) ≡ lines_alone options lines ++ lines_alone options later
-  alone-append lines later =
-      ap (filter (stands_alone options)) (map-append without_returns lines later)
-      ∙ filter-append (stands_alone options) (map without_returns lines) (map without_returns later)
+  alone-append lines later = grind (arith, cases_Bool, map-append, filter-append)
 
   -- lines that show the words of these, and none of them stands for itself
   pub record AreTextLines (raws : List (List ℕ)) (lines : List LineText) : Type 0 where
@@ -328,10 +307,4 @@ module _ (options : ReflowOptions) where
 
   pub alike-append : (lines others later more : List (List ℕ)) → AreAlike lines others → AreAlike later more
       → AreAlike (lines ++ later) (others ++ more)
-  alike-append lines others later more front back = record {
-    shown = front.shown ++ back.shown;
-    these = shown-append options lines later front.shown back.shown front.these back.these;
-    those = shown-append options others more front.shown back.shown front.those back.those;
-    alone = λ plain. alone-append others more ∙ ap₂ (λ a b. a ++ b) (front.alone plain) (back.alone plain)
-        ∙ sym (alone-append lines later);
-  }
+  alike-append lines others later more front back = grind (arith, cases_Bool, shown-append, alone-append)

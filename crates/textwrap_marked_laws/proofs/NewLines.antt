@@ -2,16 +2,16 @@
 use Rattle.textwrap_marks.proofs.Letterless.{no-comment}
 use Rattle.textwrap_marked_laws.proofs as own
 use own.AnewLines.{returns-none, ends-behind, returns-off, return_if, shown-end, white-end, EndsWell}
-use own.Common.{StateText, all-right, ending_if, ends_with, last_word, LineText, all-left, as_title, bytes_eq}
-use own.Common.{break_white, spaced_text, SpacedText, append-nil, first_word, has_letter, last_white, All-nil}
-use own.Common.{contains, has_byte, is_ended, or-left, is_key, length, nat_eq, nat_lt, passed, arith, codes}
-use own.Common.{false, subst, Bool, List, refl, true, ◌&&◌, ◌++◌, ◌||◌, All, ap₂, not, sym, ◌∙◌, ◌∷◌, ◌≡◌, []}
+use own.Common.{arith, codes, false, subst, Bool, List, refl, true, ◌&&◌, ◌++◌, ◌||◌, All, ap₂, not, sym, ◌∙◌}
+use own.Common.{as_title, bytes_eq, contains, has_byte, is_ended, or-left, length, nat_eq, nat_lt, passed, []}
+use own.Common.{break_white, spaced_text, SpacedText, append-nil, cases_Bool, first_word, has_letter, All-nil}
+use own.Common.{last_white, StateText, all-right, ending_if, ends_with, last_word, LineText, all-left, is_key}
 use own.Common.{opens_paragraph, without_returns, words_of_lines, ReflowOptions, closes_block, begins_text, ℕ}
 use own.OpenBehind.{letter-no-rule, behind-same, behind_text, open-behind, text-letter, goes-true}
 use own.SpreadWords.{spread-columns, spread-spaced, spread-first, spread-white, spread-words, spread-last}
 use own.TextBlocks.{as-title-none, AreTextWords, line-closing, AreOneBlock, last-behind, AreClosing, NoColumn}
 use own.WordEnds.{closing-after, closing-alone, break-spaced, break-again, closes-last, deeper-same, part-cut}
-use own.{Common.ap, ParagraphLines.{later-new, IsNew}, SpacedBack.{words_in, IsPlain, IsWhite}}
+use own.{Common.{◌∷◌, ◌≡◌, ap}, ParagraphLines.{later-new, IsNew}, SpacedBack.{words_in, IsPlain, IsWhite}}
 use own.{HangingForms.IsHanging, SpreadWords.{spread-end, spread-len, last-word, last_text, goes-on, no-mark}}
 use own.{LaterLines.IsOfText, TextBlocks.{open_still, last_line, read-more, title_of, NoClose, line_at, read}}
 use own.{LineWords.{AreCutInto, MayPart, spread, shown}, LinesAlone.{AreTextLines, more-lines, no-lines}}
@@ -64,9 +64,7 @@ module _ (options : ReflowOptions) (in_block starred : Bool) where
   pub here-words : (word : List ℕ) (words later : List (List ℕ)) (lines : List (List (List ℕ)))
       → AreCutInto options starred later lines → AreTextWords in_block ((word ∷ words) ++ later)
       → AreTextWords in_block (word ∷ words)
-  here-words word words later [] none are =
-      subst (AreTextWords in_block) (append-nil (word ∷ words))
-      (subst (λ l. AreTextWords in_block ((word ∷ words) ++ l)) none are)
+  here-words word words later [] none are = grind (arith, cases_Bool, append-nil)
   here-words word words later ([] ∷ lines) (behind, some, is, may, cut) are = absurd (some refl)
   here-words word words later ((next ∷ more) ∷ lines) (behind, some, is, may, cut) are =
       (parted word words next (more ++ behind)

@@ -11,20 +11,19 @@ use Rattle.textwrap_marked_lines.specs.Columns.{text_columns}
 use Rattle.textwrap_marks.specs.declared.options.Algorithm.TheVariants as by
 use Rattle.textwrap_text.proofs.Common.{reverse-append}
 use Rattle.textwrap_marked_laws.proofs as own
-use own.Common.{Bool, List, None, Part, cond, drop, refl, true, ◌&&◌, ◌++◌, ◌==◌, inl, inr, map, sym, ◌+◌, []}
+use own.Common.{All-cons, All-head, All-tail, LineText, WordText, all-left, flat_map, sizes_of, take_all, All}
+use own.Common.{All-map, All-nil, word_of, blocks, is_cut, length, nat_eq, pieces, arith, blank, false, stays}
 use own.Common.{ByOptimalFit, append_assoc, ending_bytes, line_as_read, AreOfBlocks, IsDividedBy, first_state}
-use own.Common.{IsDivision, SpacedText, filled_end, first_room, later_room, line_texts, onto_front, Algorithm}
-use own.Common.{all-left, flat_map, is_blank, sizes_of, take_all, All-map, All-nil, covered, printed, reverse}
+use own.Common.{SpacedText, cases_Bool, first_room, later_room, line_texts, onto_front, text_parts, Algorithm}
 use own.Common.{byte_order_mark, parts_of_blocks, words_of_lines, ReflowOptions, filled_ending, lines_of_text}
-use own.Common.{flat-each, is_beside, kept_line, line_text, All-cons, All-head, All-tail, LineText, WordText}
-use own.Common.{length-drop, piece_words, shown_lines, slice_split, starts_with, trimmed_len, All-weaker, All}
-use own.Common.{prefix_len, suffix_len, text_parts, with_blank, IsOfBlock, StateText, all-right, each-flat, ℕ}
+use own.Common.{length-drop, piece_words, shown_lines, slice_split, starts_with, All-weaker, IsDivision, Bool}
+use own.Common.{subst, None, Part, cond, drop, refl, true, ◌++◌, ◌==◌, inl, inr, map, sym, ◌+◌, ◌-◌, ◌<◌, ◌∙◌}
 use own.Common.{suffix_len-le-length, words_between_white, IsReflowedBehind, starts_with-rest, IsReflowedFrom}
-use own.Common.{word_of, blocks, is_cut, length, nat_eq, nat_lt, pieces, arith, blank, false, stays, subst, ⊤}
-use own.{Common.{◌-◌, ◌<◌, ◌∙◌, ◌∷◌, ◌≡◌, ◌≤◌, ap}, LineWords.{AreCutInto, all_shown, spread, shown}}
-use own.{JustifiedTexts.lines-shown, SpacedBack.{spaced-plain, spaced-in, words_in, IsPlain, IsWhite}}
-use own.{LaterLines.{read-spaced, read_marks, line-read, read-line}, TextParts.{blocks-flat, text-parts}}
-use own.{SpreadWords.{spread-spaced, spread-words}, TextBlocks.read-all}
+use own.Common.{with_blank, IsOfBlock, StateText, all-right, each-flat, flat-each, is_beside, kept_line, List}
+use own.JustifiedTexts.{lines-shown}
+use own.{Common.{◌∷◌, ◌≡◌, ◌≤◌, [], ap, ℕ, ⊤}, TextBlocks.read-all, TextParts.{blocks-flat, text-parts}}
+use own.{LaterLines.{read-spaced, read_marks, line-read, read-line}, LineWords.{AreCutInto, all_shown, shown}}
+use own.{SpacedBack.{spaced-plain, spaced-in, words_in, IsPlain}, SpreadWords.{spread-spaced, spread-words}}
 
 -- ---- the words of a paragraph are those of its printed lines
 
@@ -59,9 +58,7 @@ module _ (justify : Bool) where
   -- a line has its words
   shown-words : (more : ℕ → ℕ) (words : List (List ℕ)) → All IsPlain words
       → words_between_white (shown justify more words) ≡ words
-  shown-words more words plain =
-      spaced-in (spread justify more words []) (spread-spaced justify more words [] plain (All-nil IsWhite))
-      ∙ spread-words justify more words []
+  shown-words more words plain = grind (arith, cases_Bool, spaced-in, spread-spaced, All-nil, spread-words)
 
   all-words : (options : ReflowOptions) (starred : Bool) (wide : ℕ → ℕ → ℕ) (words : List (List ℕ))
       (lines : List (List (List ℕ))) → All IsPlain words → AreCutInto options starred words lines
@@ -132,10 +129,7 @@ abbrev HasBlank : WordText → Type 0
 HasBlank w = 0 < length w.whitespace
 
 word-blank : (text : List ℕ) → EndsInBlank text → HasBlank (word_of text)
-word-blank text (front, is) =
-    let long : 0 < suffix_len is_blank text = subst (λ l. 0 < prefix_len is_blank l)
-    (sym (ap reverse is ∙ reverse-append front (blank ∷ []))) (omega arith) in
-    omega (arith, length-drop (trimmed_len text) text, suffix_len-le-length is_blank text, long)
+word-blank text (front, is) = grind (arith, cases_Bool, reverse-append, length-drop, suffix_len-le-length)
 
 line-within : (width : ℕ) (prefix : List ℕ) (line : List WordText) → All HasBlank line
     → Fits sizes_of (width - text_columns prefix) line → IsWithin width prefix line
@@ -188,13 +182,8 @@ pub lines-as-wide : (width : ℕ) (first later : List ℕ) (lines : List (List W
     (line_texts true (width - text_columns first) (width - text_columns later) lines)
 lines-as-wide width first later [] = tt
 lines-as-wide width first later (line ∷ []) = tt
-lines-as-wide width first later (line ∷ next ∷ lines) = (
-  (λ utf8 whole some fits. omega (
-    arith,
-    justified-width (covered line) utf8 whole some (width - text_columns first) (omega (arith, fits)),
-  )),
-  lines-as-wide width later later (next ∷ lines),
-)
+lines-as-wide width first later (line ∷ next ∷ lines) =
+    grind (arith, cases_Bool, justified-width, lines-as-wide width later later (next ∷ lines))
 
 -- ---- all parts
 
@@ -216,20 +205,19 @@ module _ (options : ReflowOptions) (IsNew : List ℕ → Part → List ℕ → T
   laid-new ending beside [] text plain is = is
   laid-new ending beside ([] ∷ bs) text plain laid =
       laid-new ending beside bs text (All-tail IsPlainBlock [] bs plain) laid
-  laid-new ending beside ((first ∷ lines) ∷ bs) text plain (front, back, of, later, is) = (
-    front,
-    back,
-    each ending _ first (first ∷ lines) front (All-head IsPlainBlock (first ∷ lines) bs plain) of,
-    laid-new ending (is_beside first bs) bs back (All-tail IsPlainBlock (first ∷ lines) bs plain) later,
-    is,
-  )
+  laid-new ending beside ((first ∷ lines) ∷ bs) text plain (front, back, of, later, is) =
+      grind (
+        arith,
+        cases_Bool,
+        All-head,
+        All-tail,
+        laid-new ending (is_beside first bs) bs back (All-tail IsPlainBlock (first ∷ lines) bs plain) later,
+      )
 
   from-new : (text reflowed : List ℕ) → IsReflowedFrom options text reflowed
       → AreNewParts (IsNew (ending_bytes (filled_ending options.ending text))) (text_parts options text)
       reflowed
-  from-new text reflowed laid =
-      laid-new (ending_bytes (filled_ending options.ending text)) false (blocks (lines_of_text options text))
-      reflowed (text-plain options text) laid
+  from-new text reflowed laid = grind (arith, cases_Bool, laid-new, text-plain)
 
   behind-new : (marked : Bool) (text reflowed : List ℕ) → starts_with nat_eq text byte_order_mark ≡ marked
       → IsReflowedBehind marked options text reflowed → AreOfParts IsNew options text reflowed
@@ -243,16 +231,7 @@ module _ (options : ReflowOptions) (IsNew : List ℕ → Part → List ℕ → T
     text-parts options (drop 3 text),
     from-new (drop 3 text) new laid,
   )
-  behind-new false text reflowed begins laid = (
-    [],
-    text,
-    reflowed,
-    rw begins refl,
-    refl,
-    refl,
-    text-parts options text,
-    from-new text reflowed laid,
-  )
+  behind-new false text reflowed begins laid = grind (arith, cases_Bool, text-parts, from-new)
 
   pub new-parts : (text reflowed : List ℕ) → IsReflowed options text reflowed
       → AreOfParts IsNew options text reflowed
@@ -278,15 +257,7 @@ module _ (options : ReflowOptions) where
   kept-words ending false first lines text plain ([], divided, is) =
       absurd (no-division (piece_words options first lines) (divided-is _ _ _ [] divided))
   kept-words ending false first lines text plain (line ∷ others, divided, is) =
-      let more = texts_more options.justify (first_room options first) (later_room options first) line
-      others in (
-        line_text (options.justify && nat_lt 0 (length others)) (first_room options first) line,
-        line_texts options.justify (later_room options first) (later_room options first) others,
-        is ∙ ap (λ ls. printed ending first.prefix first.hanging ls ++ filled_end ending lines) more,
-        sym (ap (flat_map words_between_white) more)
-            ∙ printed-words options first lines (line ∷ others) plain
-            (divided-is _ _ (piece_words options first lines) (line ∷ others) divided),
-      )
+      grind (arith, cases_Bool, texts_more, printed-words, divided-is)
 
   pub kept-or-behind : options.ending ≡ None → HoldsOfEach options IsKeptOrBehind
   kept-or-behind none ending true first lines text plain is =
@@ -298,11 +269,7 @@ module _ (options : ReflowOptions) where
   pub within-width : options.algorithm ≡ by.FirstFit → HoldsOfEach options (PartKeepsToWidth options)
   within-width fits ending true first lines text plain is = tt
   within-width fits ending false first lines text plain (division, divided, is) =
-      let greedy = rw fits at divided in (
-        division,
-        (greedy.admissible.division, is),
-        printed-within options first lines division greedy.admissible.division greedy.admissible.fit,
-      )
+      grind (arith, cases_Bool, printed-within)
 
   pub costs-least : (penalties : Penalties) → options.algorithm ≡ by.LeastCost penalties
       → HoldsOfEach options (CostsLeast options penalties)
@@ -315,9 +282,4 @@ module _ (options : ReflowOptions) where
   pub fills-width : options.justify ≡ true → HoldsOfEach options (FillsWidth options)
   fills-width justify ending true first lines text plain is = tt
   fills-width justify ending false first lines text plain (division, divided, is) =
-      let whole = divided-is _ _ (piece_words options first lines) division divided in (
-        division,
-        (whole, is),
-        printed-words options first lines division plain whole,
-        rw justify (lines-as-wide options.width first.prefix first.hanging division),
-      )
+      grind (arith, cases_Bool, divided-is, printed-words, lines-as-wide)

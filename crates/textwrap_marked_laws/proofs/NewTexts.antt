@@ -1,8 +1,7 @@
 -- What becomes of a text is one text; and texts that were reflowed, reflowed again.
 use Rattle.std.{proofs.Common.⊎_elim, proofs.lemmas.List.Splits.join_with_byte-slice_split}
 use Rattle.textwrap_base.{proofs.Cost.Results.by_table_one, proofs.Division.Greedy.greedy_unique}
-use Rattle.textwrap_marked.specs.Reflow.{IsReflowed}
-use Rattle.textwrap_marked.specs.Within.{IsReflowedWithinBehind, IsReflowedWithinFrom, IsReflowedWithin}
+use Rattle.textwrap_marked.{specs.Reflow.IsReflowed, specs.Within.IsReflowedWithin}
 use Rattle.textwrap_marked_laws.specs.Laws.{HaveTheSameAlone, AreNewParts, KeepsEnding, ShowTheSame, EndAlike}
 use Rattle.textwrap_marked_laws.specs.Laws.{behind_mark}
 use Rattle.textwrap_marked_lines.specs.Columns.{text_columns}
@@ -11,13 +10,13 @@ use Rattle.textwrap_words.proofs.Common.{Algorithm as DividingAlgorithm}
 use Rattle.textwrap_words.proofs.Common.{ByFirstFit}
 use Rattle.textwrap_marked_laws.proofs as own
 use own.Common.{AreSameParts, ByOptimalFit, ending_bytes, line_as_read, AreOfBlocks, IsDividedBy, first_state}
-use own.Common.{LineText, WordText, sizes_of, entered, printed, word_of, Option, blocks, length, nat_eq, Bool}
+use own.Common.{IsOfBlock, LineRange, StateText, is_beside, All-head, IsSameBy, LineText, WordText, sizes_of}
 use own.Common.{dividing_algorithm, IsReflowedBehind, starts_with-rest, byte_order_mark, parts_of_blocks, All}
-use own.Common.{nat_lt, passed, pieces, stays, subst, CRLF, List, Part, Some, drop, refl, true, ◌++◌, ◌==◌, ℕ}
-use own.Common.{read_lines, text_parts, IsOfBlock, LineRange, StateText, is_beside, All-head, IsSameBy, false}
-use own.Common.{shown_lines, slice_split, starts_with, with_titles, LineEnding, filled_end, line_texts, arith}
+use own.Common.{printed, word_of, Option, blocks, length, nat_eq, nat_lt, passed, pieces, arith, false, stays}
+use own.Common.{starts_with, with_titles, LineEnding, cases_Bool, line_texts, read_lines, text_parts, entered}
+use own.Common.{subst, Bool, CRLF, List, Part, Some, drop, refl, true, ◌++◌, ◌||◌, inl, inr, map, sym, ◌-◌, ℕ}
 use own.Common.{without_returns, IsReflowedFrom, join_with_byte, ReflowOptions, filled_ending, lines_of_text}
-use own.Common.{◌||◌, inl, inr, map, sym, ◌-◌, ◌∙◌, ◌∷◌, ◌≡◌, ◌⊎◌, LF, [], ap}
+use own.Common.{◌∙◌, ◌∷◌, ◌≡◌, ◌⊎◌, LF, [], ap}
 use own.{AnewLines.{returns_by, tells-own, Tells}, Feedless.{split-feedless, IsFeedless, raws-some, raws_of}}
 use own.{BegunAlike.{ends-alike, marks-same, one-line}, TextBack.{within-back, IsTextBack, text-back}}
 
@@ -35,9 +34,7 @@ module _ (options : ReflowOptions) (ending : List ℕ) where
       → IsOfBlock options ending stays first lines other → text ≡ other
   block-one true first lines text other is same = is ∙ sym same
   block-one false first lines text other (division, divided, is) (second, by, same) =
-      is ∙ ap (λ d. printed ending first.prefix first.hanging (shown_lines options first d)
-      ++ filled_end ending lines)
-      (divided-one (dividing_algorithm options.algorithm) _ _ division second divided by) ∙ sym same
+      grind (arith, cases_Bool, divided-one)
 
   laid-one : (beside : Bool) (bs : List (List LineText)) (text other : List ℕ)
       → AreOfBlocks options ending beside bs text → AreOfBlocks options ending beside bs other → text ≡ other
@@ -50,9 +47,7 @@ module _ (options : ReflowOptions) (ending : List ℕ) where
 
 from-one : (options : ReflowOptions) (text first second : List ℕ)
     → IsReflowedFrom options text first → IsReflowedFrom options text second → first ≡ second
-from-one options text first second of by =
-    laid-one options (ending_bytes (filled_ending options.ending text)) false
-    (blocks (lines_of_text options text)) first second of by
+from-one options text first second of by = grind (arith, cases_Bool, laid-one)
 
 pub behind-one : (marked : Bool) (options : ReflowOptions) (text first second : List ℕ)
     → IsReflowedBehind marked options text first → IsReflowedBehind marked options text second
@@ -83,9 +78,7 @@ module _ (options : ReflowOptions) (ending : List ℕ) where
 
   of-same : (is_kept : Bool) (part other : Part) → part.stays ≡ is_kept
       → IsSameBy options.ending is_kept part other → Of part ≡ Of other
-  of-same true part other stay (leaves, kept) =
-      let same : OfPart true part ≡ OfPart true other = λ i text. text ≡ sym kept i in
-      ap (λ b. OfPart b part) stay ∙ same ∙ sym (ap (λ b. OfPart b other) leaves)
+  of-same true part other stay (leaves, kept) = grind (arith, cases_Bool)
   of-same false part other stay (leaves, para) =
       let same : OfPart false part ≡ OfPart false other =
       λ i text. IsFilledBy (sym para.prefix i) (sym para.hanging i) (sym para.starred i) (sym para.words i)
@@ -150,9 +143,7 @@ module _ (options : ReflowOptions) (width : ℕ) (algorithm : Algorithm) (ending
       ap (λ ls. line ∷ ls) (lines-same raws (passed at line))
 
   parts-equal : (text : List ℕ) → text_parts others text ≡ text_parts options text
-  parts-equal text =
-      ap (λ ls. parts_of_blocks false (blocks (with_titles ls)))
-      (lines-same (slice_split (λ c. c == 10) text) first_state)
+  parts-equal text = grind (arith, cases_Bool, lines-same)
 
   pub width-same : (e : Option LineEnding) → Tells ending e → (text between : List ℕ)
       → IsReflowedFrom others text between
@@ -233,23 +224,11 @@ module _ (From : List ℕ → List ℕ → Type 0) (text reflowed : List ℕ) wh
     opened : (Becomes true → IsMarked) → (Becomes false → From text reflowed) → (From text reflowed
         → starts_with nat_eq reflowed byte_order_mark ≡ starts_with nat_eq text byte_order_mark)
         → Becomes (starts_with nat_eq text byte_order_mark) → IsBehind
-    opened marked plain alike = cut (starts_with nat_eq text byte_order_mark) refl
-      where
-        cut : (b : Bool) → starts_with nat_eq text byte_order_mark ≡ b → Becomes b → IsBehind
-        cut true is becomes = let (rest, laid, whole) = marked becomes in rw (is, whole) (refl, laid)
-        cut false is becomes = let laid = plain becomes in rw (is, alike laid ∙ is) (refl, laid)
+    opened marked plain alike = grind (arith, cases_Bool)
 
     closed : (IsMarked → Becomes true) → (From text reflowed → Becomes false) → IsBehind
         → Becomes (starts_with nat_eq text byte_order_mark)
-    closed marked plain (same, laid) = cut (starts_with nat_eq text byte_order_mark) refl
-      where
-        cut : (b : Bool) → starts_with nat_eq text byte_order_mark ≡ b → Becomes b
-        cut true is = marked (
-          drop 3 reflowed,
-          rw (is, same ∙ is) at laid,
-          starts_with-rest byte_order_mark reflowed (same ∙ is),
-        )
-        cut false is = plain (rw (is, same ∙ is) at laid)
+    closed marked plain (same, laid) = grind (arith, cases_Bool, starts_with-rest)
 
 -- what follows a byte order mark in a text is read again behind the same one, if there is one
 abbrev pub IsBack : ReflowOptions → List ℕ → List ℕ → Type 0
@@ -271,11 +250,7 @@ module _ (options : ReflowOptions) (text reflowed : List ℕ) where
   -- where only some lines are filled
   pub read-within : (range : LineRange) → IsReflowedWithin options range text reflowed
       → IsBack options text reflowed
-  read-within range is =
-      let (same, laid) = opened (IsReflowedWithinFrom options range) text reflowed
-      (λ b. IsReflowedWithinBehind b options range text reflowed) (λ marked. marked) (λ laid. laid)
-      (λ laid. begins-alike options text reflowed (within-back options text reflowed range laid)) is in
-      (same, within-back options _ _ range laid)
+  read-within range is = grind (arith, cases_Bool, begins-alike, within-back)
 
   pub parts-same : IsBack options text reflowed
       → AreSameParts options.ending (text_parts options (behind_mark text)) (text_parts options (behind_mark reflowed))
@@ -327,6 +302,4 @@ pub endings-same : (options : ReflowOptions) (width : ℕ) (algorithm : Algorith
     → IsReflowed (record options { width = width; algorithm = algorithm; ending = before }) text between
     → IsReflowed options between reflowed → IsReflowed options text reflowed
 endings-same options width algorithm before e asked text between reflowed =
-    earlier-same options width algorithm before (subst (Tells before) (sym asked) tt) text between reflowed
-    (λ r. ap (λ x. filled_ending x (behind_mark between)) asked
-    ∙ sym (ap (λ x. filled_ending x (behind_mark text)) asked))
+    grind (arith, cases_Bool, earlier-same)

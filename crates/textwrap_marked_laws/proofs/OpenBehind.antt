@@ -1,24 +1,21 @@
 -- What is open behind a line that does not stand apart, and which lines do not.
 use Rattle.std.{proofs.Common.nat_le, specs.Str.chars}
-use Rattle.textwrap_marked_lines.specs.Fences.{opens_formula, has_pre_end, opened_by, opened, run_of}
+use Rattle.textwrap_marked_lines.specs.Fences.{opens_formula, opened, run_of}
 use Rattle.textwrap_marked_lines.specs.Lines.{begins_code, is_in_block, is_prompted, new_before, is_before}
-use Rattle.textwrap_marked_lines.specs.declared.fences.FenceKind.TheVariants.{Formula, Code, Pre}
 use Rattle.textwrap_marked_lines.specs.declared.fences.FenceKind.{FenceKind}
 use Rattle.textwrap_marked_lines.{specs.Columns.{DepthText, is_deeper, depth_of}, specs.Lines.new_by}
 use Rattle.textwrap_marks.proofs.ListLemmas.{or-right}
-use Rattle.textwrap_marks.specs.Signs.{is_directive, opens_code, is_rule, is_sign, is_gap}
-use Rattle.textwrap_marks.specs.Signs.{is_rule_characters, is_example_key, opens_session, any_contains}
+use Rattle.textwrap_marks.specs.Signs.{is_rule_characters, opens_session, is_directive, is_rule, is_sign}
 use Rattle.textwrap_marks.{proofs.Letterless.no-session, specs.Words.is_letter_or_digit}
-use Rattle.textwrap_text.proofs.Common.{slice_index, and_parts, and_right, list_all, not-true}
+use Rattle.textwrap_text.proofs.Common.{slice_index, and_parts, list_all, not-true}
 use Rattle.textwrap_marked_laws.proofs as own
-use own.Common.{ReflowOptions, closes_block, closes_early, begins_text, has_columns, starts_with, All-weaker}
-use own.Common.{SpacedText, cases_Bool, first_word, has_letter, option_map, prefix_len, told-apart, FenceText}
-use own.Common.{false_from_ne_true, words_before_last, bytes_eq-Decides, opens_paragraph, is_column_word, All}
-use own.Common.{marks_of, none-any, goes_on, is_deep, is_some, or-left, Option, is_key, length, nat_eq, arith}
-use own.Common.{nat_lt, ne_eqb, passed, codes, false, List, None, Some, cond, drop, refl, true, ◌&&◌, ◌==◌}
-use own.Common.{nat_tests, new_fence, LineText, any-none, bytes_eq, contains, eqb-true, has_byte, list_any, ℕ}
-use own.Common.{true≢false, StateText, and-false, deeper_by, ends_with, has_bytes, has_words, last_word, Bool}
-use own.Common.{◌||◌, not, sym, ◌-◌, ◌<◌, ◌∙◌, ◌∷◌, ◌≡◌, [], ap}
+use own.Common.{Option, is_key, length, nat_eq, nat_lt, ne_eqb, passed, codes, false, Bool, List, None, Some}
+use own.Common.{StateText, and-false, deeper_by, has_words, nat_tests, new_fence, LineText, any-none, is_deep}
+use own.Common.{bytes_eq, contains, eqb-true, has_byte, list_any, marks_of, none-any, is_some, or-left, arith}
+use own.Common.{cases_Bool, first_word, has_letter, option_map, prefix_len, told-apart, true≢false, FenceText}
+use own.Common.{closes_block, closes_early, begins_text, has_columns, starts_with, All-weaker, SpacedText, []}
+use own.Common.{cond, refl, true, ◌&&◌, ◌==◌, ◌||◌, All, not, sym, ◌-◌, ◌<◌, ◌∙◌, ◌∷◌, ◌≡◌, ap, ℕ}
+use own.Common.{false_from_ne_true, bytes_eq-Decides, opens_paragraph, is_column_word, ReflowOptions, goes_on}
 use own.LineKinds.{has_opening_in, hanging_of, line_by, Kinds}
 
 -- ---- the first word of a text
@@ -50,9 +47,7 @@ three mark (a ∷ b ∷ c ∷ word) long = grind (arith, nat_tests, cases_Bool)
 -- nor a formula
 no-formula : (words : List SpacedText) → is_sign (first_word words) ≡ false → opens_formula words ≡ false
 no-formula [] none = refl
-no-formula (w ∷ ws) none =
-    ap (λ b. cond b (not (contains (codes "$$") (drop 2 w.word)) && not (any_contains (codes "$$") ws))
-    false) (or-right _ _ (or-left _ _ (or-right _ (is_directive w.word) none)))
+no-formula (w ∷ ws) none = grind (arith, cases_Bool, or-right, or-left)
 
 run-none : (word : List ℕ) → is_sign word ≡ false → run_of word ≡ None
 run-none word none =
@@ -77,10 +72,7 @@ run-none word none =
 
 pub no-columns : (justify : Bool) (words : List SpacedText) → has_columns justify words ≡ false
     → All (λ w. is_column_word w.word ≡ false) words
-no-columns justify words none =
-    any-none (λ w. is_column_word w.word) words
-    (or-left (list_any (λ w. is_column_word w.word) words)
-    (list_any (is_gap justify) (words_before_last words)) none)
+no-columns justify words none = grind (arith, cases_Bool, any-none, or-left)
 
 pub no-return : (word : List ℕ) → is_column_word word ≡ false → has_byte 13 word ≡ false
 no-return word none = or-right _ _ (or-left _ _ (or-left _ (contains (codes "<pre") word) none))
@@ -88,15 +80,7 @@ no-return word none = or-right _ _ (or-left _ _ (or-left _ (contains (codes "<pr
 pub opened-none : (starred : Bool) (words : List SpacedText) → begins_text starred (first_word words) ≡ true
     → All (λ w. is_column_word w.word ≡ false) words → opened words ≡ None
 opened-none starred words begins none =
-    let no_sign = text-no-sign starred (first_word words) begins in
-    let pre = none-any (λ w. contains (codes "<pre") w.word) words
-    (All-weaker (λ w. is_column_word w.word ≡ false) (λ w. contains (codes "<pre") w.word ≡ false)
-    (λ w no. or-right _ (contains (codes "<pre") w.word) no) words none) in
-    let code = or-right _ (opens_code (first_word words)) (or-right _ (is_directive (first_word words)) no_sign) in
-    let formula = no-formula words no_sign in
-    ap (λ r. opened_by r words) (run-none (first_word words) no_sign)
-    ∙ (λ i. cond (pre i && not (has_pre_end words)) (Some Pre)
-    (cond (code i) (Some Code) (cond (formula i) (Some Formula) None)))
+    grind (arith, cases_Bool, text-no-sign, none-any, All-weaker, or-right, no-formula, run-none)
 
 -- ---- the state behind it
 
@@ -172,9 +156,7 @@ module _ (options : ReflowOptions) (state : StateText) (raw : List ℕ) (fed : B
   pub free-apart : IsOpen options state (hanging_of options.bare k)
       → AreFree options.justify (block_at state k) (starred_at options state k) (field_of k) k.words
       → (line_by options state raw fed k).apart ≡ false
-  free-apart at are =
-      λ i. at.fence i || at.level i || at.prompt i
-      || (not (are.begins i) || are.columns i || are.field i || are.closes i)
+  free-apart at are = grind (arith, cases_Bool)
 
   pub behind-free : IsOpen options state (hanging_of options.bare k)
       → AreFree options.justify (block_at state k) (starred_at options state k) (field_of k) k.words
@@ -214,26 +196,11 @@ module _ (options : ReflowOptions) (state : StateText) (raw : List ℕ) (fed : B
 same-any : (test : ℕ → Bool) (c : ℕ) (cs : List ℕ) → list_all (λ x. x == c) cs ≡ true
     → list_any test cs ≡ true → test c ≡ true
 same-any test c [] all some = absurd (true≢false (sym some))
-same-any test c (x ∷ cs) all some = cut (x == c) (test x) refl refl all some (same-any test c cs)
-  where
-    cut : (a b : Bool) → (x == c) ≡ a → test x ≡ b → (a && list_all (λ x. x == c) cs) ≡ true
-        → (b || list_any test cs) ≡ true
-        → (list_all (λ x. x == c) cs ≡ true → list_any test cs ≡ true → test c ≡ true) → test c ≡ true
-    cut false b p q all some later = absurd (true≢false (sym all))
-    cut true true p q all some later = ap test (sym (eqb-true x c p)) ∙ q
-    cut true false p q all some later = later all some
+same-any test c (x ∷ cs) all some = grind (arith, cases_Bool, eqb-true, same-any test c cs)
 
 rule-none : (cs : List ℕ) → list_any is_letter_or_digit cs ≡ true → is_rule_characters cs ≡ false
 rule-none [] some = absurd (true≢false (sym some))
-rule-none (c ∷ cs) some = cut (list_all (λ x. x == c) (c ∷ cs)) refl
-  where
-    cut : (t : Bool) → list_all (λ x. x == c) (c ∷ cs) ≡ t → is_rule_characters (c ∷ cs) ≡ false
-    cut false is =
-        ap (λ b. b && not (is_letter_or_digit c || c == 96 || c == 126))
-        (and_right (nat_lt 2 (length (c ∷ cs))) (list_all (λ x. x == c) (c ∷ cs)) is)
-    cut true is =
-        and_right (nat_lt 2 (length (c ∷ cs)) && list_all (λ x. x == c) (c ∷ cs)) _
-        (ap (λ b. not (b || c == 96 || c == 126)) (same-any is_letter_or_digit c (c ∷ cs) is some))
+rule-none (c ∷ cs) some = grind (arith, cases_Bool, same-any)
 
 pub letter-no-rule : (words : List SpacedText) → has_letter (first_word words) ≡ true → is_rule words ≡ false
 letter-no-rule [] some = refl
@@ -246,19 +213,10 @@ no-less : (by x : ℕ) → 0 < by → nat_le by (x - x) ≡ false
 no-less by x some = grind (arith, nat_tests, cases_Bool)
 
 never-deeper : (by : ℕ) (d : DepthText) → 0 < by → is_deeper by d d ≡ false
-never-deeper by d some =
-    elim (has_bytes d.marks) as (λ b. cond b (bytes_eq d.marks d.marks && d.lead == d.lead
-    && nat_le by (d.behind - d.behind)) (nat_le by (d.lead - d.lead)) ≡ false) [
-      | true ↦ ap (λ t. bytes_eq d.marks d.marks && d.lead == d.lead && t) (no-less by d.behind some)
-          ∙ and-false (bytes_eq d.marks d.marks && d.lead == d.lead)
-      | false ↦ no-less by d.lead some
-    ]
+never-deeper by d some = grind (arith, cases_Bool, no-less, and-false)
 
 depth-some : (hanging : List ℕ) (words : List SpacedText) → 0 < deeper_by hanging words
-depth-some hanging words =
-    elim (ends_with nat_eq (last_word words) (codes "::") || is_example_key (last_word words)
-    || bytes_eq hanging (codes " ") || bytes_eq (first_word words) (codes ".."))
-    as (λ b. 0 < cond b 1 4) [ true ↦ omega arith | false ↦ omega arith ]
+depth-some hanging words = grind (arith, cases_Bool)
 
 pub open-behind : (options : ReflowOptions) (in_block : Bool) (hanging : List ℕ) (words : List SpacedText)
     → IsOpen options (behind_text in_block hanging words) hanging
@@ -289,21 +247,8 @@ pub behind-same : (in_block : Bool) (hanging : List ℕ) (words others : List Sp
     → (in_block && closes_block words) ≡ (in_block && closes_block others)
     → deeper_by hanging words ≡ deeper_by hanging others
     → behind_text in_block hanging words ≡ behind_text in_block hanging others
-behind-same in_block hanging words others closes deeper =
-    λ i. record {
-      in_block = masked in_block (closes_block words) (closes_block others) closes i;
-      fence = None;
-      prompted = false;
-      before = Some (depth_of hanging);
-      by = deeper i;
-    }
-  where
-    masked : (a b c : Bool) → (a && b) ≡ (a && c) → (a && not b) ≡ (a && not c)
-    masked true b c is = ap not is
-    masked false b c is = refl
+behind-same in_block hanging words others closes deeper = grind (arith, cases_Bool)
 
 pub goes-true : (line next : LineText) → line.apart ≡ false → next.apart ≡ false → line.ended ≡ false
     → next.prefix ≡ line.hanging → opens_paragraph (first_word next.words) ≡ false → goes_on line next ≡ true
-goes-true line next a b c d e =
-    let behind = (bytes_eq-Decides next.prefix line.hanging).1 d in
-    λ i. not (a i) && not (b i) && not (c i) && behind i && not (e i)
+goes-true line next a b c d e = grind (arith, cases_Bool, bytes_eq-Decides)

@@ -2,17 +2,18 @@
 use Rattle.std.proofs.lemmas.List.Folds.{list_any-append}
 use Rattle.textwrap_marks.{proofs.Letterless.box-plain, specs.Signs.is_rule}
 use Rattle.textwrap_marked_laws.proofs as own
-use own.Common.{false, subst, Bool, List, None, refl, true, ◌&&◌, ◌++◌, ◌==◌, ◌||◌, not, sym, ◌<◌, ◌∙◌, ◌≡◌}
+use own.Common.{first_word, has_letter, StateText, all-right, LineText, has_byte, none-any, or-false, is_key}
 use own.Common.{hanging_bullets, opens_paragraph, without_returns, ReflowOptions, append_assoc, line_as_read}
-use own.Common.{has_letter, StateText, all-right, LineText, has_byte, none-any, or-false, is_key, length, All}
-use own.Common.{spaced_words, begins_text, spaced_text, All-weaker, SpacedText, append-nil, first_word, codes}
+use own.Common.{length, codes, false, subst, Bool, List, None, refl, true, ◌&&◌, ◌++◌, ◌==◌, ◌||◌, All, not}
+use own.Common.{spaced_words, begins_text, spaced_text, All-weaker, SpacedText, append-nil, cases_Bool, arith}
 use own.HangingForms.{bullets-white, before-full, full-before, marks-kinds, hanging-is, hangs-same, HasNoMark}
 use own.LaterLines.{kinds-first, read-spaced, read_block, read_kinds, read_marks, text-parts, words-some}
+use own.LaterLines.{line-read, read-line, text-line, IsOfText, read_as, regroup, IsRead}
 use own.LineKinds.{has_opening_in, hanging_of, HaveKinds, line-is, line_by, Kinds, kinds}
+use own.OpenBehind.{field_of, AreFree, IsOpen, begun}
 use own.OpenBehind.{letter-no-rule, text-letter, apart-free, free-apart, starred_at, text-other, some-none}
-use own.{Common.{[], ap, ℕ}, LaterLines.{line-read, read-line, text-line, IsOfText, read_as, regroup, IsRead}}
-use own.{HangingForms.{kinds-same, opens-none, IsHanging, IsFull}, OpenBehind.{field_of, AreFree, IsOpen}}
-use own.{OpenBehind.begun, SpacedBack.{white-other, AreSpaced, line-back, with_lead, lead-one, IsWhite}}
+use own.SpacedBack.{white-other, AreSpaced, line-back, with_lead, lead-one, IsWhite}
+use own.{Common.{sym, ◌<◌, ◌∙◌, ◌≡◌, [], ap, ℕ}, HangingForms.{kinds-same, opens-none, IsHanging, IsFull}}
 
 pub all-spaced : (ks : List SpacedText) → All IsFull ks → AreSpaced ks
 all-spaced ks full = subst AreSpaced (append-nil ks) (full-before ks [] full tt)
@@ -51,9 +52,7 @@ module _ (options : ReflowOptions) (in_block : Bool) (hanging : List ℕ)
 
   hung-block : (state : StateText) → state.in_block ≡ in_block
       → (state.in_block || has_opening_in hang.cs) ≡ in_block
-  hung-block state block =
-      ap (λ o. state.in_block || o) (opens-none options in_block hang.cs hang.qs hang.marks)
-      ∙ or-false state.in_block ∙ block
+  hung-block state block = grind (arith, cases_Bool, opens-none, or-false)
 
   hung-margin : (ws : List SpacedText) → hanging_of options.bare (hung ws) ≡ hanging
   hung-margin ws =

@@ -1,8 +1,8 @@
 -- The text of a paragraph as it is printed is its lines, with a line feed between each two.
 use Rattle.textwrap_marked_laws.proofs as own
-use own.Common.{all-right, ending_if, All-cons, All-head, All-tail, all-left, flat_map, All-nil, length, Bool}
+use own.Common.{cases_Bool, all-right, ending_if, All-cons, All-head, All-tail, all-left, flat_map, All-nil}
 use own.Common.{join_with_byte, ReflowOptions, append_assoc, spaced_text, All-append, All-weaker, append-nil}
-use own.Common.{nat_lt, subst, List, refl, ◌&&◌, ◌++◌, All, sym, ◌∙◌, ◌∷◌, ◌≡◌, [], ap, ℕ}
+use own.Common.{length, nat_lt, arith, subst, Bool, List, refl, ◌&&◌, ◌++◌, All, ◌∷◌, ◌≡◌, [], ℕ}
 use own.TextParts.{join-more}
 use own.{AnewLines.{return-feedless, end-parts, return_if}, Feedless.{IsFeedless, NoFeed}}
 use own.{LineWords.{AreCutInto, all_shown, spread, shown, gap}, SpreadWords.{spread-end, gap-white}}
@@ -54,27 +54,10 @@ module _ (options : ReflowOptions) (starred : Bool) (wide : ℕ → ℕ → ℕ)
       ++ behind_ending (all_shown options.justify wide lines)) ++ tail
       ≡ join_with_byte 10 (raw_of prefix (word ∷ words) lines ∷ (raws_behind lines ++ left))
   text-joined [] prefix word words later none =
-      let text = shown options.justify (wide 0) (word ∷ words) in
-      let fed = nat_lt 0 (length left) in
-      let rest = join_with_byte 10 left in
-      let grouped : ((prefix ++ text) ++ []) ++ ((end ++ (return_if more ++ ending_if fed (10 ∷ []))) ++ rest)
-      ≡ (((prefix ++ (text ++ end)) ++ return_if more) ++ ending_if fed (10 ∷ [])) ++ rest =
-      simp (append_assoc, append-nil) in
-      ap (λ e. ((prefix ++ text) ++ []) ++ ((end ++ e) ++ rest)) (end-parts returns fed)
-      ∙ grouped
-      ∙ ap (λ t. (((prefix ++ t) ++ return_if more) ++ ending_if fed (10 ∷ [])) ++ rest)
-      (sym (spread-end options.justify (wide 0) word words end))
-      ∙ sym (join-more (raw_of prefix (word ∷ words) []) left)
+      grind (arith, cases_Bool, append_assoc, append-nil, end-parts, spread-end, join-more)
   text-joined ([] ∷ lines) prefix word words later (behind, some, is, may, cut) = absurd (some refl)
   text-joined ((next ∷ others) ∷ lines) prefix word words later (behind, some, is, may, cut) =
-      let text = shown options.justify (wide (length ((next ∷ others) ∷ lines))) (word ∷ words) in
-      let after = shown options.justify (wide (length lines)) (next ∷ others) in
-      let rest = behind_ending (all_shown options.justify wide lines) in
-      let grouped : ((prefix ++ text) ++ (((ending ++ hanging) ++ after) ++ rest)) ++ tail
-      ≡ ((prefix ++ text) ++ return_if returns) ++ (10 ∷ (((hanging ++ after) ++ rest) ++ tail)) =
-      simp append_assoc in
-      grouped ∙ ap (λ l. ((prefix ++ text) ++ return_if returns) ++ (10 ∷ l))
-      (text-joined lines hanging next others behind cut)
+      grind (arith, cases_Bool, append_assoc, text-joined lines hanging next others behind cut)
 
   module _ (white : All IsWhite end) (hung : IsFeedless hanging) where
     end-feedless : (lines : List (List (List ℕ))) → IsFeedless (text_end end lines)

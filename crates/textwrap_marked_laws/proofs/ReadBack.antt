@@ -64,15 +64,8 @@ module _ (options : ReflowOptions) (returns : Bool) (told : IsTold options.endin
       → AreOfBlocks options ending beside bs text → AreOfBlocksAny beside bs text
   laid-any [] beside text laid = laid
   laid-any ([] ∷ bs) beside text laid = laid-any bs beside text laid
-  laid-any ((first ∷ lines) ∷ bs) beside text (front, back, of, later, is) = (
-    stays (beside || is_beside first bs) first,
-    (λ kept. kept),
-    front,
-    back,
-    of,
-    laid-any bs (is_beside first bs) back later,
-    is,
-  )
+  laid-any ((first ∷ lines) ∷ bs) beside text (front, back, of, later, is) =
+      grind (arith, cases_Bool, laid-any bs (is_beside first bs) back later)
 
   pub within-any : (range : LineRange) (start : ℕ) (bs : List (List LineText)) (beside : Bool) (text : List ℕ)
       → AreOfBlocksWithin options range ending start beside bs text → AreOfBlocksAny beside bs text

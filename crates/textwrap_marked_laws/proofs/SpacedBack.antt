@@ -2,10 +2,10 @@
 use Rattle.textwrap_marks.specs.Words.{onto_word, with_byte}
 use Rattle.textwrap_text.proofs.Lists.Parts.{onto_first-append}
 use Rattle.textwrap_marked_laws.proofs as own
-use own.Common.{All-nil, length, lt-ltb, arith, false, Bool, List, cond, refl, true, ◌++◌, ◌==◌, All, map, []}
-use own.Common.{flat_map-append, spaced_words, slice_split, spaced_text, SpacedText, append-nil, first_word}
-use own.Common.{onto_first, true≢false, has_bytes, All-cons, All-head, All-tail, eqb-true, flat_map, is_white}
-use own.Common.{sym, ◌<◌, ◌∙◌, ◌∷◌, ◌≡◌, ap, ℕ, ⊤}
+use own.Common.{first_word, onto_first, true≢false, has_bytes, All-cons, All-head, All-tail, eqb-true, length}
+use own.Common.{flat_map-append, spaced_words, slice_split, spaced_text, SpacedText, append-nil, cases_Bool}
+use own.Common.{is_white, All-nil, lt-ltb, arith, false, Bool, List, cond, refl, true, ◌++◌, ◌==◌, All, map}
+use own.Common.{sym, ◌<◌, ◌∙◌, ◌∷◌, ◌≡◌, [], ap, ℕ, ⊤}
 use own.Common.{words_between_white, false_from_ne_true, length-slice_split, slice_split_none, append_assoc}
 
 -- ---- texts
@@ -15,22 +15,12 @@ split-white : (front : List ℕ) (c : ℕ) (rest : List ℕ) → is_white c ≡ 
 split-white [] c rest white =
     ap (λ b. cond b ([] ∷ slice_split is_white rest) (onto_first c (slice_split is_white rest))) white
 split-white (x ∷ front) c rest white =
-    let first = slice_split is_white front in
-    let later = slice_split is_white rest in
-    ap (λ s. cond (is_white x) ([] ∷ s) (onto_first x s)) (split-white front c rest white)
-    ∙ elim (is_white x) as (λ b. cond b ([] ∷ (first ++ later)) (onto_first x (first ++ later))
-    ≡ cond b ([] ∷ first) (onto_first x first) ++ later) [
-      | true ↦ refl
-      | false ↦ onto_first-append x first later (omega (arith, length-slice_split is_white front))
-    ]
+    grind (arith, cases_Bool, onto_first-append, length-slice_split, split-white front c rest white)
 
 -- the words before and behind white
 pub words-white : (front : List ℕ) (c : ℕ) (rest : List ℕ) → is_white c ≡ true
     → words_between_white (front ++ c ∷ rest) ≡ words_between_white front ++ words_between_white rest
-words-white front c rest white =
-    ap (flat_map (λ w. cond (has_bytes w) (w ∷ []) [])) (split-white front c rest white)
-    ∙ flat_map-append (λ w. cond (has_bytes w) (w ∷ []) []) (slice_split is_white front)
-    (slice_split is_white rest)
+words-white front c rest white = grind (arith, cases_Bool, split-white, flat_map-append)
 
 -- white in front adds none
 pub white-words : (white rest : List ℕ) → All (λ c. is_white c ≡ true) white
@@ -48,9 +38,7 @@ pub record IsPlain (word : List ℕ) : Type 0 where
   pub ink : All (λ c. is_white c ≡ false) word
 
 pub word-alone : (word : List ℕ) → IsPlain word → words_between_white word ≡ word ∷ []
-word-alone word plain =
-    ap (flat_map (λ w. cond (has_bytes w) (w ∷ []) [])) (slice_split_none is_white word plain.ink)
-    ∙ ap (λ b. cond b (word ∷ []) [] ++ []) (lt-ltb 0 (length word) plain.some)
+word-alone word plain = grind (arith, cases_Bool, slice_split_none, lt-ltb)
 
 -- ---- words with white between them are read back from their text
 
@@ -124,12 +112,7 @@ begins-plain (w ∷ ws) are = (spaced-first w ws are).word.some
 white-alone : (c : ℕ) (ws : List SpacedText) → IsWhite c → BeginsPlain ws
     → with_byte c ws ≡ with_lead (c ∷ []) ws
 white-alone c [] white begins = simp white
-white-alone c (w ∷ ws) white begins = cut w.word refl begins
-  where
-    cut : (word : List ℕ) → w.word ≡ word → 0 < length word
-        → with_byte c (w ∷ ws) ≡ with_lead (c ∷ []) (w ∷ ws)
-    cut [] is some = absurd (omega (arith, some))
-    cut (x ∷ xs) is some = simp (white, is)
+white-alone c (w ∷ ws) white begins = grind (arith, cases_Bool)
 
 -- white before words
 white-before : (lead text : List ℕ) (ws : List SpacedText) → All IsWhite lead → BeginsPlain ws
@@ -138,28 +121,30 @@ white-before [] text ws white begins is = is
 white-before (c ∷ []) text ws white begins is =
     ap (with_byte c) is ∙ white-alone c ws (All-head IsWhite c [] white) begins
 white-before (c ∷ d ∷ lead) text ws white begins is =
-    let here : IsWhite c = All-head IsWhite c (d ∷ lead) white in
-    ap (with_byte c)
-    (white-before (d ∷ lead) text ws (All-tail IsWhite c (d ∷ lead) white) begins is)
-    ∙ simp here
+    grind (
+      arith,
+      cases_Bool,
+      All-head,
+      All-tail,
+      white-before (d ∷ lead) text ws (All-tail IsWhite c (d ∷ lead) white) begins is,
+    )
 
 -- a word before white, or at the end
 word-before : (word lead text : List ℕ) (ws : List SpacedText) → IsPlain word
     → (length lead ≡ 0 → ws ≡ []) → spaced_words text ≡ with_lead lead ws
     → spaced_words (word ++ text) ≡ record { word = word; white = lead } ∷ ws
 word-before [] lead text ws plain ends is = absurd (omega (arith, plain.some))
-word-before (c ∷ []) [] text ws plain ends is =
-    let here : IsInk c = All-head IsInk c [] plain.ink in
-    let alone : with_byte c [] ≡ record { word = c ∷ []; white = [] } ∷ [] = simp here in
-    ap (with_byte c) (is ∙ ends refl) ∙ alone
-    ∙ ap (λ l. record { word = c ∷ []; white = [] } ∷ l) (sym (ends refl))
+word-before (c ∷ []) [] text ws plain ends is = grind (arith, cases_Bool, All-head)
 word-before (c ∷ []) (x ∷ lead) text ws plain ends is =
     let here : IsInk c = All-head IsInk c [] plain.ink in ap (with_byte c) is ∙ simp here
 word-before (c ∷ d ∷ word) lead text ws plain ends is =
-    let here : IsInk c = All-head IsInk c (d ∷ word) plain.ink in
-    ap (with_byte c) (word-before (d ∷ word) lead text ws
-    (record { some = omega arith; ink = All-tail IsInk c (d ∷ word) plain.ink }) ends is)
-    ∙ simp here
+    grind (
+      arith,
+      cases_Bool,
+      All-head,
+      All-tail,
+      word-before (d ∷ word) lead text ws (record { some = omega arith; ink = All-tail IsInk c (d ∷ word) plain.ink }) ends is,
+    )
 
 pub spaced-back : (ws : List SpacedText) → AreSpaced ws → spaced_words (spaced_text ws) ≡ ws
 spaced-back [] are = refl
@@ -251,9 +236,7 @@ spaced-in (w ∷ []) are = cut w.white are.white
     cut [] all =
         ap words_between_white (append-nil (w.word ++ []) ∙ append-nil w.word) ∙ word-alone w.word are.word
     cut (c ∷ white) all = word-in w.word (c ∷ white) [] are.word all (omega arith)
-spaced-in (w ∷ v ∷ ws) (here, some, later) =
-    word-in w.word w.white (spaced_text (v ∷ ws)) here.word here.white some
-    ∙ ap (λ l. w.word ∷ l) (spaced-in (v ∷ ws) later)
+spaced-in (w ∷ v ∷ ws) (here, some, later) = grind (arith, cases_Bool, word-in, spaced-in (v ∷ ws) later)
 
 pub text-words : (text lead : List ℕ) (ws : List SpacedText) → IsLineText text lead ws
     → words_between_white text ≡ words_in ws
@@ -274,14 +257,9 @@ behind_lead (w ∷ ws) = cond (has_bytes w.word) (w ∷ ws) ws
 lead-parts : (lead : List ℕ) (ws : List SpacedText) → AreSpaced ws
     → (lead_of (with_lead lead ws) ≡ lead) × (behind_lead (with_lead lead ws) ≡ ws)
 lead-parts [] [] are = (refl, refl)
-lead-parts [] (w ∷ ws) are =
-    let some = lt-ltb 0 (length w.word) (begins-plain (w ∷ ws) are) in
-    (ap (λ b. cond b [] w.white) some, ap (λ b. cond b (w ∷ ws) ws) some)
+lead-parts [] (w ∷ ws) are = grind (arith, cases_Bool, lt-ltb, begins-plain)
 lead-parts (c ∷ lead) ws are = (refl, refl)
 
 pub lead-one : (lead other : List ℕ) (ws vs : List SpacedText) → AreSpaced ws → AreSpaced vs
     → with_lead lead ws ≡ with_lead other vs → (lead ≡ other) × (ws ≡ vs)
-lead-one lead other ws vs are be is =
-    let (front, words) = lead-parts lead ws are in
-    let (begin, behind) = lead-parts other vs be in
-    (sym front ∙ ap lead_of is ∙ begin, sym words ∙ ap behind_lead is ∙ behind)
+lead-one lead other ws vs are be is = grind (arith, cases_Bool, lead-parts)

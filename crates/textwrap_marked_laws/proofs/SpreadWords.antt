@@ -3,13 +3,13 @@ use Rattle.textwrap_marks.proofs.Letterless.{quote-plain, box-plain}
 use Rattle.textwrap_marks.{specs.Marks.is_among, specs.Signs.{first_white, may_go_on, is_gap}}
 use Rattle.textwrap_text.proofs.Common.{not-true}
 use Rattle.textwrap_marked_laws.proofs as own
-use own.Common.{All-cons, All-head, All-tail, bytes_eq, is_quote, list_any, none-any, All-nil, length, arith}
+use own.Common.{All-head, All-tail, is_quote, list_any, none-any, All-nil, length, arith, blank, false, Bool}
+use own.Common.{List, drop, refl, take, true, ◌&&◌, ◌++◌, ◌==◌, ◌||◌, All, suc, sym, ◌-◌, ◌<◌, ◌∙◌, ◌∷◌, ◌≡◌}
 use own.Common.{ReflowOptions, is_comment_at, append_assoc, begins_text, has_columns, spaced_text, SpacedText}
-use own.Common.{append-nil, cases_Bool, first_word, last_white, quotes_len, true≢false, is_bullet, last_word}
-use own.Common.{blank, codes, false, Bool, List, cond, drop, refl, take, true, ◌&&◌, ◌++◌, ◌==◌, ◌||◌, All, ℕ}
+use own.Common.{[], ap}
+use own.Common.{append-nil, cases_Bool, first_word, last_white, true≢false, is_bullet, last_word, All-cons, ℕ}
 use own.Common.{false_from_ne_true, words_before_last, opens_paragraph, is_column_word, All-replicate, blanks}
-use own.{Common.{not, suc, sym, ◌-◌, ◌<◌, ◌∙◌, ◌∷◌, ◌≡◌, [], ap}, OpenBehind.{text-letter, text-other}}
-use own.{HangingForms.HasNoMark, LaterLines.bullets-none, LineKinds.one_if}
+use own.{HangingForms.HasNoMark, LaterLines.bullets-none, OpenBehind.{text-letter, text-other}}
 use own.{LineWords.{spread, shown, gap}, SpacedBack.{spaced-cons, AreSpaced, words_in, IsPlain, IsWhite}}
 
 -- a gap is white
@@ -45,21 +45,22 @@ module _ (justify : Bool) (gaps : ℕ → ℕ) where
   spread-spaced (word ∷ []) end plain white =
       record { word = All-head IsPlain word [] plain; white = white }
   spread-spaced (word ∷ next ∷ words) end plain white =
-      spaced-cons (with_gap word words) (spread justify gaps (next ∷ words) end) (record {
-        word = All-head IsPlain word (next ∷ words) plain;
-        white = gap-white justify gaps (length words);
-      }) (λ more. omega arith)
-      (spread-spaced (next ∷ words) end (All-tail IsPlain word (next ∷ words) plain) white)
+      grind (
+        arith,
+        cases_Bool,
+        spaced-cons,
+        All-head,
+        gap-white,
+        All-tail,
+        spread-spaced (next ∷ words) end (All-tail IsPlain word (next ∷ words) plain) white,
+      )
 
   -- the white at the end stands behind the text
   pub spread-end : (word : List ℕ) (words : List (List ℕ)) (end : List ℕ)
       → spaced_text (spread justify gaps (word ∷ words) end) ≡ shown justify gaps (word ∷ words) ++ end
   spread-end word [] end =
       append-nil (word ++ end) ∙ ap (λ l. l ++ end) (sym (append-nil (word ++ []) ∙ append-nil word))
-  spread-end word (next ∷ words) end =
-      let first = word ++ gap justify gaps (length words) in
-      ap (λ l. first ++ l) (spread-end next words end)
-      ∙ sym (append_assoc first (shown justify gaps (next ∷ words)) end)
+  spread-end word (next ∷ words) end = grind (arith, cases_Bool, append_assoc, spread-end next words end)
 
   -- what is asked of each word
   pub spread-any : (test : List ℕ → Bool) (words : List (List ℕ)) (end : List ℕ)
@@ -119,11 +120,7 @@ gaps-none : (justify : Bool) (gaps : ℕ → ℕ) (words : List (List ℕ)) (end
 gaps-none justify gaps [] end = refl
 gaps-none justify gaps (word ∷ []) end = refl
 gaps-none justify gaps (word ∷ next ∷ words) end =
-    let rest = spread justify gaps (next ∷ words) end in
-    ap (list_any (is_gap justify)) (front-more (with_gap justify gaps word words) rest
-    (omega (arith, spread-len justify gaps (next ∷ words) end)))
-    ∙ ap (λ b. b || list_any (is_gap justify) (words_before_last rest)) (gap-none justify gaps (length words) word)
-    ∙ gaps-none justify gaps (next ∷ words) end
+    grind (arith, cases_Bool, front-more, spread-len, gap-none, gaps-none justify gaps (next ∷ words) end)
 
 pub spread-columns : (justify : Bool) (gaps : ℕ → ℕ) (words : List (List ℕ)) (end : List ℕ)
     → All (λ w. is_column_word w ≡ false) words → has_columns justify (spread justify gaps words end) ≡ false
@@ -146,14 +143,7 @@ pub record MayGoOn (options : ReflowOptions) (starred : Bool) (word : List ℕ) 
 
 pub goes-on : (options : ReflowOptions) (starred : Bool) (word : List ℕ)
     → may_go_on options starred word ≡ true → MayGoOn options starred word
-goes-on options starred word is =
-    let parts = three-parts (begins_text starred word) (not (opens_paragraph word))
-    (not (is_bullet word)) (not (is_among word options.markers.now)) is in record {
-      begins = parts.0;
-      opens = not-true (opens_paragraph word) parts.1;
-      bullet = not-true (is_bullet word) parts.2;
-      marker = not-true (is_among word options.markers.now) parts.3;
-    }
+goes-on options starred word is = grind (arith, cases_Bool, three-parts, not-true)
 
 pub text-no-quote : (starred : Bool) (word : List ℕ) → begins_text starred word ≡ true → is_quote word ≡ false
 text-no-quote starred word begins =
@@ -164,15 +154,6 @@ text-no-quote starred word begins =
 pub no-mark : (options : ReflowOptions) (in_block starred : Bool) (word : List ℕ) (ws : List SpacedText)
     → first_word ws ≡ word → begins_text starred word ≡ true → is_bullet word ≡ false
     → is_comment_at options in_block word ≡ false → HasNoMark options in_block ws
-no-mark options in_block starred word [] is begins bullet comment = record {
-  comment = refl;
-  quote = refl;
-  bullet = refl;
-}
-no-mark options in_block starred word (w ∷ ws) is begins bullet comment = record {
-  comment = ap (λ v. one_if (is_comment_at options in_block v)) is ∙ ap one_if comment;
-  quote = ap (λ v. cond (is_quote v) (suc (quotes_len ws)) 0) is
-      ∙ ap (λ b. cond b (suc (quotes_len ws)) 0) (text-no-quote starred word begins);
-  bullet = bullets-none w ws (ap is_bullet is ∙ bullet)
-      (ap (λ v. bytes_eq v (codes "[")) is ∙ text-other starred word (codes "[") begins box-plain);
-}
+no-mark options in_block starred word [] is begins bullet comment = grind (arith, cases_Bool)
+no-mark options in_block starred word (w ∷ ws) is begins bullet comment =
+    grind (arith, cases_Bool, text-no-quote, bullets-none, text-other, box-plain)

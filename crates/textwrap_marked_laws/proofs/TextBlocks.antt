@@ -2,13 +2,13 @@
 use Rattle.textwrap_marked_lines.specs.Lines.{is_title}
 use Rattle.textwrap_marks.{proofs.ListLemmas.or-right, specs.Signs.ends_early}
 use Rattle.textwrap_marked_laws.proofs as own
-use own.Common.{contains, is_ended, or-false, All-map, All-nil, entered, goes_on, or-left, length, nat_lt, []}
-use own.Common.{passed, codes, false, subst, Bool, List, drop, refl, true, ◌&&◌, ◌++◌, ◌||◌, All, ap₂, not, ℕ}
-use own.Common.{read_lines, StateText, last_word, All-head, All-tail, LineText, any-none, as_title, bytes_eq}
-use own.Common.{with_titles, All-append, SpacedText, append-nil, cases_Bool, first_word, length-map, All-cons}
-use own.Common.{words_before_last, bytes_eq-Decides, opens_paragraph, without_returns, is_column_word, get_or}
-use own.Common.{words_of_lines, ReflowOptions, length-append, closes_block, closes_early, line_as_read, arith}
-use own.{Common.{sym, ◌<◌, ◌∙◌, ◌∷◌, ◌≡◌, ap, ⊤}, OpenBehind.{behind_text, no-columns}}
+use own.Common.{All-append, SpacedText, append-nil, cases_Bool, first_word, length-map, read_lines, All-head}
+use own.Common.{All-tail, LineText, any-none, as_title, contains, is_ended, or-false, All-map, All-nil, arith}
+use own.Common.{ReflowOptions, length-append, closes_block, closes_early, line_as_read, with_titles, All-cons}
+use own.Common.{bytes_eq-Decides, opens_paragraph, without_returns, is_column_word, words_of_lines, StateText}
+use own.Common.{entered, goes_on, or-left, get_or, length, nat_lt, passed, codes, false, subst, Bool, List, ℕ}
+use own.Common.{refl, true, ◌&&◌, ◌++◌, ◌||◌, All, not, sym, ◌<◌, ◌∙◌, ◌∷◌, ◌≡◌, [], ap, ⊤}
+use own.OpenBehind.{behind_text, no-columns}
 use own.{HangingForms.IsHanging, LaterLines.{read_block, line-read, read-line, IsOfText, read_as, IsRead}}
 use own.{LinesAlone.{AreTextLines, more-lines, no-lines}, SpacedBack.{spaced-plain, words_in, IsPlain}}
 use own.{ParagraphLines.{first-hangs, first-text, later-line}, SpreadWords.{front-more, last-more, last_text}}
@@ -56,11 +56,7 @@ module _ (options : ReflowOptions) where
       → let line = line_at state raw raws in
       let later = read (passed (entered state (without_returns raw)) line) raws in
       read state (raw ∷ raws) ≡ as_title (title_of line later) line ∷ later
-  read-more state raw raws =
-      let line = line_at state raw raws in
-      let later = read_lines options (passed (entered state (without_returns raw)) line) raws in
-      titles-more line later
-      ∙ ap (λ b. as_title b line ∷ with_titles later) (sym (title-same line later))
+  read-more state raw raws = grind (arith, cases_Bool, titles-more, title-same)
 
   -- what holds of each line that is read, a title or not, holds of all of them
   pub read-all : (P : LineText → Type 0) (Q : List ℕ → Type 0) → ((state : StateText) (raw : List ℕ)
@@ -87,29 +83,12 @@ module _ (options : ReflowOptions) where
   pub peel : (state : StateText) (raws : List (List ℕ)) (line : LineText) (lines : List LineText)
       → line ∷ lines ≡ read state raws → IsPeeled state line lines raws
   peel state [] line lines is = absurd (omega (arith, ap length is))
-  peel state (raw ∷ raws) line lines is =
-      let here = line_at state raw raws in
-      let behind = read (passed (entered state (without_returns raw)) here) raws in
-      let whole : line ∷ lines ≡ as_title (title_of here behind) here ∷ behind =
-      is ∙ read-more state raw raws in
-      let later : lines ≡ behind = ap (drop 1) whole in record {
-        raw = raw;
-        left = raws;
-        whole = refl;
-        here = ap (λ l. get_or l 0 line) whole ∙ ap (λ l. as_title (title_of here l) here) (sym later);
-        later = later;
-      }
+  peel state (raw ∷ raws) line lines is = grind (arith, cases_Bool, read-more)
 
 -- a line that does not stand apart is no title
 pub untitled : (is : Bool) (line titled : LineText) → titled ≡ as_title is line
     → titled.apart ≡ false → (titled ≡ line) × (line.apart ≡ false) × (is ≡ false)
-untitled is line titled same apart =
-    let both : (line.apart || is) ≡ false = sym (ap (λ (l : LineText). l.apart) same) ∙ apart in
-    let title = or-right line.apart is both in (
-      same ∙ ap (λ b. as_title b line) title ∙ as-title-none line,
-      or-left line.apart is both,
-      title,
-    )
+untitled is line titled same apart = grind (arith, cases_Bool, or-right, as-title-none, or-left)
 
 -- ---- words that may close a block comment
 
@@ -131,12 +110,13 @@ pub closing-before : (in_block : Bool) (words later : List (List ℕ)) → All (
 closing-before false words later all are = refl
 closing-before true [] later all are = are
 closing-before true (word ∷ words) later all are =
-    more (words ++ later) (All-head (NoClose true) word words all)
-    (closing-before true words later (All-tail (NoClose true) word words all) are)
-  where
-    more : (l : List (List ℕ)) → NoClose true word → AreClosing true l → AreClosing true (word ∷ l)
-    more [] none are = ap (λ t. t && ends_early word) none
-    more (v ∷ l) none are = ap (λ t. t || closes_badly (v ∷ l)) none ∙ are
+    grind (
+      arith,
+      cases_Bool,
+      All-head,
+      All-tail,
+      closing-before true words later (All-tail (NoClose true) word words all) are,
+    )
 
 masked-all : (in_block : Bool) (words : List SpacedText) → (in_block && closes_block words) ≡ false
     → All (NoClose in_block) (words_in words)
@@ -148,19 +128,8 @@ masked-all true words is =
 closing-is : (words : List SpacedText)
     → (closes_block words && closes_early words) ≡ closes_badly (words_in words)
 closing-is [] = refl
-closing-is (w ∷ []) =
-    elim (contains (codes "*/") w.word)
-    as (λ c. ((c || false) && (false || ends_early w.word)) ≡ (c && ends_early w.word))
-    [ true ↦ refl | false ↦ refl ]
-closing-is (w ∷ v ∷ ws) =
-    let all = closes_block (v ∷ ws) in
-    let front = closes_block (words_before_last (v ∷ ws)) in
-    let early = ends_early (last_word (v ∷ ws)) in
-    ap₂ (λ l k. (contains (codes "*/") w.word || all) && (closes_block l || ends_early (first_word k)))
-    (front-more w (v ∷ ws) (omega arith)) (last-more w (v ∷ ws) (omega arith))
-    ∙ elim (contains (codes "*/") w.word)
-    as (λ c. ((c || all) && ((c || front) || early)) ≡ (c || (all && (front || early)))) [ true ↦ refl | false ↦ refl ]
-    ∙ ap (λ b. contains (codes "*/") w.word || b) (closing-is (v ∷ ws))
+closing-is (w ∷ []) = grind (arith, cases_Bool)
+closing-is (w ∷ v ∷ ws) = grind (arith, cases_Bool, front-more, last-more, closing-is (v ∷ ws))
 
 pub closing-same : (in_block : Bool) (words : List SpacedText)
     → (in_block && closes_block words && closes_early words)
@@ -196,10 +165,7 @@ going a b c d e is = grind (arith, cases_Bool)
 pub goes-facts : (line next : LineText) → goes_on line next ≡ true
     → (next.apart ≡ false) × (line.ended ≡ false) × (next.prefix ≡ line.hanging)
     × (opens_paragraph (first_word next.words) ≡ false)
-goes-facts line next is =
-    let facts = going line.apart next.apart line.ended (bytes_eq next.prefix line.hanging)
-    (opens_paragraph (first_word next.words)) is in
-    (facts.0, facts.1, (bytes_eq-Decides next.prefix line.hanging).0 facts.2, facts.3)
+goes-facts line next is = grind (arith, cases_Bool, bytes_eq-Decides)
 
 -- what does not close a block comment leaves it as it is
 pub open_still : (a c : Bool) → (a && c) ≡ false → (a && not c) ≡ a

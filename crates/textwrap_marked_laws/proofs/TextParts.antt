@@ -3,20 +3,17 @@ use Rattle.std.proofs.lemmas.List.Splits.{join_with_byte-slice_split}
 use Rattle.textwrap_marked_laws.specs.Laws.{source}
 use Rattle.textwrap_marked_laws.proofs as own
 use own.Common.{AreSameParts, append_assoc, line_as_read, slice_split, with_titles, LineEnding, append-nil, ℕ}
-use own.Common.{LineText, bytes_eq, flat_map, entered, goes_on, Option, blocks, length, lt-ltb, nat_lt, arith}
+use own.Common.{IsSameBy, LineText, bytes_eq, flat_map, entered, goes_on, Option, blocks, length, lt-ltb, sym}
+use own.Common.{cases_Bool, read_lines, text_parts, StateText, ending_if, is_beside, kept_line, with_line, []}
 use own.Common.{flat_map-append, parts_of_blocks, without_returns, join_with_byte, ReflowOptions, first_state}
-use own.Common.{passed, codes, false, stays, List, None, Part, cond, flat, refl, true, ◌&&◌, ◌++◌, ◌==◌, ◌||◌}
-use own.Common.{read_lines, text_parts, StateText, ending_if, is_beside, kept_line, with_line, IsSameBy, Bool}
+use own.Common.{nat_lt, passed, arith, codes, false, stays, Bool, List, None, Part, cond, flat, refl, ◌&&◌, ⊤}
 use own.ParagraphLines.{IsHeadAlike}
-use own.{Common.{not, sym, ◌∙◌, ◌∷◌, ◌≡◌, [], ap, ⊤}, TextBlocks.{AreOneBlock, last_line, title_of}}
+use own.{Common.{◌++◌, ◌==◌, ◌||◌, ◌∙◌, ◌∷◌, ◌≡◌, ap}, TextBlocks.{AreOneBlock, last_line, title_of}}
 
 pub join-more : (raw : List ℕ) (raws : List (List ℕ)) → join_with_byte 10 (raw ∷ raws)
     ≡ (raw ++ ending_if (nat_lt 0 (length raws)) (codes "\n")) ++ join_with_byte 10 raws
 join-more raw [] = sym (append-nil (raw ++ []) ∙ append-nil raw)
-join-more raw (next ∷ raws) =
-    sym (append_assoc raw (10 ∷ []) (join_with_byte 10 (next ∷ raws)))
-    ∙ ap (λ b. (raw ++ ending_if b (codes "\n")) ++ join_with_byte 10 (next ∷ raws))
-    (sym (lt-ltb 0 (length (next ∷ raws)) (omega arith)))
+join-more raw (next ∷ raws) = grind (arith, cases_Bool, append_assoc, lt-ltb)
 
 abbrev lines-text : List LineText → List ℕ
 lines-text lines = flat_map (kept_line None) lines
@@ -38,12 +35,7 @@ titles-text (line ∷ next ∷ lines) = ap (λ l. kept_line None line ++ l) (tit
 with_line-flat : (line : LineText) (bs : List (List LineText)) → flat (with_line line bs) ≡ line ∷ flat bs
 with_line-flat line [] = refl
 with_line-flat line ([] ∷ bs) = refl
-with_line-flat line ((next ∷ lines) ∷ bs) =
-    elim (goes_on line next) as (λ b. flat (cond b ((line ∷ next ∷ lines) ∷ bs)
-    ((line ∷ []) ∷ (next ∷ lines) ∷ bs)) ≡ line ∷ next ∷ (lines ++ flat bs)) [
-      | true ↦ refl
-      | false ↦ refl
-    ]
+with_line-flat line ((next ∷ lines) ∷ bs) = grind (arith, cases_Bool)
 
 -- the lines of all blocks are the lines
 pub blocks-flat : (lines : List LineText) → flat (blocks lines) ≡ lines
@@ -84,12 +76,7 @@ AreBlocks ((line ∷ lines) ∷ bs) =
 with-line : (line : LineText) (bs : List (List LineText)) → AreBlocks bs → AreBlocks (with_line line bs)
 with-line line [] are = (tt, tt, tt)
 with-line line ([] ∷ bs) are = absurd are
-with-line line ((next ∷ lines) ∷ bs) (one, stops, are) = joins (goes_on line next) refl
-  where
-    joins : (b : Bool) → goes_on line next ≡ b
-        → AreBlocks (cond b ((line ∷ next ∷ lines) ∷ bs) ((line ∷ []) ∷ (next ∷ lines) ∷ bs))
-    joins true goes = ((goes, one), stops, are)
-    joins false ends = (tt, ends, (one, stops, are))
+with-line line ((next ∷ lines) ∷ bs) (one, stops, are) = grind (arith, cases_Bool)
 
 pub blocks-are : (lines : List LineText) → AreBlocks (blocks lines)
 blocks-are [] = tt
@@ -100,9 +87,7 @@ block-back : (lines : List LineText) (line : LineText) (bs : List (List LineText
     → blocks (flat bs) ≡ bs → blocks (line ∷ (lines ++ flat bs)) ≡ (line ∷ lines) ∷ bs
 block-back [] line [] one stops are is = ap (with_line line) is
 block-back [] line ([] ∷ bs) one stops are is = absurd are
-block-back [] line ((next ∷ lines) ∷ bs) one stops are is =
-    ap (with_line line) is
-    ∙ ap (λ b. cond b ((line ∷ next ∷ lines) ∷ bs) ((line ∷ []) ∷ (next ∷ lines) ∷ bs)) stops
+block-back [] line ((next ∷ lines) ∷ bs) one stops are is = grind (arith, cases_Bool)
 block-back (next ∷ lines) line bs (goes, one) stops are is =
     ap (with_line line) (block-back lines next bs one stops are is)
     ∙ ap (λ b. cond b ((line ∷ next ∷ lines) ∷ bs) ((line ∷ []) ∷ (next ∷ lines) ∷ bs)) goes
@@ -118,15 +103,7 @@ blocks-back ((line ∷ lines) ∷ bs) (one, stops, are) =
 
 -- all that the lines before it ask of a line is the same, whatever its bytes are
 pub head-same : (line : LineText) (raw : List ℕ) → IsHeadAlike line (record line { raw = raw })
-head-same line raw = record {
-  prefix = refl;
-  hangs = refl;
-  field = refl;
-  chosen = refl;
-  apart = refl;
-  rule = refl;
-  opens = refl;
-}
+head-same line raw = grind (arith, cases_Bool)
 
 abbrev pub AreHeads : List LineText → List LineText → Type 0
 AreHeads [] [] = ⊤
@@ -186,9 +163,4 @@ pub part-cons : (e : Option LineEnding) (beside : Bool) (first other : LineText)
     (part_of (stays (beside || is_beside first bs) first) other others)
     → AreSameParts e (parts_of_blocks beside ((first ∷ lines) ∷ bs)) (parts_of_blocks beside ((other ∷ others) ∷ cs))
 part-cons e beside first other lines others bs cs same are be heads later here =
-    let next = beside-same first other bs cs are be heads same in
-    let kept : stays (beside || is_beside other cs) other ≡ stays (beside || is_beside first bs) first =
-    λ i. same.apart i || not (same.chosen i) || (beside || next i) in (
-      rw kept here,
-      rw next later,
-    )
+    grind (arith, cases_Bool, beside-same)

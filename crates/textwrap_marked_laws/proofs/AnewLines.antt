@@ -1,7 +1,7 @@
 -- Lines that stay, with the ending that is asked for, and carriage returns at the end of any line.
 use Rattle.std.proofs.lemmas.List.Elements.{All-get_or}
 use Rattle.std.proofs.lemmas.List.Sums.{suffix_len-take_no, prefix_len_stops}
-use Rattle.textwrap_text.proofs.Common.{reverse-append, take_more, All-take}
+use Rattle.textwrap_text.proofs.Common.{reverse-append, take_more, All-take, rules}
 use Rattle.textwrap_text.proofs.Lists.Parts.{ends_with-front, ends_with-true}
 use Rattle.textwrap_words.proofs.Common.{get_or-reverse, length-reverse}
 use Rattle.textwrap_marked_laws.proofs as own
@@ -40,7 +40,7 @@ word-end word plain none = all-end word plain.some (any-none is_return word (no-
 pub shown-end : (justify : Bool) (gaps : ℕ → ℕ) (word : List ℕ) (words : List (List ℕ))
     → All IsPlain (word ∷ words) → All (λ w. is_column_word w ≡ false) (word ∷ words)
     → EndsWell (shown justify gaps (word ∷ words))
-shown-end justify gaps word [] plain none = grind (arith, cases_Bool, word-end, All-head, append-nil)
+shown-end justify gaps word [] plain none = search (rules, arith, word-end, All-head, append-nil)
 shown-end justify gaps word (next ∷ words) plain none =
     ends-behind (word ++ gap justify gaps (length words)) (shown justify gaps (next ∷ words))
     (shown-end justify gaps next words (All-tail IsPlain word (next ∷ words) plain)
@@ -135,7 +135,7 @@ anew-content (Some e) returns fed raw = content-same raw (returns && fed)
 pub anew-line : (options : ReflowOptions) (state : StateText) (e : Option LineEnding) (returns : Bool)
     (raw : List ℕ) (fed : Bool)
     → line_as_read options state (anew_raw e returns fed raw) fed ≡ anew e returns (line_as_read options state raw fed)
-anew-line options state e returns raw fed = grind (arith, cases_Bool, anew-content)
+anew-line options state e returns raw fed = search (rules, arith, anew-content)
 
 -- nor does it change what is open behind it
 fence-anew : (fence : Option FenceText) (e : Option LineEnding) (returns : Bool) (line : LineText)

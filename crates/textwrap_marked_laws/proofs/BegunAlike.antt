@@ -67,7 +67,8 @@ abbrev begins_marked : List ℕ → Bool
 begins_marked text = starts_with nat_eq text byte_order_mark
 
 pub marks-same : (returns : Bool) (raws news : List (List ℕ)) → 0 < length raws → 0 < length news
-    → AreBegun returns raws news → begins_marked (join_with_byte 10 news) ≡ begins_marked (join_with_byte 10 raws)
+    → AreBegun returns raws news → begins_marked (join_with_byte 10 news) ≡ begins_marked
+    (join_with_byte 10 raws)
 marks-same returns [] news some more begun = absurd (omega (arith, some))
 marks-same returns (raw ∷ raws) [] some more begun = absurd (omega (arith, more))
 marks-same returns (raw ∷ raws) (new ∷ news) some more begun =
@@ -76,14 +77,17 @@ marks-same returns (raw ∷ raws) (new ∷ news) some more begun =
     ap begins_marked shown ∙ starts others behind low small begun ∙ ap begins_marked (sym is)
   where
     starts : (others more : List ℕ) → SmallFirst others → SmallFirst more
-        → AreBegun returns (raw ∷ raws) (new ∷ news) → begins_marked (new ++ others) ≡ begins_marked (raw ++ more)
+        → AreBegun returns (raw ∷ raws) (new ∷ news)
+        → begins_marked (new ++ others) ≡ begins_marked (raw ++ more)
     starts others more low small (inl (same, fed)) =
         ap (λ t. begins_marked (t ++ others)) (sym same) ∙ same-start raw others more low small
     starts others more low small (inr place) =
         ap begins_marked (ap (λ t. t ++ others) place.is ∙ append_assoc place.common place.new_end others)
         ∙ same-start place.common (place.new_end ++ others) (place.old_end ++ more)
-        (word-small place.new_end others place.new_ends low) (word-small place.old_end more place.old_ends small)
-        ∙ ap begins_marked (sym (ap (λ t. t ++ more) place.old ∙ append_assoc place.common place.old_end more))
+        (word-small place.new_end others place.new_ends low)
+        (word-small place.old_end more place.old_ends small)
+        ∙ ap begins_marked (sym (ap (λ t. t ++ more) place.old
+        ∙ append_assoc place.common place.old_end more))
 
 -- ---- the first line says it, if lines follow
 
@@ -92,10 +96,12 @@ ending-by LF = refl
 ending-by CRLF = refl
 
 first-ends : (raws news : List (List ℕ)) → 0 < length raws
-    → AreBegun (returns_by (first_ending raws)) raws news → 1 < length news → first_ending news ≡ first_ending raws
+    → AreBegun (returns_by (first_ending raws)) raws news → 1 < length news
+    → first_ending news ≡ first_ending raws
 first-ends [] news more begun some = absurd (omega (arith, more))
 first-ends (raw ∷ raws) [] more begun some = absurd (omega (arith, some))
-first-ends (raw ∷ raws) (new ∷ news) more (inl (same, fed)) some = λ i. ending_of_line (sym same i) (sym fed i)
+first-ends (raw ∷ raws) (new ∷ news) more (inl (same, fed)) some =
+    λ i. ending_of_line (sym same i) (sym fed i)
 first-ends (raw ∷ raws) (new ∷ news) more (inr place) some = grind (arith, cases_Bool, lt-ltb, ending-by)
 
 pub ends-alike : (e : Option LineEnding) (text reflowed : List ℕ)
@@ -122,7 +128,8 @@ module _ (options : ReflowOptions) (ending other front_end : List ℕ) (feed : e
       let rest = flat_map (λ (l : List ℕ). (ending ++ later) ++ l) texts in
       let lines = all-left NoFeed (printed ending first later (text ∷ next ∷ texts)) end all in
       let behind = all-right NoFeed (first ++ text) (((ending ++ later) ++ next) ++ rest) lines in
-      let between = all-left NoFeed (ending ++ later) next (all-left NoFeed ((ending ++ later) ++ next) rest behind) in
+      let between = all-left NoFeed (ending ++ later) next
+      (all-left NoFeed ((ending ++ later) ++ next) rest behind) in
       let own = subst (All NoFeed) feed (all-left NoFeed ending later between) in
       absurd (true≢false (All-head NoFeed 10 [] (all-right NoFeed front_end (10 ∷ []) own)))
 
@@ -133,7 +140,8 @@ module _ (options : ReflowOptions) (ending other front_end : List ℕ) (feed : e
     division,
     divided,
     is ∙ ap₂ (λ lines end. lines ++ end) (printed-one line.prefix line.hanging
-        (shown_lines options line division) (filled_end ending (line ∷ [])) (subst (All NoFeed) is all)) end-same,
+        (shown_lines options line division) (filled_end ending (line ∷ [])) (subst (All NoFeed) is all))
+        end-same,
   )
 
   pub one-line : (text : List ℕ) → All NoFeed text → AreOfBlocks options ending false ((line ∷ []) ∷ []) text

@@ -289,8 +289,13 @@ module _ (options : ReflowOptions) (state : StateText) (raw : List ℕ)
 
   begun-spaced : AreSpaced begun
   begun-spaced =
-      let (full, spaced) = before-full marks r.ws some (read-spaced options (entered state (without_returns raw)) raw r) in
-      full-before marks (first ∷ []) full (record { word = plain-first r.ws some spaced; white = All-nil IsWhite })
+      let (full, spaced) = before-full marks r.ws some
+      (read-spaced options (entered state (without_returns raw)) raw r) in
+      full-before marks (first ∷ []) full (record {
+        word = plain-first r.ws some spaced;
+        white =
+            All-nil IsWhite;
+      })
 
   begun-text : spaced_text begun ≡ spaced_text marks ++ first.word
   begun-text = grind (arith, cases_Bool, text-parts, append-nil)
@@ -299,7 +304,8 @@ module _ (options : ReflowOptions) (state : StateText) (raw : List ℕ)
       → behind_white (r.lead ++ (spaced_text begun ++ more)) ≡ spaced_text begun ++ more
   behind-begun more = grind (arith, cases_Bool, behind-lead, behind-words, begun-spaced, length-append)
 
-  module _ (starred : Bool) (tail : List ℕ) (begins : begins_text starred first.word ≡ true) (ends : EndsText tail)
+  module _ (starred : Bool) (tail : List ℕ) (begins : begins_text starred first.word ≡ true)
+      (ends : EndsText tail)
     where
       same-left : (fence : FenceText) (rest : List ℕ) → AreSafeMarks options state.in_block fence.marks
           → is_left_by fence (r.lead ++ (spaced_text begun ++ rest)) ≡ true
@@ -314,7 +320,8 @@ module _ (options : ReflowOptions) (state : StateText) (raw : List ℕ)
           outside : starts_with nat_eq (spaced_text begun ++ rest) fence.marks ≡ false
           outside =
               sym (ap (λ l. starts_with nat_eq l fence.marks) (behind-begun rest))
-              ∙ not-true (starts_with nat_eq (behind_white (r.lead ++ (spaced_text begun ++ rest))) fence.marks)
+              ∙ not-true (starts_with nat_eq (behind_white (r.lead ++ (spaced_text begun ++ rest)))
+              fence.marks)
               left
 
           parted : Splits (spaced_text begun) tail fence.marks
@@ -335,14 +342,16 @@ module _ (options : ReflowOptions) (state : StateText) (raw : List ℕ)
               ∙ map-append (λ w. w.word) marks (first ∷ []))
               ∙ append_assoc (words_in marks) (first.word ∷ []) after in
               never options block first.word after starred begins hang.cs hang.qs marks hang.marks
-              (λ none out. would-be-mark options state.in_block r.ws r.cs r.qs r.bs some r.have.comment none (was out))
+              (λ none out. would-be-mark options state.in_block r.ws r.cs r.qs r.bs some r.have.comment none
+              (was out))
               words
 
       pub still-left : IsSafe options state → fence_at state.fence (without_returns raw) ≡ None
           → fence_at state.fence ((r.lead ++ spaced_text marks) ++ (first.word ++ tail)) ≡ None
       still-left safe left = cut state.fence safe left
         where
-          cut : (f : Option FenceText) → IsSafeFence options state.in_block f → fence_at f (without_returns raw) ≡ None
+          cut : (f : Option FenceText) → IsSafeFence options state.in_block f
+              → fence_at f (without_returns raw) ≡ None
               → fence_at f ((r.lead ++ spaced_text marks) ++ (first.word ++ tail)) ≡ None
           cut None safe left = refl
           cut (Some fence) safe left =
@@ -356,4 +365,5 @@ module _ (options : ReflowOptions) (state : StateText) (raw : List ℕ)
               read-split options (entered state (without_returns raw)) raw r
               ∙ ap (λ t. (r.lead ++ spaced_text marks) ++ t) is ∙ grouped rest in
               ap (λ b. cond b None (Some fence)) (ap (is_left_by fence) (grouped tail)
-              ∙ same-left fence rest safe (sym (ap (is_left_by fence) old) ∙ left-by fence (without_returns raw) left))
+              ∙ same-left fence rest safe (sym (ap (is_left_by fence) old)
+              ∙ left-by fence (without_returns raw) left))

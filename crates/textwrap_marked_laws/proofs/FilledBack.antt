@@ -87,14 +87,16 @@ module _ (options : ReflowOptions) (returns : Bool) (told : IsTold options.endin
         (
           marks_shown ++ own,
           words_of_lines behind,
-          shows-first (without_returns text) p.has.lead marks line.words p.has.text.white full of.spaced of.some is
+          shows-first (without_returns text) p.has.lead marks line.words p.has.text.white full of.spaced
+              of.some is
               options,
           later.shown,
           sym (append_assoc marks_shown own (words_of_lines behind)),
         ),
         λ plain. alone-skip options text done (not-alone (without_returns text) p.has.lead marks line.words
             p.has.text.white full of.spaced of.some is options plain
-            (line-marks options plain at.in_block p.has.cs p.has.qs p.has.bs p.has.ws p.has.have) of.starred of.begins
+            (line-marks options plain at.in_block p.has.cs p.has.qs p.has.bs p.has.ws p.has.have) of.starred
+            of.begins
             of.columns) ∙ later.alone plain,
       )
 
@@ -155,7 +157,8 @@ module _ (options : ReflowOptions) (returns : Bool) (told : IsTold options.endin
         let whole : here.prefix ++ (first_word p.has.ws ++ rest) ≡ here.prefix ++ spaced_text new_words =
         ap (λ w. here.prefix ++ (w ++ rest)) first-is ∙ ap (λ l. here.prefix ++ l) (sym is) in
         ap (λ f. record state { fence = f }) (ap (fence_at state.fence) (new-text ∙ sym whole)
-        ∙ still-left options state raw p.has of-here.some of-here.starred rest of-here.begins ends safe old ∙ sym old)
+        ∙ still-left options state raw p.has of-here.some of-here.starred rest of-here.begins ends safe old
+        ∙ sym old)
 
     -- it stands in the place of that of the text
     in-place : IsInPlace returns raw new_raw (later_lines ++ later.again)
@@ -172,7 +175,8 @@ module _ (options : ReflowOptions) (returns : Bool) (told : IsTold options.endin
           new_end = rest ++ return_if r;
           old = old ∙ ap (λ w. here.prefix ++ (w ++ old_rest)) first-is
               ∙ sym (append_assoc here.prefix word old_rest);
-          is = ap (λ t. t ++ return_if r) (ap (λ t. here.prefix ++ t) is ∙ sym (append_assoc here.prefix word rest))
+          is = ap (λ t. t ++ return_if r) (ap (λ t. here.prefix ++ t) is
+              ∙ sym (append_assoc here.prefix word rest))
               ∙ append_assoc (here.prefix ++ word) rest (return_if r);
           old_ends = old_ends;
           new_ends = ends-word rest r ends;
@@ -196,7 +200,8 @@ module _ (options : ReflowOptions) (returns : Bool) (told : IsTold options.endin
     filled-lines : (front : List ℕ) (raws : List (List ℕ)) → raws ≡ raw ∷ p.behind
         → AreBlocks ((here ∷ lines) ∷ bs) → stays (beside || is_beside here bs) here ≡ false
         → front ≡ printed (ending options returns told) here.prefix here.hanging
-        (all_shown options.justify wide ((word ∷ words) ∷ ls)) ++ filled_end (ending options returns told) (here ∷ lines)
+        (all_shown options.justify wide ((word ∷ words) ∷ ls)) ++ filled_end (ending options returns told)
+        (here ∷ lines)
         → IsSafe options state → All IsFeedlessLine (here ∷ lines)
         → IsReadBack options returns told state beside [] ((here ∷ lines) ∷ bs) raws (front ++ back)
     filled-lines front raws whole (one, stops, are) stay is safe free =
@@ -204,15 +209,20 @@ module _ (options : ReflowOptions) (returns : Bool) (told : IsTold options.endin
         let news = later_lines ++ later.again in
         let fed = nat_lt 0 (length later.again) in
         let ends = ending options returns told in
-        let shown = printed ends here.prefix here.hanging (all_shown options.justify wide ((word ∷ words) ∷ ls)) in
+        let shown = printed ends here.prefix here.hanging
+        (all_shown options.justify wide ((word ∷ words) ∷ ls)) in
         let title : (l : LineText) → l.hanging ≡ here.hanging → title_of l others ≡ false =
-        λ l same. title-heads final l (flat bs) others later.heads (same ∙ sym p.walked.of.hangs) ∙ p.walked.title in
+        λ l same. title-heads final l (flat bs) others later.heads (same ∙ sym p.walked.of.hangs)
+        ∙ p.walked.title in
         let (new_is, alike) = new-line in
         let n = new-behind options block_here here.starred wide here.hanging
-        (first-hangs options at raw p.fed p.has p.apart) (first-starred options at raw p.fed p.has p.apart) returns
+        (first-hangs options at raw p.fed p.has p.apart)
+        (first-starred options at raw p.fed p.has p.apart) returns
         more p.walked.at final p.walked.of p.walked.apart later.again others later.reads title ls word words
-        later_words at new here.prefix may cut all (sym (ap last_text parts) ∙ p.walked.final) begins new_is refl in
-        let old_lines = text-lines raw here p.walked.done lines of-here (read-split options at raw p.has) p.walked.texts in
+        later_words at new here.prefix may cut all
+        (sym (ap last_text parts) ∙ p.walked.final) begins new_is refl in
+        let old_lines = text-lines raw here p.walked.done lines of-here
+        (read-split options at raw p.has) p.walked.texts in
         let new_lines = text-lines new_raw new later_lines n.lines new_is.of
         (new-text ∙ ap (λ l. here.prefix ++ spaced_text l) (sym new_is.has)) n.texts in
         let fed_is : final.fed ≡ fed = p.walked.fed ∙ sym later.some in
@@ -241,15 +251,18 @@ module _ (options : ReflowOptions) (returns : Bool) (told : IsTold options.endin
           );
           same = λ e tells. part-cons e beside here new lines n.lines bs later.blocks alike.head are later.are
               later.heads (later.same e tells)
-              (subst (λ b. IsSameBy e b (part_of b here lines) (part_of b new n.lines)) (sym stay) (refl, same));
+              (subst (λ b. IsSameBy e b (part_of b here lines) (part_of b new n.lines)) (sym stay)
+              (refl, same));
           text_is = ap (λ f. f ++ back) (is ∙ ap (λ e. shown ++ e) (filled-last ends here lines))
               ∙ append_assoc shown (ends_as ends final) back
               ∙ ap₂ (λ f b. shown ++ ((end ++ ending_if f ends) ++ b)) fed_is later.text_is
-              ∙ text-joined options here.starred wide returns end here.hanging later.again ls here.prefix word words
+              ∙ text-joined options here.starred wide returns end here.hanging later.again ls here.prefix word
+              words
               later_words cut;
           feedless = All-append IsFeedless (new_raw ∷ later_lines) later.again
               (raws-feedless options here.starred wide returns end here.hanging later.again
-              (break-spaced final p.walked.of.spaced) (All-head IsFeedlessLine here lines free).hanging ls here.prefix
+              (break-spaced final p.walked.of.spaced)
+              (All-head IsFeedlessLine here lines free).hanging ls here.prefix
               (word ∷ words) later_words (All-head IsFeedlessLine here lines free).prefix cut
               (subst (All IsFeedless) parts (words-feedless (here ∷ lines) free)))
               later.feedless;
@@ -258,7 +271,8 @@ module _ (options : ReflowOptions) (returns : Bool) (told : IsTold options.endin
               ∙ sym (lt-ltb 0 (length (raw ∷ p.behind)) (omega arith))
               ∙ ap (λ l. nat_lt 0 (length l)) (sym whole);
           begun = subst (λ l. AreBegun returns l (new_raw ∷ news)) (sym whole) (inr in-place);
-          alike = subst (λ l. AreAlike options l (new_raw ∷ news)) (sym (whole ∙ ap (λ l. raw ∷ l) p.walked.whole))
+          alike = subst (λ l. AreAlike options l (new_raw ∷ news))
+              (sym (whole ∙ ap (λ l. raw ∷ l) p.walked.whole))
               (alike-append options (raw ∷ p.walked.done) (new_raw ∷ later_lines) p.walked.left later.again
               (record {
                 shown = marks_shown ++ words_of_lines (here ∷ lines);
@@ -286,12 +300,14 @@ module _ (options : ReflowOptions) (returns : Bool) (told : IsTold options.endin
       let behind = behind_text block_here here.hanging final.words in
       let free_left : All IsFeedless p.walked.left = all-right IsFeedless p.walked.done p.walked.left
       (subst (All IsFeedless) p.walked.whole (All-tail IsFeedless raw p.behind (subst (All IsFeedless) whole free))) in
-      by ls wide front back raws whole blocks stay cut (is ∙ ap (λ l. printed (ending options returns told) here.prefix
+      by ls wide front back raws whole blocks stay cut
+      (is ∙ ap (λ l. printed (ending options returns told) here.prefix
       here.hanging l ++ filled_end (ending options returns told) (here ∷ lines)) shown) safe lines_free
       (walks behind p.walked.left back p.walked.reads laid (safe-none options behind refl) free_left)
     where
       by : (ls : List (List (List ℕ))) (wide : ℕ → ℕ → ℕ) (front back : List ℕ) (raws : List (List ℕ))
-          → raws ≡ raw ∷ p.behind → AreBlocks ((here ∷ lines) ∷ bs) → stays (beside || is_beside here bs) here ≡ false
+          → raws ≡ raw ∷ p.behind → AreBlocks ((here ∷ lines) ∷ bs)
+          → stays (beside || is_beside here bs) here ≡ false
           → AreCutInto options here.starred (words_of_lines (here ∷ lines)) ls
           → front ≡ printed (ending options returns told) here.prefix here.hanging
           (all_shown options.justify wide ls) ++ filled_end (ending options returns told) (here ∷ lines)
@@ -303,8 +319,10 @@ module _ (options : ReflowOptions) (returns : Bool) (told : IsTold options.endin
           absurd (omega (arith, p.walked.words_some, ap length cut))
       by ([] ∷ ls) wide front back raws whole blocks stay (behind, some, parts, may, cut) is safe free later =
           absurd (some refl)
-      by ((word ∷ words) ∷ ls) wide front back raws whole blocks stay (behind, some, parts, may, cut) is safe free
-          later = filled-lines wide word words behind ls may cut parts back later front raws whole blocks stay is
+      by ((word ∷ words) ∷ ls) wide front back raws whole blocks stay
+          (behind, some, parts, may, cut) is safe free
+          later = filled-lines wide word words behind ls may cut parts back later front raws whole blocks stay
+          is
           safe free
 
   -- the same of the line that is read

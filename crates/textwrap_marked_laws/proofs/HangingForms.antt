@@ -110,7 +110,8 @@ marks-quotes options in_block (c ∷ d ∷ cs) qs are = absurd are
 pub marks-comments : (options : ReflowOptions) (in_block : Bool) (cs qs : List SpacedText)
     → AreMarks options in_block (words_in cs) (words_in qs)
     → (length cs ≤ 1) × All (λ w. is_comment_at options in_block w.word ≡ true) cs
-marks-comments options in_block [] qs are = (omega arith, All-nil (λ w. is_comment_at options in_block w.word ≡ true))
+marks-comments options in_block [] qs are =
+    (omega arith, All-nil (λ w. is_comment_at options in_block w.word ≡ true))
 marks-comments options in_block (c ∷ []) qs are = grind (arith, cases_Bool, All-cons, All-nil)
 marks-comments options in_block (c ∷ d ∷ cs) qs are = absurd are
 
@@ -176,7 +177,8 @@ module _ (options : ReflowOptions) (in_block : Bool) (cs qs : List SpacedText)
           → (lead ++ hanging_comments bare cs) ++ spaced_text qs ≡ lead ++ spaced_text (cs ++ qs)
       cut [] are = ap (λ l. l ++ spaced_text qs) (append-nil lead)
       cut (c ∷ []) are =
-          ap (λ b. (lead ++ ((cond b (cond bare (blanks (text_width c.word)) (codes " *")) c.word ++ c.white) ++ []))
+          ap (λ b. (lead ++ ((cond b (cond bare (blanks (text_width c.word)) (codes " *")) c.word ++ c.white)
+          ++ []))
           ++ spaced_text qs) are.1
           ∙ ap (λ l. (lead ++ l) ++ spaced_text qs) (append-nil (c.word ++ c.white))
           ∙ append_assoc lead (c.word ++ c.white) (spaced_text qs)
@@ -185,7 +187,8 @@ module _ (options : ReflowOptions) (in_block : Bool) (cs qs : List SpacedText)
   pub opens-none : has_opening_in cs ≡ false
   opens-none = cut cs are
     where
-      cut : (cs : List SpacedText) → AreMarks options in_block (words_in cs) (words_in qs) → has_opening_in cs ≡ false
+      cut : (cs : List SpacedText) → AreMarks options in_block (words_in cs) (words_in qs)
+          → has_opening_in cs ≡ false
       cut [] are = refl
       cut (c ∷ []) are = ap (λ b. b || false) are.1
       cut (c ∷ d ∷ cs) are = absurd are
@@ -304,12 +307,14 @@ module _ (options : ReflowOptions) (in_block : Bool) (lead : List ℕ) (qs rest 
 
       cut : (o b : Bool) → is_comment_opening c.word ≡ o → is_comment_at options in_block c.word ≡ true
           → IsHanging options (in_block || (o || false))
-          ((lead ++ ((cond o (cond b (blanks (text_width c.word)) (codes " *")) c.word ++ c.white) ++ [])) ++ spaced_text qs)
+          ((lead ++ ((cond o (cond b (blanks (text_width c.word)) (codes " *")) c.word ++ c.white) ++ []))
+          ++ spaced_text qs)
       cut true b opening comment =
           rw (opening-outside options in_block c.word comment opening) (inside b)
         where
           inside : (b : Bool) → IsHanging options true
-              ((lead ++ ((cond b (blanks (text_width c.word)) (codes " *") ++ c.white) ++ [])) ++ spaced_text qs)
+              ((lead ++ ((cond b (blanks (text_width c.word)) (codes " *") ++ c.white) ++ []))
+              ++ spaced_text qs)
           inside true = record {
             lead = lead ++ (blanks (text_width c.word) ++ c.white);
             cs = [];

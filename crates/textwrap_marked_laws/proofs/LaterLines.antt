@@ -1,5 +1,6 @@
 -- Lines of a paragraph, and lines of other words behind the same marks.
 use Rattle.textwrap_marked_lines.proofs.FirstWords.{comment_is}
+use Rattle.textwrap_text.proofs.Common.{rules}
 use Rattle.textwrap_marked_laws.proofs as own
 use own.Common.{Bool, List, cond, refl, true, ◌&&◌, ◌++◌, suc, sym, ◌+◌, ◌<◌, ◌∙◌, ◌∷◌, ◌≡◌, [], ap, ℕ}
 use own.Common.{flat_map-append, hanging_bullets, without_returns, ReflowOptions, is_comment_at, append_assoc}
@@ -126,7 +127,7 @@ bullet-none : (xs bs : List SpacedText) → 0 < length xs → bullets_len xs ≡
     → first_word xs ≡ first_word bs → bytes_eq (first_word xs) (codes "[") ≡ false → bullets_len bs ≡ 0
 bullet-none [] bs some none same box = absurd (omega (arith, some))
 bullet-none (a ∷ xs) [] some none same box = refl
-bullet-none (a ∷ xs) (b ∷ bs) some none same box = grind (arith, cases_Bool, bullets-none, none-if)
+bullet-none (a ∷ xs) (b ∷ bs) some none same box = search (rules, arith, bullets-none, none-if)
 
 abbrev bullets_by : SpacedText → SpacedText → List SpacedText → Bool → Bool → ℕ
 bullets_by b c ws t u = cond t (suc (bullets_len (c ∷ ws))) (cond u (suc (suc (bullets_len ws))) 0)
@@ -142,7 +143,7 @@ bullets-same : (bs xs others : List SpacedText) → 0 < length xs
     → bullets_len (bs ++ others) ≡ length bs
 bullets-same [] xs others some none is = none is
 bullets-same (b ∷ []) [] others some none is = absurd (omega (arith, some))
-bullets-same (b ∷ []) (a ∷ xs) others some none is = grind (arith, cases_Bool, one-bullet)
+bullets-same (b ∷ []) (a ∷ xs) others some none is = search (rules, arith, one-bullet)
 bullets-same (b ∷ c ∷ bs) xs others some none is =
     cut (is_bullet b.word) (is_box b c) (bullets-same (c ∷ bs) xs others some none)
     (bullets-same bs xs others some none) is

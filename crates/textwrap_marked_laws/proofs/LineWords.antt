@@ -2,13 +2,13 @@
 use Rattle.std.proofs.lemmas.List.Elements.{All-get_or}
 use Rattle.textwrap_base.proofs.Cost.Chosen.{division_joined}
 use Rattle.textwrap_text.proofs.Common.{take-append-add, length-take, take_more}
-use Rattle.textwrap_words.{proofs.Common.piece, proofs.Word.Texts.{trimmed-front, word_of-seam, AreBlanks}}
+use Rattle.textwrap_words.{proofs.Common.piece, proofs.Word.Texts.{trimmed-front, word_of-seam}}
 use Rattle.textwrap_marked_laws.proofs as own
+use own.Common.{List, cond, drop, flat, refl, take, true, ◌++◌, ◌==◌, All, map, sym, ◌+◌, ◌-◌, ◌<◌, ◌∙◌, ◌∷◌}
 use own.Common.{ReflowOptions, append_assoc, spaced_text, trimmed_len, IsDivision, SpacedText, append-nil, []}
-use own.Common.{cases_Bool, onto_front, with_blank, All-cons, All-head, All-tail, WordText, is_blank, All-nil}
-use own.Common.{false, Bool, List, cond, drop, flat, refl, take, true, ◌++◌, ◌==◌, All, map, sym, ◌+◌, ◌-◌, ℕ}
-use own.Common.{take_all, covered, or-left, word_of, blanks, get_or, is_cut, length, pieces, arith, blank, ap}
-use own.{Common.{◌<◌, ◌∙◌, ◌∷◌, ◌≡◌, ◌≢◌, ⊤}, SpacedBack.{IsPlain, IsInk}}
+use own.Common.{cases_Bool, onto_front, with_blank, All-cons, All-head, All-tail, WordText, is_blank, covered}
+use own.Common.{take_all, or-left, word_of, blanks, get_or, is_cut, length, pieces, arith, blank, false, Bool}
+use own.{Common.{◌≡◌, ◌≢◌, ap, ℕ, ⊤}, SpacedBack.{IsPlain, IsInk}}
 
 -- the gap before a word with so many others behind it: a blank, and more where lines are justified
 abbrev pub gap : Bool → (ℕ → ℕ) → ℕ → List ℕ
@@ -53,12 +53,6 @@ word-ends word is =
       sym (take_all (n + 1) word (omega (arith, some))) ∙ take_more word n 0 within,
       ink-blank (get_or word n 0) (All-get_or IsInk word n 0 within is.ink),
     )
-
-no_blank : AreBlanks []
-no_blank = All-nil (λ c. is_blank c ≡ true)
-
-one_blank : AreBlanks (blank ∷ [])
-one_blank = All-cons (λ c. is_blank c ≡ true) blank [] refl no_blank
 
 word-spaced : (word : List ℕ) → IsPlain word → word_of (with_blank word) ≡ piece word (blank ∷ []) []
 word-spaced word is = grind (arith, cases_Bool, word-ends, append_assoc, word_of-seam)
@@ -171,7 +165,8 @@ module _ (options : ReflowOptions) (starred : Bool) where
   lines-of [] word ((w ∷ v ∷ front) ∷ division) are is some = absurd (omega (arith, ap length is))
   lines-of (next ∷ words) word ((w ∷ front) ∷ division) are is some =
       let later = All-tail IsPlain word (next ∷ words) are in
-      step (is_cut options starred word (next ∷ words)) (parts (next ∷ words)) refl (pieces-begin next words later)
+      step (is_cut options starred word (next ∷ words)) (parts (next ∷ words)) refl
+      (pieces-begin next words later)
       (λ ls same all. lines-of words next ls later same all) front is
     where
       plain : IsPlain word
@@ -205,7 +200,8 @@ module _ (options : ReflowOptions) (starred : Bool) where
           let here : w ≡ word_of (with_blank word) = cc in
           onto-line word (next ∷ words) (w ∷ v ∷ front) (v ∷ front) division
           (ap (λ u. u.word ++ u.whitespace ++ covered (v ∷ front)) (here ∙ word-spaced word plain))
-          (rest ((v ∷ front) ∷ division) (cc) (All-cons (λ l. l ≢ []) (v ∷ front) division (λ none. cc) others))
+          (rest ((v ∷ front) ∷ division) (cc) (All-cons (λ l. l ≢ []) (v ∷ front) division
+          (λ none. cc) others))
 
   pub division-words : (words : List (List ℕ)) → words ≢ [] → All IsPlain words
       → (division : List (List WordText)) → IsDivision (map word_of (parts words)) division

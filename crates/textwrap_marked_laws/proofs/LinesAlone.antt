@@ -190,7 +190,8 @@ module _ (line lead : List ℕ) (marks ws : List SpacedText) (white : All IsWhit
   shows-behind options margin = grind (arith, cases_Bool, has-words, spaced-in)
 
   -- it does not stand for itself, if these are such marks, and a text
-  pub not-alone : (options : ReflowOptions) (plain : HasNoBarMark options) → All (IsLineMark options plain) marks
+  pub not-alone : (options : ReflowOptions) (plain : HasNoBarMark options)
+      → All (IsLineMark options plain) marks
       → (starred : Bool) → begins_text starred (first_word ws) ≡ true → has_columns options.justify ws ≡ false
       → stands_alone options line ≡ false
   not-alone options plain all starred begins level =
@@ -253,19 +254,20 @@ module _ (options : ReflowOptions) where
         shown = (
           _,
           words_of_lines lines,
-          shows-behind text hang.lead marks line.words hang.white hang.full of.spaced of.some is options (record {
-            lead = hang.lead;
-            comments = hang.cs;
-            quotes = hang.qs;
-            in_block = in_block;
-            is = refl;
-            white = hang.white;
-            one = one;
-            comment = comment;
-            quote = each-word IsQuote hang.qs quote;
-            apart = All-weaker IsFull (λ w. 0 < length w.white × All IsWhite w.white)
-                (λ w full. (full.some, full.spaced.white)) marks hang.full;
-          }),
+          shows-behind text hang.lead marks line.words hang.white hang.full of.spaced of.some is options
+              (record {
+                lead = hang.lead;
+                comments = hang.cs;
+                quotes = hang.qs;
+                in_block = in_block;
+                is = refl;
+                white = hang.white;
+                one = one;
+                comment = comment;
+                quote = each-word IsQuote hang.qs quote;
+                apart = All-weaker IsFull (λ w. 0 < length w.white × All IsWhite w.white)
+                    (λ w full. (full.some, full.spaced.white)) marks hang.full;
+              }),
           are.shown,
           refl,
         );
@@ -273,7 +275,8 @@ module _ (options : ReflowOptions) where
             (not-alone text hang.lead marks line.words hang.white hang.full of.spaced of.some is options plain
             (All-append (IsLineMark options plain) hang.cs hang.qs
             (All-weaker (λ w. is_comment_at options in_block w.word ≡ true) (IsLineMark options plain)
-            (comment-is options plain in_block) hang.cs comment) (quotes-line-marks options plain hang.qs quote))
+            (comment-is options plain in_block) hang.cs comment)
+            (quotes-line-marks options plain hang.qs quote))
             of.starred of.begins of.columns) ∙ are.alone plain;
       }
 

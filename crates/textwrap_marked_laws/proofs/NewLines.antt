@@ -156,7 +156,8 @@ module _ (options : ReflowOptions) (in_block starred : Bool) (wide : ℕ → ℕ
         ∙ ap (λ w. in_block && contains (codes "*/") w) (ap last_text own_words ∙ same)
         ∙ sym (closes-last in_block last of.some (line-closing options in_block hanging at final of)) in
         let deeper = deeper-same hanging starred of.starred own last
-        (ap (begins_text starred) (spread-first options.justify gaps word words end) ∙ begins) of.begins finish in
+        (ap (begins_text starred) (spread-first options.justify gaps word words end) ∙ begins) of.begins
+        finish in
         let breaks = ap (λ w. ends_with nat_eq w (codes "  ")) white ∙ break-same final in
         let state_is : passed state line ≡ behind_text in_block hanging last =
         new.of.behind ∙ ap (behind_text in_block hanging) new.has
@@ -179,7 +180,8 @@ module _ (options : ReflowOptions) (in_block starred : Bool) (wide : ℕ → ℕ
 
     abbrev IsLineOf : StateText → LineText → List ℕ → List (List ℕ) → List (List (List ℕ)) → Type 0
     IsLineOf state line prefix words lines =
-        IsNew options in_block hanging state line prefix (laid (wide (length lines)) words (text_end end lines))
+        IsNew options in_block hanging state line prefix
+        (laid (wide (length lines)) words (text_end end lines))
 
     pub new-behind : (lines : List (List (List ℕ))) (word : List ℕ) (words later : List (List ℕ))
         (state : StateText) (line : LineText) (prefix : List ℕ)
@@ -227,7 +229,8 @@ module _ (options : ReflowOptions) (in_block starred : Bool) (wide : ℕ → ℕ
         own_words.plain own_words.columns (tail-white lines))
         (spread-spaced options.justify next_gaps others tail own_words.plain (tail-white lines))
         (no-mark options in_block starred next next_laid first goer.begins goer.bullet
-        (no-comment options in_block next letter goer.marker)) (open-behind options in_block hanging own_laid) (record {
+        (no-comment options in_block next letter goer.marker)) (open-behind options in_block hanging own_laid)
+        (record {
           begins = ap (λ b. begins_text b (first_word next_laid)) (sym margin)
               ∙ ap (begins_text starred) first ∙ goer.begins;
           columns = spread-columns options.justify next_gaps others tail own_words.columns;
@@ -238,7 +241,8 @@ module _ (options : ReflowOptions) (in_block starred : Bool) (wide : ℕ → ℕ
         let rest_new = new-behind lines next more_words behind here next_line hanging part cut theirs
         (sym (ap (λ l. last_text (own ++ l)) is ∙ last-behind own (others ++ behind) (omega arith)) ∙ same)
         goer.begins next_new refl in
-        let slashes = ap (λ w. ends_with nat_eq w (codes "\\")) (spread-last options.justify gaps own []) ∙ slash in
+        let slashes = ap (λ w. ends_with nat_eq w (codes "\\")) (spread-last options.justify gaps own [])
+        ∙ slash in
         let white = spread-white options.justify gaps word words [] in
         let ended : line.ended ≡ false = new.of.ends ∙ ap (is_ended in_block) new.has
         ∙ (λ i. slashes i || ends_with nat_eq (white i) (codes "  ") || closes i) in
@@ -263,6 +267,7 @@ module _ (options : ReflowOptions) (in_block starred : Bool) (wide : ℕ → ℕ
           spells = ap (λ l. l ++ words_of_lines (next_line ∷ rest_new.lines))
               (ap words_in new.has ∙ spread-words options.justify gaps own [])
               ∙ ap (λ l. own ++ l) rest_new.spells;
-          texts = more-lines options in_block hanging hang here raw (nat_lt 0 (length raws)) (raws_behind lines)
+          texts = more-lines options in_block hanging hang here raw (nat_lt 0 (length raws))
+              (raws_behind lines)
               rest_new.lines next_new.of next_new.prefixed rest_new.texts;
         })

@@ -9,7 +9,7 @@ use Rattle.textwrap_marked_laws.specs.Laws.{IsWithin}
 use Rattle.textwrap_marked_laws.specs.Laws.{PartKeepsToWidth, IsKeptOrBehind, PartKeepsWords, AreNewParts}
 use Rattle.textwrap_marked_lines.specs.Columns.{text_columns}
 use Rattle.textwrap_marks.specs.declared.options.Algorithm.TheVariants as by
-use Rattle.textwrap_text.proofs.Common.{reverse-append}
+use Rattle.textwrap_text.proofs.Common.{reverse-append, rules}
 use Rattle.textwrap_marked_laws.proofs as own
 use own.Common.{All-cons, All-head, All-tail, LineText, WordText, all-left, flat_map, sizes_of, take_all, All}
 use own.Common.{All-map, All-nil, word_of, blocks, is_cut, length, nat_eq, pieces, arith, blank, false, stays}
@@ -183,7 +183,7 @@ pub lines-as-wide : (width : ℕ) (first later : List ℕ) (lines : List (List W
 lines-as-wide width first later [] = tt
 lines-as-wide width first later (line ∷ []) = tt
 lines-as-wide width first later (line ∷ next ∷ lines) =
-    grind (arith, cases_Bool, justified-width, lines-as-wide width later later (next ∷ lines))
+    search (rules, arith, justified-width, lines-as-wide width later later (next ∷ lines))
 
 -- ---- all parts
 
@@ -206,9 +206,9 @@ module _ (options : ReflowOptions) (IsNew : List ℕ → Part → List ℕ → T
   laid-new ending beside ([] ∷ bs) text plain laid =
       laid-new ending beside bs text (All-tail IsPlainBlock [] bs plain) laid
   laid-new ending beside ((first ∷ lines) ∷ bs) text plain (front, back, of, later, is) =
-      grind (
+      search (
+        rules,
         arith,
-        cases_Bool,
         All-head,
         All-tail,
         laid-new ending (is_beside first bs) bs back (All-tail IsPlainBlock (first ∷ lines) bs plain) later,

@@ -277,7 +277,8 @@ module _ (options : ReflowOptions) (width : ℕ) (algorithm : Algorithm) (before
 
   -- if filled lines of the text between end as those of the text do
   earlier-same : (IsTextBack earlier (behind_mark text) (behind_mark between) → EndAlike options text between)
-      → IsReflowed earlier text between → IsReflowed options between reflowed → IsReflowed options text reflowed
+      → IsReflowed earlier text between → IsReflowed options between reflowed
+      → IsReflowed options text reflowed
   earlier-same ends first second =
       let (mark, laid) = whole earlier text between first in
       let (same, later) = whole options between reflowed second in
@@ -289,7 +290,8 @@ module _ (options : ReflowOptions) (width : ℕ) (algorithm : Algorithm) (before
             (ends (text-back earlier _ _ laid)) (behind_mark reflowed) later,
       )
 
-pub widths-same : (options : ReflowOptions) (width : ℕ) (algorithm : Algorithm) (text between reflowed : List ℕ)
+pub widths-same : (options : ReflowOptions) (width : ℕ) (algorithm : Algorithm)
+    (text between reflowed : List ℕ)
     → KeepsEnding options text between
     → IsReflowed (record options { width = width; algorithm = algorithm }) text between
     → IsReflowed options between reflowed → IsReflowed options text reflowed

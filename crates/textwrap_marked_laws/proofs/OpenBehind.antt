@@ -1,13 +1,14 @@
 -- What is open behind a line that does not stand apart, and which lines do not.
 use Rattle.std.{proofs.Common.nat_le, specs.Str.chars}
-use Rattle.textwrap_marked_lines.specs.Fences.{opens_formula, opened, run_of}
+use Rattle.textwrap_marked_lines.specs.Fences.{opens_formula, has_pre_end, opened_by, opened, run_of}
 use Rattle.textwrap_marked_lines.specs.Lines.{begins_code, is_in_block, is_prompted, new_before, is_before}
+use Rattle.textwrap_marked_lines.specs.declared.fences.FenceKind.TheVariants.{Formula, Code, Pre}
 use Rattle.textwrap_marked_lines.specs.declared.fences.FenceKind.{FenceKind}
 use Rattle.textwrap_marked_lines.{specs.Columns.{DepthText, is_deeper, depth_of}, specs.Lines.new_by}
 use Rattle.textwrap_marks.proofs.ListLemmas.{or-right}
-use Rattle.textwrap_marks.specs.Signs.{is_rule_characters, opens_session, is_directive, is_rule, is_sign}
-use Rattle.textwrap_marks.{proofs.Letterless.no-session, specs.Words.is_letter_or_digit}
-use Rattle.textwrap_text.proofs.Common.{slice_index, and_parts, list_all, not-true}
+use Rattle.textwrap_marks.specs.Signs.{is_rule_characters, opens_session, is_directive, opens_code, is_rule}
+use Rattle.textwrap_marks.{proofs.Letterless.no-session, specs.Signs.is_sign, specs.Words.is_letter_or_digit}
+use Rattle.textwrap_text.proofs.Common.{slice_index, and_parts, list_all, not-true, rules}
 use Rattle.textwrap_marked_laws.proofs as own
 use own.Common.{Option, is_key, length, nat_eq, nat_lt, ne_eqb, passed, codes, false, Bool, List, None, Some}
 use own.Common.{StateText, and-false, deeper_by, has_words, nat_tests, new_fence, LineText, any-none, is_deep}
@@ -22,12 +23,14 @@ use own.LineKinds.{has_opening_in, hanging_of, line_by, Kinds}
 
 pub text-letter : (starred : Bool) (word : List ℕ) → begins_text starred word ≡ true → has_letter word ≡ true
 text-letter starred word is =
-    (and_parts (has_letter word) (not (is_sign word)) (and_parts (has_letter word && not (is_sign word)) _ is).0).0
+    (and_parts (has_letter word) (not (is_sign word))
+    (and_parts (has_letter word && not (is_sign word)) _ is).0).0
 
 pub text-no-sign : (starred : Bool) (word : List ℕ) → begins_text starred word ≡ true → is_sign word ≡ false
 text-no-sign starred word is =
     not-true (is_sign word)
-    (and_parts (has_letter word) (not (is_sign word)) (and_parts (has_letter word && not (is_sign word)) _ is).0).1
+    (and_parts (has_letter word) (not (is_sign word))
+    (and_parts (has_letter word && not (is_sign word)) _ is).0).1
 
 -- it is none of the texts that have no letter
 pub text-other : (starred : Bool) (word other : List ℕ) → begins_text starred word ≡ true
@@ -47,7 +50,7 @@ three mark (a ∷ b ∷ c ∷ word) long = grind (arith, nat_tests, cases_Bool)
 -- nor a formula
 no-formula : (words : List SpacedText) → is_sign (first_word words) ≡ false → opens_formula words ≡ false
 no-formula [] none = refl
-no-formula (w ∷ ws) none = grind (arith, cases_Bool, or-right, or-left)
+no-formula (w ∷ ws) none = search (rules, arith, or-right, or-left)
 
 run-none : (word : List ℕ) → is_sign word ≡ false → run_of word ≡ None
 run-none word none =
@@ -80,7 +83,16 @@ no-return word none = or-right _ _ (or-left _ _ (or-left _ (contains (codes "<pr
 pub opened-none : (starred : Bool) (words : List SpacedText) → begins_text starred (first_word words) ≡ true
     → All (λ w. is_column_word w.word ≡ false) words → opened words ≡ None
 opened-none starred words begins none =
-    grind (arith, cases_Bool, text-no-sign, none-any, All-weaker, or-right, no-formula, run-none)
+    let no_sign = text-no-sign starred (first_word words) begins in
+    let pre = none-any (λ w. contains (codes "<pre") w.word) words
+    (All-weaker (λ w. is_column_word w.word ≡ false) (λ w. contains (codes "<pre") w.word ≡ false)
+    (λ w no. or-right _ (contains (codes "<pre") w.word) no) words none) in
+    let code = or-right _ (opens_code (first_word words))
+    (or-right _ (is_directive (first_word words)) no_sign) in
+    let formula = no-formula words no_sign in
+    ap (λ r. opened_by r words) (run-none (first_word words) no_sign)
+    ∙ (λ i. cond (pre i && not (has_pre_end words)) (Some Pre)
+    (cond (code i) (Some Code) (cond (formula i) (Some Formula) None)))
 
 -- ---- the state behind it
 
@@ -141,7 +153,8 @@ module _ (options : ReflowOptions) (state : StateText) (raw : List ℕ) (fed : B
       × AreFree options.justify (block_at state k) (starred_at options state k) (field_of k) k.words
   apart-free is =
       let begins = begins_text (starred_at options state k) (first_word k.words) in
-      let parts = seven (is_some state.fence) (is_deep options state (hanging_of options.bare k)) state.prompted
+      let parts = seven (is_some state.fence)
+      (is_deep options state (hanging_of options.bare k)) state.prompted
       (not begins) (has_columns options.justify k.words) (field_of k && has_byte 45 (first_word k.words))
       (block_at state k && closes_block k.words && closes_early k.words) is in (
         record { fence = parts.0; level = parts.1; prompt = parts.2 },
@@ -175,7 +188,8 @@ module _ (options : ReflowOptions) (state : StateText) (raw : List ℕ) (fed : B
       let prompts : is_prompted state.prompted (is_some state.fence) k.words ≡ false =
       ap (λ b. is_prompted state.prompted b k.words) unfenced
       ∙ ap (λ b. has_words k.words && (b || opens_session k.words)) at.prompt
-      ∙ ap (λ b. has_words k.words && b) (no-session k.words (text-letter starred (first_word k.words) are.begins))
+      ∙ ap (λ b. has_words k.words && b) (no-session k.words
+      (text-letter starred (first_word k.words) are.begins))
       ∙ and-false (has_words k.words) in
       λ i. record {
         in_block = (ap (λ b. is_in_block state.in_block b line) unfenced

@@ -105,7 +105,8 @@ module _ (options : ReflowOptions) (in_block : Bool) (hanging : List ℕ)
       (subst (λ l. All IsFull (hang.cs ++ l)) (sym whole) hang.full) spaced
       (subst (λ b. HaveKinds options b hang.cs hang.qs [] ws) (sym block)
       (marks-kinds options in_block hang.cs hang.qs hang.marks ws lacks))
-      (text ∙ ap (λ h. h ++ spaced_text ws) (hang.is ∙ ap (λ l. hang.lead ++ spaced_text (hang.cs ++ l)) (sym whole))) in
+      (text ∙ ap (λ h. h ++ spaced_text ws)
+      (hang.is ∙ ap (λ l. hang.lead ++ spaced_text (hang.cs ++ l)) (sym whole))) in
       let margin = hung-margin ws in
       let apart : (line_by options state raw fed (hung ws)).apart ≡ false =
       free-apart options state raw fed (hung ws)

@@ -28,7 +28,8 @@ anew-begun (Some e) returns raw raws news same = let fed = nat_lt 0 (length raws
   is = refl;
   old_ends = returned raw;
   new_ends = ends-word [] (returns && fed) tt;
-  ends = λ some. content-return raw (returns && fed) ∙ ap (λ b. returns && b) (same ∙ some) ∙ and-true returns;
+  ends = λ some. content-return raw (returns && fed) ∙ ap (λ b. returns && b) (same ∙ some)
+      ∙ and-true returns;
 })
 
 module _ (options : ReflowOptions) (returns : Bool) (told : IsTold options.ending returns) where
@@ -97,7 +98,8 @@ module _ (options : ReflowOptions) (returns : Bool) (told : IsTold options.endin
     anew-heads : (lines others : List LineText) → AreHeads (flat bs) others
         → AreHeads (lines ++ flat bs) (map (anew options.ending returns) lines ++ others)
     anew-heads [] others heads = heads
-    anew-heads (line ∷ lines) others heads = head-same line (anew_raw options.ending returns line.fed line.raw)
+    anew-heads (line ∷ lines) others heads =
+        head-same line (anew_raw options.ending returns line.fed line.raw)
 
     keep : (lines : List LineText) (state : StateText) (raws : List (List ℕ))
         → lines ++ flat bs ≡ read options state raws → IsSafe options state → All IsFeedless raws
@@ -127,7 +129,8 @@ module _ (options : ReflowOptions) (returns : Bool) (told : IsTold options.endin
           again = new ∷ later.again;
           blocks = later.blocks;
           reads = ap (λ l. anew e returns l ∷ news) (peeled.here ∙ ap (λ b. as_title b here)
-              (sym (title-heads here new_here rest news (anew-heads lines (flat later.blocks) later.heads) refl)))
+              (sym (title-heads here new_here rest news
+              (anew-heads lines (flat later.blocks) later.heads) refl)))
               ∙ ap (λ ls. as_title (title_of new_here ls) new_here ∷ ls) later.reads
               ∙ ap (λ s. let ls = read options s later.again in as_title (title_of new_here ls) new_here ∷ ls)
               (sym (passed-anew at e returns here))
@@ -169,7 +172,8 @@ module _ (options : ReflowOptions) (returns : Bool) (told : IsTold options.endin
         reads = k.reads;
         are = (
           one-anew options.ending returns first lines one,
-          stops-same (last_line first lines) (last_line (new first) (map new lines)) bs k.blocks are k.are k.heads
+          stops-same (last_line first lines) (last_line (new first) (map new lines)) bs k.blocks are k.are
+              k.heads
               (record {
                 hangs = ap (λ (l : LineText). l.hanging) last;
                 ended = ap (λ (l : LineText). l.ended) last;
@@ -177,7 +181,8 @@ module _ (options : ReflowOptions) (returns : Bool) (told : IsTold options.endin
               }) stops,
           k.are,
         );
-        same = λ e tells. part-cons e beside first (new first) lines (map new lines) bs k.blocks head are k.are
+        same = λ e tells. part-cons e beside first (new first) lines
+            (map new lines) bs k.blocks head are k.are
             k.heads (k.same e tells) (kept e tells (stays (beside || is_beside first bs) first));
         text_is = ap (λ l. l ++ back) is ∙ k.text_is;
         feedless = k.feedless;

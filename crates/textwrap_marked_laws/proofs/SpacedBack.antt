@@ -143,7 +143,11 @@ word-before (c ∷ d ∷ word) lead text ws plain ends is =
       cases_Bool,
       All-head,
       All-tail,
-      word-before (d ∷ word) lead text ws (record { some = omega arith; ink = All-tail IsInk c (d ∷ word) plain.ink }) ends is,
+      word-before (d ∷ word) lead text ws (record {
+        some = omega arith;
+        ink =
+            All-tail IsInk c (d ∷ word) plain.ink;
+      }) ends is,
     )
 
 pub spaced-back : (ws : List SpacedText) → AreSpaced ws → spaced_words (spaced_text ws) ≡ ws
@@ -208,13 +212,15 @@ line-text (c ∷ cs) =
       },
     )
     more false ink [] [] is =
-        of (record { word = c ∷ []; white = [] } ∷ []) (record { word = plain-one c ink; white = All-nil IsWhite })
+        of (record { word = c ∷ []; white = [] } ∷ [])
+        (record { word = plain-one c ink; white = All-nil IsWhite })
         (ap (λ l. c ∷ l) is.is)
     more false ink [] (w ∷ ws) is =
         of (onto_word c w ∷ ws) (onto-spaced c w ws ink is.spaced) (ap (λ l. c ∷ l) is.is)
     more false ink (d ∷ lead) ws is =
         let w : SpacedText = record { word = c ∷ []; white = d ∷ lead } in
-        of (w ∷ ws) (spaced-cons w ws (record { word = plain-one c ink; white = is.white }) (λ more. omega arith)
+        of (w ∷ ws) (spaced-cons w ws (record { word = plain-one c ink; white = is.white })
+        (λ more. omega arith)
         is.spaced) (ap (λ l. c ∷ l) is.is)
 
 -- ---- its words between white

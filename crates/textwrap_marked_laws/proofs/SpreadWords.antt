@@ -1,7 +1,7 @@
 -- Words with blanks between them, as the words of a line's text.
 use Rattle.textwrap_marks.proofs.Letterless.{quote-plain, box-plain}
 use Rattle.textwrap_marks.{specs.Marks.is_among, specs.Signs.{first_white, may_go_on, is_gap}}
-use Rattle.textwrap_text.proofs.Common.{not-true}
+use Rattle.textwrap_text.proofs.Common.{not-true, rules}
 use Rattle.textwrap_marked_laws.proofs as own
 use own.Common.{All-head, All-tail, is_quote, list_any, none-any, All-nil, length, arith, blank, false, Bool}
 use own.Common.{List, drop, refl, take, true, ◌&&◌, ◌++◌, ◌==◌, ◌||◌, All, suc, sym, ◌-◌, ◌<◌, ◌∙◌, ◌∷◌, ◌≡◌}
@@ -45,9 +45,9 @@ module _ (justify : Bool) (gaps : ℕ → ℕ) where
   spread-spaced (word ∷ []) end plain white =
       record { word = All-head IsPlain word [] plain; white = white }
   spread-spaced (word ∷ next ∷ words) end plain white =
-      grind (
+      search (
+        rules,
         arith,
-        cases_Bool,
         spaced-cons,
         All-head,
         gap-white,
@@ -75,12 +75,14 @@ module _ (justify : Bool) (gaps : ℕ → ℕ) where
 pub last-more : {X : Type 0} (x : X) (xs : List X) → 0 < length xs
     → drop (length (x ∷ xs) - 1) (x ∷ xs) ≡ drop (length xs - 1) xs
 last-more x xs some =
-    let less : length (x ∷ xs) - 1 ≡ suc (length xs - 1) = omega (arith, some) in ap (λ n. drop n (x ∷ xs)) less
+    let less : length (x ∷ xs) - 1 ≡ suc (length xs - 1) =
+    omega (arith, some) in ap (λ n. drop n (x ∷ xs)) less
 
 pub front-more : (w : SpacedText) (ws : List SpacedText) → 0 < length ws
     → words_before_last (w ∷ ws) ≡ w ∷ words_before_last ws
 front-more w ws some =
-    let less : length (w ∷ ws) - 1 ≡ suc (length ws - 1) = omega (arith, some) in ap (λ n. take n (w ∷ ws)) less
+    let less : length (w ∷ ws) - 1 ≡ suc (length ws - 1) =
+    omega (arith, some) in ap (λ n. take n (w ∷ ws)) less
 
 -- the last of some texts
 abbrev pub last_text : List (List ℕ) → List ℕ
@@ -154,6 +156,6 @@ text-no-quote starred word begins =
 pub no-mark : (options : ReflowOptions) (in_block starred : Bool) (word : List ℕ) (ws : List SpacedText)
     → first_word ws ≡ word → begins_text starred word ≡ true → is_bullet word ≡ false
     → is_comment_at options in_block word ≡ false → HasNoMark options in_block ws
-no-mark options in_block starred word [] is begins bullet comment = grind (arith, cases_Bool)
+no-mark options in_block starred word [] is begins bullet comment = search (rules, arith)
 no-mark options in_block starred word (w ∷ ws) is begins bullet comment =
-    grind (arith, cases_Bool, text-no-quote, bullets-none, text-other, box-plain)
+    search (rules, arith, text-no-quote, bullets-none, text-other, box-plain)

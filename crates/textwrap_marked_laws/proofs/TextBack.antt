@@ -74,7 +74,8 @@ module _ (options : ReflowOptions) (returns : Bool) (told : IsTold options.endin
   parts-back text reflowed laid =
       let raws = raws_of text in
       let lines = lines_of_text options text in
-      let r = walk-blocks (blocks lines) false (blocks-are lines) first_state raws reflowed (blocks-flat lines) laid
+      let r = walk-blocks (blocks lines) false (blocks-are lines) first_state raws reflowed
+      (blocks-flat lines) laid
       (safe-none options first_state refl) (split-feedless text) in
       let some : 0 < length r.again = ltb-true 0 (length r.again)
       (r.some ∙ lt-ltb 0 (length raws) (raws-some text)) in
@@ -83,7 +84,8 @@ module _ (options : ReflowOptions) (returns : Bool) (told : IsTold options.endin
       let again : r.blocks ≡ blocks (lines_of_text options reflowed) = sym (blocks-back r.blocks r.are)
       ∙ ap blocks r.reads ∙ ap (λ l. blocks (read options first_state l)) split in
       record {
-        same = λ e tells. subst (λ bs. AreSameParts e (text_parts options text) (parts_of_blocks false bs)) again
+        same = λ e tells. subst (λ bs. AreSameParts e (text_parts options text) (parts_of_blocks false bs))
+            again
             (r.same e tells);
         begun = subst (AreBegun returns raws) split r.begun;
         alike = subst (AreAlike options raws) split r.alike;
@@ -121,5 +123,6 @@ module _ (options : ReflowOptions) (text reflowed : List ℕ) where
   pub within-back : (range : LineRange) → IsReflowedWithinFrom options range text reflowed
       → IsTextBack options text reflowed
   within-back range laid =
-      back-by (within-any options returns_of told_of range 0 (blocks (lines_of_text options text)) false reflowed
+      back-by (within-any options returns_of told_of range 0
+      (blocks (lines_of_text options text)) false reflowed
       (rw (bytes-by (filled_ending options.ending text)) at laid))

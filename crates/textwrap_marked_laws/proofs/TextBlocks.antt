@@ -158,10 +158,6 @@ pub record AreTextWords (in_block : Bool) (words : List (List ℕ)) : Type 0 whe
   pub columns : All (λ w. is_column_word w ≡ false) words
   pub closing : AreClosing in_block words
 
-going : (a b c d e : Bool) → (not a && not b && not c && d && not e) ≡ true
-    → (b ≡ false) × (c ≡ false) × (d ≡ true) × (e ≡ false)
-going a b c d e is = grind (arith, cases_Bool)
-
 pub goes-facts : (line next : LineText) → goes_on line next ≡ true
     → (next.apart ≡ false) × (line.ended ≡ false) × (next.prefix ≡ line.hanging)
     × (opens_paragraph (first_word next.words) ≡ false)
@@ -270,7 +266,8 @@ module _ (options : ReflowOptions) (in_block : Bool) (hanging : List ℕ) where
               walked.words.closing;
         };
         texts = subst (λ l. AreTextLines options (raw ∷ walked.done) (l ∷ lines)) (sym same)
-            (more-lines options in_block hanging hang behind raw fed_next walked.done lines of_read hung walked.texts);
+            (more-lines options in_block hanging hang behind raw fed_next walked.done lines of_read hung
+            walked.texts);
       }
 
 module _ (options : ReflowOptions) where
@@ -282,7 +279,8 @@ module _ (options : ReflowOptions) where
     pub has : IsRead options state raw
     pub is : first ≡ read_as options state raw has fed
     pub apart : (read_as options state raw has fed).apart ≡ false
-    pub walked : IsWalked options (read_block options state raw has) (read_as options state raw has fed).hanging
+    pub walked : IsWalked options (read_block options state raw has)
+        (read_as options state raw has fed).hanging
         (read_as options state raw has fed) lines rest behind
 
   pub paragraph-at : (state : StateText) (raws : List (List ℕ)) (first : LineText)
@@ -314,7 +312,8 @@ module _ (options : ReflowOptions) where
           has = has;
           is = whole;
           apart = level;
-          walked = walk options (read_block options at raw has) here.hanging (first-hangs options at raw fed has level)
+          walked = walk options (read_block options at raw has) here.hanging
+              (first-hangs options at raw fed has level)
               lines here at rest peeled.left (first-text options at raw fed has level) level title
               (subst (λ l. AreOneBlock l lines) whole one) refl later;
         },

@@ -125,7 +125,8 @@ white-last : (ws : List SpacedText) → AreSpaced ws → All IsWhite (last_white
 white-last [] are = All-nil IsWhite
 white-last (w ∷ []) are = are.white
 white-last (w ∷ v ∷ ws) are =
-    subst (λ l. All IsWhite (first_white l)) (sym (last-more w (v ∷ ws) (omega arith))) (white-last (v ∷ ws) are.2)
+    subst (λ l. All IsWhite (first_white l)) (sym (last-more w (v ∷ ws) (omega arith)))
+    (white-last (v ∷ ws) are.2)
 
 pub break-spaced : (line : LineText) → AreSpaced line.words → All IsWhite (break_white line)
 break-spaced line are = grind (arith, cases_Bool, white-last, All-nil)

@@ -126,8 +126,7 @@ line-marks options state raw fed some =
     let has : 0 < length r.ws = subst (λ (l : LineText). 0 < length l.words) is some in
     let (full, spaced) = before-full (read_marks options state raw r) r.ws has (read-spaced options state raw r) in
     subst (λ (l : LineText). AreSafeMarks options (is_in_block state.in_block false l) (marks_of l.hanging))
-    (sym is)
-    (carry options (state.in_block || has_opening_in r.cs) (is_in_block state.in_block false here)
+    (sym is) (carry options (state.in_block || has_opening_in r.cs) (is_in_block state.in_block false here)
     (marks_of here.hanging)
     (λ out. outside state.in_block (has_opening_in r.cs) (not (closes_block r.ws)) out)
     (hanging-safe options _ _
@@ -293,8 +292,7 @@ module _ (options : ReflowOptions) (state : StateText) (raw : List ℕ)
       (read-spaced options (entered state (without_returns raw)) raw r) in
       full-before marks (first ∷ []) full (record {
         word = plain-first r.ws some spaced;
-        white =
-            All-nil IsWhite;
+        white = All-nil IsWhite;
       })
 
   begun-text : spaced_text begun ≡ spaced_text marks ++ first.word
@@ -321,8 +319,7 @@ module _ (options : ReflowOptions) (state : StateText) (raw : List ℕ)
           outside =
               sym (ap (λ l. starts_with nat_eq l fence.marks) (behind-begun rest))
               ∙ not-true (starts_with nat_eq (behind_white (r.lead ++ (spaced_text begun ++ rest)))
-              fence.marks)
-              left
+              fence.marks) left
 
           parted : Splits (spaced_text begun) tail fence.marks
               (drop (length fence.marks) (spaced_text begun ++ tail)) → ⊥
@@ -343,8 +340,7 @@ module _ (options : ReflowOptions) (state : StateText) (raw : List ℕ)
               ∙ append_assoc (words_in marks) (first.word ∷ []) after in
               never options block first.word after starred begins hang.cs hang.qs marks hang.marks
               (λ none out. would-be-mark options state.in_block r.ws r.cs r.qs r.bs some r.have.comment none
-              (was out))
-              words
+              (was out)) words
 
       pub still-left : IsSafe options state → fence_at state.fence (without_returns raw) ≡ None
           → fence_at state.fence ((r.lead ++ spaced_text marks) ++ (first.word ++ tail)) ≡ None

@@ -88,16 +88,14 @@ module _ (options : ReflowOptions) (returns : Bool) (told : IsTold options.endin
           marks_shown ++ own,
           words_of_lines behind,
           shows-first (without_returns text) p.has.lead marks line.words p.has.text.white full of.spaced
-              of.some is
-              options,
+              of.some is options,
           later.shown,
           sym (append_assoc marks_shown own (words_of_lines behind)),
         ),
         λ plain. alone-skip options text done (not-alone (without_returns text) p.has.lead marks line.words
             p.has.text.white full of.spaced of.some is options plain
             (line-marks options plain at.in_block p.has.cs p.has.qs p.has.bs p.has.ws p.has.have) of.starred
-            of.begins
-            of.columns) ∙ later.alone plain,
+            of.begins of.columns) ∙ later.alone plain,
       )
 
   -- by lines of its words
@@ -257,8 +255,7 @@ module _ (options : ReflowOptions) (returns : Bool) (told : IsTold options.endin
               ∙ append_assoc shown (ends_as ends final) back
               ∙ ap₂ (λ f b. shown ++ ((end ++ ending_if f ends) ++ b)) fed_is later.text_is
               ∙ text-joined options here.starred wide returns end here.hanging later.again ls here.prefix word
-              words
-              later_words cut;
+              words later_words cut;
           feedless = All-append IsFeedless (new_raw ∷ later_lines) later.again
               (raws-feedless options here.starred wide returns end here.hanging later.again
               (break-spaced final p.walked.of.spaced)
@@ -319,11 +316,10 @@ module _ (options : ReflowOptions) (returns : Bool) (told : IsTold options.endin
           absurd (omega (arith, p.walked.words_some, ap length cut))
       by ([] ∷ ls) wide front back raws whole blocks stay (behind, some, parts, may, cut) is safe free later =
           absurd (some refl)
-      by ((word ∷ words) ∷ ls) wide front back raws whole blocks stay
-          (behind, some, parts, may, cut) is safe free
-          later = filled-lines wide word words behind ls may cut parts back later front raws whole blocks stay
-          is
-          safe free
+      by ((word ∷ words) ∷ ls) wide front back raws whole blocks stay (behind, some, parts, may, cut) is safe
+          free later =
+          filled-lines wide word words behind ls may cut parts back later front raws whole blocks stay
+          is safe free
 
   -- the same of the line that is read
   pub filled-step : FillsBack first

@@ -163,8 +163,7 @@ module _ (options : ReflowOptions) (starred : Bool) where
       let each = subst (All IsPlain) parts plain in
       subst (λ texts. AreShown true texts (own ∷ lines)) (sym (texts_more true room later line division))
       (more-shown (line_text (nat_lt 0 (length division)) room line) (line_texts true later later division)
-      own lines
-      (line-shown (nat_lt 0 (length division)) room line own some (all-left IsPlain own behind each)
+      own lines (line-shown (nat_lt 0 (length division)) room line own some (all-left IsPlain own behind each)
       (ap (λ l. get_or l 0 []) is))
       (widened-lines later later division behind lines (all-right IsPlain own behind each) cut
       (ap (drop 1) is)))

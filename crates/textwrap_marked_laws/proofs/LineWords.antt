@@ -166,8 +166,7 @@ module _ (options : ReflowOptions) (starred : Bool) where
   lines-of (next ∷ words) word ((w ∷ front) ∷ division) are is some =
       let later = All-tail IsPlain word (next ∷ words) are in
       step (is_cut options starred word (next ∷ words)) (parts (next ∷ words)) refl
-      (pieces-begin next words later)
-      (λ ls same all. lines-of words next ls later same all) front is
+      (pieces-begin next words later) (λ ls same all. lines-of words next ls later same all) front is
     where
       plain : IsPlain word
       plain = All-head IsPlain word (next ∷ words) are

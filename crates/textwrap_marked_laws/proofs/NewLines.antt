@@ -268,6 +268,5 @@ module _ (options : ReflowOptions) (in_block starred : Bool) (wide : ℕ → ℕ
               (ap words_in new.has ∙ spread-words options.justify gaps own [])
               ∙ ap (λ l. own ++ l) rest_new.spells;
           texts = more-lines options in_block hanging hang here raw (nat_lt 0 (length raws))
-              (raws_behind lines)
-              rest_new.lines next_new.of next_new.prefixed rest_new.texts;
+              (raws_behind lines) rest_new.lines next_new.of next_new.prefixed rest_new.texts;
         })

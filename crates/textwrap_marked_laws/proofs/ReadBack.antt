@@ -173,8 +173,7 @@ module _ (options : ReflowOptions) (returns : Bool) (told : IsTold options.endin
         are = (
           one-anew options.ending returns first lines one,
           stops-same (last_line first lines) (last_line (new first) (map new lines)) bs k.blocks are k.are
-              k.heads
-              (record {
+              k.heads (record {
                 hangs = ap (λ (l : LineText). l.hanging) last;
                 ended = ap (λ (l : LineText). l.ended) last;
                 apart = ap (λ (l : LineText). l.apart) last;

@@ -145,8 +145,7 @@ word-before (c ∷ d ∷ word) lead text ws plain ends is =
       All-tail,
       word-before (d ∷ word) lead text ws (record {
         some = omega arith;
-        ink =
-            All-tail IsInk c (d ∷ word) plain.ink;
+        ink = All-tail IsInk c (d ∷ word) plain.ink;
       }) ends is,
     )
 
@@ -220,8 +219,7 @@ line-text (c ∷ cs) =
     more false ink (d ∷ lead) ws is =
         let w : SpacedText = record { word = c ∷ []; white = d ∷ lead } in
         of (w ∷ ws) (spaced-cons w ws (record { word = plain-one c ink; white = is.white })
-        (λ more. omega arith)
-        is.spaced) (ap (λ l. c ∷ l) is.is)
+        (λ more. omega arith) is.spaced) (ap (λ l. c ∷ l) is.is)
 
 -- ---- its words between white
 

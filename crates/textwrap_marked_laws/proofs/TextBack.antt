@@ -48,8 +48,7 @@ module _ (options : ReflowOptions) (returns : Bool) (told : IsTold options.endin
   walk-blocks ((first ∷ lines) ∷ bs) beside are state raws text reads (is_kept, stay, front, back, of, later, is) safe
       free =
       subst (IsReadBack options returns told state beside [] ((first ∷ lines) ∷ bs) raws) (sym is)
-      (step is_kept stay of
-      (walk-blocks bs (is_beside first bs) are.2))
+      (step is_kept stay of (walk-blocks bs (is_beside first bs) are.2))
     where
       step : (b : Bool) → (stays (beside || is_beside first bs) first ≡ true → b ≡ true)
           → IsOfBlock options (ending options returns told) b first (first ∷ lines) front
@@ -75,8 +74,7 @@ module _ (options : ReflowOptions) (returns : Bool) (told : IsTold options.endin
       let raws = raws_of text in
       let lines = lines_of_text options text in
       let r = walk-blocks (blocks lines) false (blocks-are lines) first_state raws reflowed
-      (blocks-flat lines) laid
-      (safe-none options first_state refl) (split-feedless text) in
+      (blocks-flat lines) laid (safe-none options first_state refl) (split-feedless text) in
       let some : 0 < length r.again = ltb-true 0 (length r.again)
       (r.some ∙ lt-ltb 0 (length raws) (raws-some text)) in
       let split : r.again ≡ raws_of reflowed =
@@ -85,8 +83,7 @@ module _ (options : ReflowOptions) (returns : Bool) (told : IsTold options.endin
       ∙ ap blocks r.reads ∙ ap (λ l. blocks (read options first_state l)) split in
       record {
         same = λ e tells. subst (λ bs. AreSameParts e (text_parts options text) (parts_of_blocks false bs))
-            again
-            (r.same e tells);
+            again (r.same e tells);
         begun = subst (AreBegun returns raws) split r.begun;
         alike = subst (AreAlike options raws) split r.alike;
       }

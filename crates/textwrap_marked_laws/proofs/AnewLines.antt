@@ -1,17 +1,85 @@
--- Lines that stay, with the ending that is asked for.
+-- Lines that stay, with the ending that is asked for, and carriage returns at the end of any line.
+use Rattle.std.proofs.lemmas.List.Elements.{All-get_or}
 use Rattle.std.proofs.lemmas.List.Sums.{suffix_len-take_no, prefix_len_stops}
-use Rattle.textwrap_marked_laws.proofs.Common.{ReflowOptions, append_assoc, ending_bytes, line_as_read, All-cons}
-use Rattle.textwrap_marked_laws.proofs.Common.{ending_if, ends_with, is_return, kept_line, new_fence, LineText}
-use Rattle.textwrap_marked_laws.proofs.Common.{flat_map, All-nil, reverse, Option, get_or, length, nat_eq, arith}
-use Rattle.textwrap_marked_laws.proofs.Common.{passed, codes, false, CRLF, List, None, Some, refl, take, true, ℕ}
-use Rattle.textwrap_marked_laws.proofs.Common.{spaced_words, All-append, LineEnding, suffix_len, StateText, Bool}
-use Rattle.textwrap_marked_laws.proofs.Common.{suffix_len-le-length, line_from_words, without_returns, FenceText}
-use Rattle.textwrap_marked_laws.proofs.Common.{zero, ◌&&◌, ◌++◌, ap₂, map, suc, sym, ◌-◌, ◌∙◌, ◌∷◌, ◌≡◌, LF, []}
-use Rattle.textwrap_marked_laws.proofs.{Common.{ap, ⊤}, Feedless.{IsFeedless, NoFeed}, ReturnsOff.return-ends}
-use Rattle.textwrap_marked_laws.proofs.{ReturnsOff.{returns-off, return_if}, TextBlocks.{AreOneBlock, last_line}}
-use Rattle.textwrap_marked_lines.specs.Prefixes.{prefix_ends}
-use Rattle.textwrap_text.proofs.Common.{All-take}
+use Rattle.textwrap_text.proofs.Common.{reverse-append, take_more, All-take, rules}
+use Rattle.textwrap_text.proofs.Lists.Parts.{ends_with-front, ends_with-true}
 use Rattle.textwrap_words.proofs.Common.{get_or-reverse, length-reverse}
+use Rattle.textwrap_marked_laws.proofs as own
+use own.Common.{All-nil, reverse, take_at, Option, get_or, length, nat_eq, passed, arith, codes, false, Bool}
+use own.Common.{CRLF, List, None, Some, cond, refl, take, true, zero, ◌&&◌, ◌++◌, ap₂, map, suc, sym, ◌+◌, []}
+use own.Common.{cases_Bool, prefix_len, suffix_len, FenceText, StateText, ending_if, ends_with, is_return, LF}
+use own.Common.{kept_line, new_fence, All-cons, All-head, All-tail, LineText, any-none, flat_map, take_all, ℕ}
+use own.Common.{length-append, append_assoc, ending_bytes, line_as_read, All-append, LineEnding, append-nil}
+use own.Common.{suffix_len-le-length, false_from_ne_true, without_returns, is_column_word, ReflowOptions, All}
+use own.OpenBehind.{no-return}
+use own.{Common.{◌-◌, ◌<◌, ◌∙◌, ◌∷◌, ◌≡◌, ap, ⊤}, SpacedBack.{white-other, IsPlain, IsWhite}}
+use own.{Feedless.{IsFeedless, NoFeed}, LineWords.{shown, gap}, TextBlocks.{AreOneBlock, last_line}}
+
+-- a text whose last byte is no carriage return
+abbrev pub EndsWell : List ℕ → Type 0
+EndsWell text = (front : List ℕ) × (c : ℕ) × (text ≡ front ++ c ∷ []) × (is_return c ≡ false)
+
+pub ends-behind : (before text : List ℕ) → EndsWell text → EndsWell (before ++ text)
+ends-behind before text (front, c, is, other) =
+    (before ++ front, c, ap (λ l. before ++ l) is ∙ sym (append_assoc before front (c ∷ [])), other)
+
+all-end : (text : List ℕ) → 0 < length text → All (λ c. is_return c ≡ false) text → EndsWell text
+all-end text some all =
+    let n = length text - 1 in
+    let within : n < length text = omega (arith, some) in (
+      take n text,
+      get_or text n 0,
+      sym (take_all (n + 1) text (omega (arith, some))) ∙ take_more text n 0 within,
+      All-get_or (λ c. is_return c ≡ false) text n 0 within all,
+    )
+
+word-end : (word : List ℕ) → IsPlain word → is_column_word word ≡ false → EndsWell word
+word-end word plain none = all-end word plain.some (any-none is_return word (no-return word none))
+
+-- the text of a line, and white behind it
+pub shown-end : (justify : Bool) (gaps : ℕ → ℕ) (word : List ℕ) (words : List (List ℕ))
+    → All IsPlain (word ∷ words) → All (λ w. is_column_word w ≡ false) (word ∷ words)
+    → EndsWell (shown justify gaps (word ∷ words))
+shown-end justify gaps word [] plain none = search (rules, arith, word-end, All-head, append-nil)
+shown-end justify gaps word (next ∷ words) plain none =
+    ends-behind (word ++ gap justify gaps (length words)) (shown justify gaps (next ∷ words))
+    (shown-end justify gaps next words (All-tail IsPlain word (next ∷ words) plain)
+    (All-tail (λ w. is_column_word w ≡ false) word (next ∷ words) none))
+
+pub white-end : (text end : List ℕ) → EndsWell text → All IsWhite end → EndsWell (text ++ end)
+white-end text [] (front, c, is, other) white = (front, c, append-nil text ∙ is, other)
+white-end text (e ∷ end) ends white = grind (arith, cases_Bool, ends-behind, all-end, white-other)
+
+-- ---- returns behind it
+
+pub returns-none : (text : List ℕ) → EndsWell text → suffix_len is_return text ≡ 0
+returns-none text (front, c, is, other) = grind (arith, cases_Bool, reverse-append)
+
+pub returns-more : (text : List ℕ) → suffix_len is_return (text ++ 13 ∷ []) ≡ 1 + suffix_len is_return text
+returns-more text = ap (prefix_len is_return) (reverse-append text (13 ∷ []))
+
+-- what ends a line before its line feed
+abbrev pub return_if : Bool → List ℕ
+return_if b = cond b (13 ∷ []) []
+
+pub returns-off : (text : List ℕ) (b : Bool) → suffix_len is_return text ≡ 0
+    → without_returns (text ++ return_if b) ≡ text
+returns-off text false none = grind (arith, cases_Bool, append-nil, take_all)
+returns-off text true none = grind (arith, cases_Bool, take_at, length-append, returns-more)
+
+-- the ending of a line
+pub return-ends : (text : List ℕ) (b : Bool) → suffix_len is_return text ≡ 0
+    → ends_with nat_eq (text ++ return_if b) (codes "\r") ≡ b
+return-ends text true none = ends_with-true (13 ∷ []) (text ++ 13 ∷ []) text refl
+return-ends text false none =
+    ap (λ t. ends_with nat_eq t (codes "\r")) (append-nil text)
+    ∙ false_from_ne_true (ends_with nat_eq text (codes "\r")) (λ ends. omega (
+      arith,
+      ap (suffix_len is_return) (ends_with-front (codes "\r") text ends),
+      returns-more (take (length text - 1) text),
+    ))
+
+-- ---- lines that stay
 
 abbrev pub returns_by : LineEnding → Bool
 returns_by LF = false
@@ -39,8 +107,7 @@ anew e returns line = record line { raw = anew_raw e returns line.fed line.raw }
 content-none : (raw : List ℕ) → suffix_len is_return (without_returns raw) ≡ 0
 content-none raw = cut (length raw - suffix_len is_return raw) refl
   where
-    cut : (n : ℕ) → length raw - suffix_len is_return raw ≡ n
-        → suffix_len is_return (without_returns raw) ≡ 0
+    cut : (n : ℕ) → length raw - suffix_len is_return raw ≡ n → suffix_len is_return (without_returns raw) ≡ 0
     cut zero is = ap (λ k. suffix_len is_return (take k raw)) is
     cut (suc m) is =
         let le = suffix_len-le-length is_return raw in
@@ -68,9 +135,7 @@ anew-content (Some e) returns fed raw = content-same raw (returns && fed)
 pub anew-line : (options : ReflowOptions) (state : StateText) (e : Option LineEnding) (returns : Bool)
     (raw : List ℕ) (fed : Bool)
     → line_as_read options state (anew_raw e returns fed raw) fed ≡ anew e returns (line_as_read options state raw fed)
-anew-line options state e returns raw fed =
-    ap (λ c. line_from_words options state (anew_raw e returns fed raw) fed (spaced_words c)
-    (prefix_ends options state.in_block (spaced_words c))) (anew-content e returns fed raw)
+anew-line options state e returns raw fed = search (rules, arith, anew-content)
 
 -- nor does it change what is open behind it
 fence-anew : (fence : Option FenceText) (e : Option LineEnding) (returns : Bool) (line : LineText)
@@ -85,17 +150,26 @@ passed-anew state e returns line =
 
 -- ---- its text
 
-anew-kept : (e : Option LineEnding) (returns : Bool) (line : LineText)
-    → kept_line e (anew e returns line) ≡ kept_line e line
-anew-kept None returns line = refl
-anew-kept (Some e) returns line =
-    ap (λ c. c ++ ending_if line.fed (ending_bytes e)) (content-same line.raw (returns && line.fed))
+-- how lines stay by the ending that is asked for says how they stay by another one
+abbrev pub Tells : Option LineEnding → Option LineEnding → Type 0
+Tells asked None = asked ≡ None
+Tells asked (Some e) = ⊤
 
-pub kept-anew : (e : Option LineEnding) (returns : Bool) (lines : List LineText)
-    → flat_map (kept_line e) (map (anew e returns) lines) ≡ flat_map (kept_line e) lines
-kept-anew e returns [] = refl
-kept-anew e returns (line ∷ lines) =
-    ap₂ (λ a b. a ++ b) (anew-kept e returns line) (kept-anew e returns lines)
+pub tells-own : (e : Option LineEnding) → Tells e e
+tells-own None = refl
+tells-own (Some e) = tt
+
+module _ (asked : Option LineEnding) (returns : Bool) where
+  anew-kept : (e : Option LineEnding) → Tells asked e → (line : LineText)
+      → kept_line e (anew asked returns line) ≡ kept_line e line
+  anew-kept None none line = ap (λ a. kept_line None (anew a returns line)) none
+  anew-kept (Some e) tells line =
+      ap (λ c. c ++ ending_if line.fed (ending_bytes e)) (anew-content asked returns line.fed line.raw)
+
+  pub kept-anew : (e : Option LineEnding) → Tells asked e → (lines : List LineText)
+      → flat_map (kept_line e) (map (anew asked returns) lines) ≡ flat_map (kept_line e) lines
+  kept-anew e tells [] = refl
+  kept-anew e tells (line ∷ lines) = ap₂ (λ a b. a ++ b) (anew-kept e tells line) (kept-anew e tells lines)
 
 -- an ending is a carriage return, if it has one, and a line feed
 pub end-parts : (returns fed : Bool)
@@ -110,10 +184,7 @@ pub anew-text : (e : Option LineEnding) (returns : Bool) → IsTold e returns �
     → kept_line e line ≡ anew_raw e returns fed raw ++ ending_if fed (10 ∷ [])
 anew-text None returns told raw fed line r f = ap₂ (λ a b. a ++ ending_if b (10 ∷ [])) r f
 anew-text (Some e) returns told raw fed line r f =
-    ap₂ (λ a b. without_returns a ++ ending_if b (ending_bytes e)) r f
-    ∙ ap (λ b. without_returns raw ++ ending_if fed b) (bytes-by e ∙ ap (λ b. return_if b ++ 10 ∷ []) told)
-    ∙ ap (λ t. without_returns raw ++ t) (end-parts returns fed)
-    ∙ sym (append_assoc (without_returns raw) (return_if (returns && fed)) (ending_if fed (10 ∷ [])))
+    grind (arith, cases_Bool, bytes-by, end-parts, append_assoc)
 
 -- ---- several of them
 

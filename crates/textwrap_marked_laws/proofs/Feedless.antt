@@ -1,17 +1,15 @@
 -- The words, the prefixes and the hanging forms of the lines of a text have no line feed.
 use Rattle.std.proofs.lemmas.List.Splits.{slice_split_at}
-use Rattle.textwrap_marked_laws.proofs.Common.{All-append, All-weaker, SpacedText, onto_first, suffix_len, All}
-use Rattle.textwrap_marked_laws.proofs.Common.{All-replicate, ReflowOptions, slice_split, spaced_text, All-map}
-use Rattle.textwrap_marked_laws.proofs.Common.{as_title, blanks, length, codes, false, subst, Bool, List, cond}
-use Rattle.textwrap_marked_laws.proofs.Common.{is_comment_opening, length-slice_split, hanging_comments, arith}
-use Rattle.textwrap_marked_laws.proofs.Common.{is_return, All-cons, All-head, All-tail, LineText, all-left, []}
-use Rattle.textwrap_marked_laws.proofs.Common.{refl, true, ◌++◌, ◌==◌, map, sym, ◌-◌, ◌∙◌, ◌∷◌, ◌≡◌, ap, ℕ}
-use Rattle.textwrap_marked_laws.proofs.Common.{slice_split_none, hanging_bullets, join_with_byte, line_as_read}
-use Rattle.textwrap_marked_laws.proofs.Common.{text_width, StateText, all-right, each-flat, flat-each, All-nil}
-use Rattle.textwrap_marked_laws.proofs.LaterLines.{read-split, read_marks, line-read, read-line}
-use Rattle.textwrap_marked_laws.proofs.{HangingForms.bullets-all, TextBlocks.read-all, TextBlocks.read}
 use Rattle.textwrap_marked_lines.specs.Hanging.{hanging_mark}
 use Rattle.textwrap_text.proofs.Common.{All-take}
+use Rattle.textwrap_marked_laws.proofs as own
+use own.Common.{All-append, All-weaker, SpacedText, onto_first, suffix_len, text_width, StateText, all-right}
+use own.Common.{All-nil, blanks, length, arith, codes, false, subst, Bool, List, cond, refl, true, ◌++◌, ◌==◌}
+use own.Common.{each-flat, flat-each, is_return, All-cons, All-head, All-tail, LineText, all-left, as_title}
+use own.Common.{is_comment_opening, length-slice_split, hanging_comments, slice_split_none, hanging_bullets}
+use own.Common.{join_with_byte, All-replicate, ReflowOptions, line_as_read, slice_split, spaced_text, All-map}
+use own.{Common.{All, sym, ◌-◌, ◌<◌, ◌∙◌, ◌∷◌, ◌≡◌, [], ap, ℕ}, HangingForms.bullets-all, SpacedBack.words_in}
+use own.{LaterLines.{read-split, read_marks, line-read, read-line}, TextBlocks.{read-all, read}}
 
 abbrev pub NoFeed : ℕ → Type 0
 NoFeed c = (c == 10) ≡ false
@@ -22,7 +20,7 @@ IsFeedless text = All NoFeed text
 pub record IsFeedlessLine (line : LineText) : Type 0 where
   pub prefix : IsFeedless line.prefix
   pub hanging : IsFeedless line.hanging
-  pub words : All IsFeedless (map (λ w. w.word) line.words)
+  pub words : All IsFeedless (words_in line.words)
 
 -- with the white behind it
 abbrev IsFeedlessWord : SpacedText → Type 0
@@ -74,9 +72,15 @@ read-feedless options = read-all options IsFeedlessLine IsFeedless (line-feedles
 
 -- ---- lines between line feeds
 
-pub split-feedless : (text : List ℕ) → All IsFeedless (slice_split (λ c. c == 10) text)
+abbrev pub raws_of : List ℕ → List (List ℕ)
+raws_of text = slice_split (λ c. c == 10) text
+
+pub raws-some : (text : List ℕ) → 0 < length (raws_of text)
+raws-some text = omega (arith, length-slice_split (λ c. c == 10) text)
+
+pub split-feedless : (text : List ℕ) → All IsFeedless (raws_of text)
 split-feedless [] = All-cons IsFeedless [] [] (All-nil NoFeed) (All-nil IsFeedless)
-split-feedless (c ∷ cs) = cut (c == 10) refl (slice_split (λ c. c == 10) cs) (split-feedless cs)
+split-feedless (c ∷ cs) = cut (c == 10) refl (raws_of cs) (split-feedless cs)
   where
     cut : (b : Bool) → (c == 10) ≡ b → (parts : List (List ℕ)) → All IsFeedless parts
         → All IsFeedless (cond b ([] ∷ parts) (onto_first c parts))
@@ -87,19 +91,11 @@ split-feedless (c ∷ cs) = cut (c == 10) refl (slice_split (λ c. c == 10) cs) 
         All-cons IsFeedless (c ∷ part) parts
         (All-cons NoFeed c part is (All-head IsFeedless part parts all)) (All-tail IsFeedless part parts all)
 
-pub split-some : (text : List ℕ)
-    → (raw : List ℕ) × (raws : List (List ℕ)) × (slice_split (λ c. c == 10) text ≡ raw ∷ raws)
-split-some text = cut (slice_split (λ c. c == 10) text) refl
-  where
-    cut : (parts : List (List ℕ)) → slice_split (λ c. c == 10) text ≡ parts
-        → (raw : List ℕ) × (raws : List (List ℕ)) × (slice_split (λ c. c == 10) text ≡ raw ∷ raws)
-    cut [] is = absurd (omega (arith, length-slice_split (λ c. c == 10) text, ap length is))
-    cut (raw ∷ raws) is = (raw, raws, is)
-
-pub split-joined : (raw : List ℕ) (raws : List (List ℕ)) → All IsFeedless (raw ∷ raws)
-    → slice_split (λ c. c == 10) (join_with_byte 10 (raw ∷ raws)) ≡ raw ∷ raws
-split-joined raw [] all = slice_split_none (λ c. c == 10) raw (All-head IsFeedless raw [] all)
-split-joined raw (next ∷ raws) all =
+pub split-joined : (raws : List (List ℕ)) → 0 < length raws → All IsFeedless raws
+    → raws_of (join_with_byte 10 raws) ≡ raws
+split-joined [] some all = absurd (omega (arith, some))
+split-joined (raw ∷ []) some all = slice_split_none (λ c. c == 10) raw (All-head IsFeedless raw [] all)
+split-joined (raw ∷ next ∷ raws) some all =
     slice_split_at (λ c. c == 10) raw 10 (join_with_byte 10 (next ∷ raws))
     (All-head IsFeedless raw (next ∷ raws) all) refl
-    ∙ ap (λ l. raw ∷ l) (split-joined next raws (All-tail IsFeedless raw (next ∷ raws) all))
+    ∙ ap (λ l. raw ∷ l) (split-joined (next ∷ raws) (omega arith) (All-tail IsFeedless raw (next ∷ raws) all))

@@ -1,34 +1,26 @@
 -- What is printed of a paragraph before other blocks, read again.
 use Rattle.std.proofs.Math.Bool.{and-true}
 use Rattle.textwrap_marked.specs.Reflow.{IsFilled}
-use Rattle.textwrap_marked_laws.proofs.{AnewLines.IsTold, BegunAlike.{IsInPlace, ends-word, AreBegun}}
-use Rattle.textwrap_marked_laws.proofs.BlocksAlike.{stops-same, part-cons, part_of}
-use Rattle.textwrap_marked_laws.proofs.Common.{All-head, All-tail, AreShown, IsSameBy, LineText, as_title, false}
-use Rattle.textwrap_marked_laws.proofs.Common.{All-weaker, SpacedText, append-nil, filled_end, first_word, arith}
-use Rattle.textwrap_marked_laws.proofs.Common.{StateText, all-right, each-flat, ending_if, is_beside, All-cons}
-use Rattle.textwrap_marked_laws.proofs.Common.{fence_at, All-nil, entered, printed, length, lt-ltb, nat_lt, Bool}
-use Rattle.textwrap_marked_laws.proofs.Common.{line_as_read, break_white, lines_alone, spaced_text, All-append}
-use Rattle.textwrap_marked_laws.proofs.Common.{passed, stays, subst, List, None, flat, refl, true, ◌&&◌, ◌++◌, ℕ}
-use Rattle.textwrap_marked_laws.proofs.Common.{without_returns, words_of_lines, ReflowOptions, append_assoc, All}
-use Rattle.textwrap_marked_laws.proofs.Common.{◌||◌, inr, map, sym, ◌∙◌, ◌∷◌, ◌≡◌, ◌≢◌, [], ap}
-use Rattle.textwrap_marked_laws.proofs.Feedless.{IsFeedlessLine, IsFeedless}
-use Rattle.textwrap_marked_laws.proofs.{FenceLeft.{still-left, text-tail, EndsText}, FenceMarks.safe-none}
-use Rattle.textwrap_marked_laws.proofs.{FenceMarks.IsSafe, JustifiedTexts.lines-shown, KeptLines.title-heads}
-use Rattle.textwrap_marked_laws.proofs.{LaterLines.{read-split, read_marks, IsOfText}, LineWords.AreCutInto}
-use Rattle.textwrap_marked_laws.proofs.{LineWords.{all_shown, spread, gap}, LinesAlone.first-not-alone}
-use Rattle.textwrap_marked_laws.proofs.LinesAlone.{AreTextLines, alike-append, alone-skip, AreAlike}
-use Rattle.textwrap_marked_laws.proofs.NewBlock.{first-of-words, IsParagraph, block_of, first_of, renew}
-use Rattle.textwrap_marked_laws.proofs.NewLines.{here-words, later_raws, returns_at, end-white, text-ends}
-use Rattle.textwrap_marked_laws.proofs.{NewLines.{line_raw, raw-text, text_end}, NewParts.divided-is}
-use Rattle.textwrap_marked_laws.proofs.{OpenBehind.behind_text, ParagraphLines.{first-unfenced, first-parts}}
-use Rattle.textwrap_marked_laws.proofs.{ParagraphLines.first-text, PrintedText.{raws-feedless, break-spaced}}
-use Rattle.textwrap_marked_laws.proofs.PrintedText.{break-again, filled-last, text-joined, break-same, ends_as}
-use Rattle.textwrap_marked_laws.proofs.ReadBack.{AreOfBlocksAny, IsReadBack, ending, Walks}
-use Rattle.textwrap_marked_laws.proofs.ReturnsOff.{returns-none, return-ends, return_if}
-use Rattle.textwrap_marked_laws.proofs.{ShownLines.{shows-first, line-split}, SpacedBack.IsWhite}
-use Rattle.textwrap_marked_laws.proofs.TextBlocks.{as-title-none, AreTextWords, last_line, read-more, title_of}
-use Rattle.textwrap_marked_laws.proofs.{TextBlocks.read, TextParts.AreBlocks}
 use Rattle.textwrap_marked_laws.specs.Laws.{IsSameParagraph, HasNoBarMark}
+use Rattle.textwrap_marked_laws.proofs as own
+use own.Common.{All-tail, AreShown, IsSameBy, LineText, as_title, fence_at, has_byte, entered, printed, arith}
+use own.Common.{break_white, lines_alone, spaced_text, All-append, All-weaker, SpacedText, append-nil, length}
+use own.Common.{filled_end, first_word, StateText, all-right, each-flat, ending_if, is_beside, All-head, List}
+use own.Common.{lt-ltb, nat_lt, passed, false, stays, subst, flat, refl, true, ◌&&◌, ◌++◌, ◌||◌, All, ap₂, []}
+use own.Common.{without_returns, words_of_lines, ReflowOptions, append_assoc, line_as_read, begins_text, Bool}
+use own.LinesAlone.{AreTextLines, alike-append, shows-first, alone-skip, line-marks, not-alone, AreAlike}
+use own.NewLines.{here-words, later_raws, new-behind, returns_at, end-white, text-ends, line_raw, raw-text}
+use own.ParagraphLines.{first-unfenced, first-starred, IsFirstAlike, first-begins, first-hangs, first-keyed}
+use own.TextBlocks.{first-of-words, as-title-none, AreTextWords, IsParagraph, last_line, read-more, title_of}
+use own.{AnewLines.{returns-none, return-ends, return_if, IsTold}, Feedless.{IsFeedlessLine, IsFeedless}}
+use own.{BegunAlike.{IsInPlace, ends-word, AreBegun}, LineWords.{AreCutInto, all_shown, MayPart, spread, gap}}
+use own.{Common.{inr, sym, ◌∙◌, ◌∷◌, ◌≡◌, ap, ℕ}, WordEnds.{break-spaced, filled-last, spread-free, ends_as}}
+use own.{FenceLeft.{still-left, safe-none, text-tail, EndsText, IsSafe}, OpenBehind.behind_text}
+use own.{JustifiedTexts.lines-shown, TextParts.{title-heads, stops-same, AreBlocks, part-cons, part_of}}
+use own.{LaterLines.{read-split, read_block, read_marks, IsOfText, read_as}, SpacedBack.{words_in, IsWhite}}
+use own.{NewLines.text_end, SpreadWords.{spread-columns, spread-spaced, spread-first, spread-len, last_text}}
+use own.{NewParts.divided-is, ReadBack.{AreOfBlocksAny, IsReadBack, ending, Walks}, TextBlocks.read}
+use own.{ParagraphLines.{first-parts, first-text, first-new, IsNew}, PrintedText.{raws-feedless, text-joined}}
 
 module _ (justify : Bool) (gaps : ℕ → ℕ) where
   -- what follows the first word of a line's text
@@ -51,222 +43,241 @@ followed : (justify : Bool) (wide : ℕ → ℕ → ℕ) (returns : Bool) (end h
 followed justify wide returns end hanging left [] some = ap (λ b. returns && b) some ∙ and-true returns
 followed justify wide returns end hanging left (line ∷ ls) some = refl
 
-cut-some : (options : ReflowOptions) (starred : Bool) (lines : List (List (List ℕ)))
-    (later : List (List ℕ)) → AreCutInto options starred later lines → All (λ l. l ≢ []) lines
-cut-some options starred [] later cut = All-nil (λ l. l ≢ [])
-cut-some options starred (line ∷ lines) later (behind, some, is, may, cut) =
-    All-cons (λ l. l ≢ []) line lines some (cut-some options starred lines behind cut)
-
 words-feedless : (lines : List LineText) → All IsFeedlessLine lines → All IsFeedless (words_of_lines lines)
 words-feedless lines all =
-    each-flat IsFeedless (λ l. map (λ w. w.word) l.words) lines (All-weaker IsFeedlessLine
-    (λ l. All IsFeedless (map (λ w. w.word) l.words)) (λ l is. is.words) lines all)
+    each-flat IsFeedless (λ l. words_in l.words) lines (All-weaker IsFeedlessLine
+    (λ l. All IsFeedless (words_in l.words)) (λ l is. is.words) lines all)
 
 module _ (options : ReflowOptions) (returns : Bool) (told : IsTold options.ending returns) (state : StateText)
     (raw : List ℕ) (first : LineText) (lines : List LineText) (bs : List (List LineText))
     (p : IsParagraph options (entered state (without_returns raw)) raw first lines (flat bs)) (beside : Bool) where
+  abbrev at : StateText
+  at = entered state (without_returns raw)
+
   abbrev here : LineText
-  here = first_of options (entered state (without_returns raw)) raw first lines (flat bs) p
+  here = read_as options at raw p.has p.fed
 
   abbrev block_here : Bool
-  block_here = block_of options (entered state (without_returns raw)) raw first lines (flat bs) p
+  block_here = read_block options at raw p.has
 
   abbrev final : LineText
   final = last_line here lines
 
+  abbrev end : List ℕ
+  end = break_white final
+
   -- the marks of its prefix
   abbrev marks_shown : List (List ℕ)
-  marks_shown = map (λ w. w.word) (read_marks options (entered state (without_returns raw)) raw p.has)
+  marks_shown = words_in (read_marks options at raw p.has)
+
+  of-here : IsOfText options block_here here.hanging at here
+  of-here = first-text options at raw p.fed p.has p.apart
 
   -- a line of other words behind that prefix, and lines behind it, show the marks and the words of all,
   -- and none of them stands for itself
   text-lines : (text : List ℕ) (line : LineText) (done : List (List ℕ)) (behind : List LineText)
-      → IsOfText options block_here here.hanging (entered state (without_returns raw)) line
+      → IsOfText options block_here here.hanging at line
       → without_returns text ≡ here.prefix ++ spaced_text line.words → AreTextLines options done behind
       → AreShown options (text ∷ done) (marks_shown ++ words_of_lines (line ∷ behind))
       × (HasNoBarMark options → lines_alone options (text ∷ done) ≡ [])
   text-lines text line done behind of is later =
-      let at = entered state (without_returns raw) in
+      let marks = read_marks options at raw p.has in
       let full = (first-parts options at raw p.fed p.has p.apart).0 in
-      let own = map (λ (w : SpacedText). w.word) line.words in (
+      let own = words_in line.words in (
         (
           marks_shown ++ own,
           words_of_lines behind,
-          shows-first (without_returns text) p.has.lead (read_marks options at raw p.has) line.words
-              p.has.text.white full of.spaced of.some is options,
+          shows-first (without_returns text) p.has.lead marks line.words p.has.text.white full of.spaced
+              of.some is options,
           later.shown,
           sym (append_assoc marks_shown own (words_of_lines behind)),
         ),
-        λ plain. alone-skip options text done (first-not-alone options plain at.in_block (without_returns text)
-            p.has.lead p.has.cs p.has.qs p.has.bs p.has.ws line.words p.has.have p.has.text.white full of.spaced
-            of.some is of.starred of.begins of.columns) ∙ later.alone plain,
+        λ plain. alone-skip options text done (not-alone (without_returns text) p.has.lead marks line.words
+            p.has.text.white full of.spaced of.some is options plain
+            (line-marks options plain at.in_block p.has.cs p.has.qs p.has.bs p.has.ws p.has.have) of.starred
+            of.begins of.columns) ∙ later.alone plain,
       )
 
-  -- where its first line is another one, no fence is open either
-  enters-same : (gaps : ℕ → ℕ) (word : List ℕ) (words : List (List ℕ)) (end : List ℕ) (r : Bool) → All IsWhite end
-      → first_word p.has.ws ≡ word → AreTextWords block_here (word ∷ words) → IsSafe options state
-      → entered state (without_returns
-      ((here.prefix ++ spaced_text (spread options.justify gaps (word ∷ words) end)) ++ return_if r))
-      ≡ entered state (without_returns raw)
-  enters-same gaps word words end r white same are safe =
-      let at = entered state (without_returns raw) in
-      let spaced = spaced_text (spread options.justify gaps (word ∷ words) end) in
-      let (tail, is, ends) = text-end options.justify gaps word words end white in
-      let old = first-unfenced options at raw p.fed p.has p.apart in
-      let text = first-text options at raw p.fed p.has p.apart in
-      let cut : without_returns ((here.prefix ++ spaced) ++ return_if r) ≡ here.prefix ++ spaced =
-      raw-text options.justify gaps here.prefix word words end r are.plain are.columns white in
-      let whole : here.prefix ++ (first_word p.has.ws ++ tail) ≡ here.prefix ++ spaced =
-      ap (λ w. here.prefix ++ (w ++ tail)) same ∙ ap (λ l. here.prefix ++ l) (sym is) in
-      let left : fence_at state.fence (without_returns ((here.prefix ++ spaced) ++ return_if r)) ≡ None =
-      ap (fence_at state.fence) (cut ∙ sym whole)
-      ∙ still-left options state raw p.has text.starred tail text.some text.begins safe ends old in
-      ap (λ f. record state { fence = f }) (left ∙ sym old)
+  -- by lines of its words
+  module _ (wide : ℕ → ℕ → ℕ) (word : List ℕ) (words later_words : List (List ℕ)) (ls : List (List (List ℕ)))
+      (may : MayPart options here.starred (word ∷ words) later_words)
+      (cut : AreCutInto options here.starred later_words ls)
+      (parts : words_of_lines (here ∷ lines) ≡ (word ∷ words) ++ later_words) (back : List ℕ)
+      (later : IsReadBack options returns told (behind_text block_here here.hanging final.words)
+      (is_beside here bs) [] bs p.walked.left back) where
+    abbrev more : Bool
+    more = returns && nat_lt 0 (length later.again)
 
-  -- its first line, in the place of that of the text
-  in-place : (gaps : ℕ → ℕ) (word : List ℕ) (words : List (List ℕ)) (end : List ℕ) (r : Bool) (news : List (List ℕ))
-      → All IsWhite end → first_word p.has.ws ≡ word → AreTextWords block_here (word ∷ words)
-      → (nat_lt 0 (length news) ≡ true → r ≡ returns)
-      → IsInPlace returns raw ((here.prefix ++ spaced_text (spread options.justify gaps (word ∷ words) end)) ++ return_if r) news
-  in-place gaps word words end r news white same are ends =
-      let text = spaced_text (spread options.justify gaps (word ∷ words) end) in
-      let (tail, is, ends_text) = text-end options.justify gaps word words end white in
-      let own = first-text options (entered state (without_returns raw)) raw p.fed p.has p.apart in
-      let (old_tail, old, old_ends) = text-tail raw here.prefix p.has.ws own.some
-      (read-split options (entered state (without_returns raw)) raw p.has) own.spaced in
-      let grouped : (here.prefix ++ (word ++ tail)) ++ return_if r
-      ≡ (here.prefix ++ word) ++ (tail ++ return_if r) = simp append_assoc in
-      let well = text-ends options.justify gaps here.prefix word words end are.plain are.columns white in
-      record {
-        common = here.prefix ++ word;
-        old_end = old_tail;
-        new_end = tail ++ return_if r;
-        old = old ∙ ap (λ w. here.prefix ++ (w ++ old_tail)) same
-            ∙ sym (append_assoc here.prefix word old_tail);
-        is = ap (λ t. (here.prefix ++ t) ++ return_if r) is ∙ grouped;
-        old_ends = old_ends;
-        new_ends = ends-word tail r ends_text;
-        ends = λ some. return-ends (here.prefix ++ text) r (returns-none (here.prefix ++ text) well) ∙ ends some;
-      }
+    abbrev gaps : ℕ → ℕ
+    gaps = wide (length ls)
 
-  -- by the lines of a division of its pieces
-  filled-division : (front back : List ℕ) (ls : List (List (List ℕ))) (wide : ℕ → ℕ → ℕ) (raws : List (List ℕ))
-      → raws ≡ raw ∷ p.behind → AreBlocks ((here ∷ lines) ∷ bs)
-      → stays (beside || is_beside here bs) here ≡ false
-      → front ≡ printed (ending options returns told) here.prefix here.hanging
-      (all_shown options.justify wide ls) ++ filled_end (ending options returns told) (here ∷ lines)
-      → AreCutInto options here.starred (words_of_lines (here ∷ lines)) ls → IsSafe options state
-      → All IsFeedlessLine (here ∷ lines)
-      → IsReadBack options returns told (behind_text block_here here.hanging final.words)
-      (is_beside here bs) bs p.walked.left back
-      → IsReadBack options returns told state beside ((here ∷ lines) ∷ bs) raws (front ++ back)
-  filled-division front back [] wide raws whole blocks stay is cut safe free later =
-      absurd (omega (arith, p.walked.words_some, ap length cut))
-  filled-division front back ([] ∷ ls) wide raws whole blocks stay is (behind, some, parts, may, cut) safe free
-      later = absurd (some refl)
-  filled-division front back ((word ∷ words) ∷ ls) wide raws whole (one, stops, are) stay is
-      (later_words, some, parts, may, cut) safe free later =
-      let at = entered state (without_returns raw) in
-      let rest = flat bs in
-      let others = flat later.blocks in
-      let end = break_white final in
-      let white = break-spaced final p.walked.of.spaced in
-      let fed = nat_lt 0 (length later.again) in
-      let more = returns && fed in
-      let ends = return_if returns ++ 10 ∷ [] in
-      let lines_shown = all_shown options.justify wide ((word ∷ words) ∷ ls) in
-      let title : (l : LineText) → l.hanging ≡ here.hanging → title_of l others ≡ false =
-      λ l same. title-heads final l rest others later.heads (same ∙ sym p.walked.of.hangs) ∙ p.walked.title in
-      let (alike, new_is, n) = renew options at raw first lines rest p wide returns end white (break-same final)
-      later.again others later.reads title word words later_words ls may cut parts in
-      let new_raw = line_raw options.justify wide returns more end here.prefix (word ∷ words) ls in
-      let raws_new = later_raws options.justify wide returns more end here.hanging ls ++ later.again in
-      let fed_new = nat_lt 0 (length raws_new) in
-      let new = line_as_read options at new_raw fed_new in
-      let last_new = last_line new n.lines in
-      let first_is : first_word p.has.ws ≡ word =
-      first-of-words p.has.ws (words_of_lines lines) word (words ++ later_words)
-      (first-text options at raw p.fed p.has p.apart).some parts in
-      let mine = here-words options block_here here.starred word words later_words ls cut
-      (subst (AreTextWords block_here) parts p.walked.words) in
-      let enters : entered state (without_returns new_raw) ≡ at =
-      enters-same (wide (length ls)) word words (text_end end ls) (returns_at returns more ls) (end-white end white ls) first_is
-      mine safe in
-      let old_lines = text-lines raw here p.walked.done lines (first-text options at raw p.fed p.has p.apart)
-      (read-split options at raw p.has) p.walked.texts in
-      let new_lines = text-lines new_raw new (later_raws options.justify wide returns more end here.hanging ls) n.lines
-      new_is.of (line-split options at new_raw fed_new ∙ ap (λ q. q ++ spaced_text new.words) new_is.prefixed)
-      n.texts in
-      let break_is : break_white last_new ≡ end = break-again final last_new n.space in
-      let fed_is : final.fed ≡ fed = p.walked.fed ∙ sym later.some in
-      let same : IsSameParagraph (part_of false here lines) (part_of false new n.lines) = record {
-        prefix = alike.head.prefix;
-        hanging = alike.head.hangs;
-        starred = alike.starred;
-        words = n.spells ∙ sym parts;
-        end = λ e. filled-last e new n.lines
-            ∙ ap (λ w. w ++ ending_if last_new.fed e) break_is
-            ∙ ap (λ f. end ++ ending_if f e) (n.fed ∙ sym fed_is)
-            ∙ sym (filled-last e here lines);
-      } in
-      let behind : StateText → List LineText = λ s.
-      let l = line_as_read options s new_raw fed_new in
-      let ls = read options (passed s l) raws_new in
-      as_title (title_of l ls) l ∷ ls in record {
-        again = new_raw ∷ raws_new;
-        blocks = (new ∷ n.lines) ∷ later.blocks;
-        reads = sym (read-more options state new_raw raws_new ∙ ap behind enters
-            ∙ ap (λ ls. as_title (title_of new ls) new ∷ ls) n.read_is
-            ∙ ap (λ b. as_title b new ∷ (n.lines ++ others)) n.untitled
-            ∙ ap (λ l. l ∷ (n.lines ++ others)) (as-title-none new));
-        are = (
-          n.one,
-          stops-same final last_new bs later.blocks are later.are later.heads (record {
-            hangs = n.hangs ∙ sym p.walked.of.hangs;
-            ended = n.ends ∙ sym p.walked.of.ends;
-            apart = n.apart ∙ sym p.walked.apart;
-          }) stops,
-          later.are,
-        );
-        same = part-cons options.ending beside here new lines n.lines bs later.blocks alike.head are later.are later.heads
-            later.same (subst (λ b. IsSameBy options.ending b (part_of b here lines) (part_of b new n.lines)) (sym stay)
-            (refl, same));
-        text_is = ap (λ f. f ++ back) is
-            ∙ ap (λ e. (printed ends here.prefix here.hanging lines_shown ++ e) ++ back)
-            (filled-last ends here lines)
-            ∙ append_assoc (printed ends here.prefix here.hanging lines_shown) (ends_as ends final)
-            back
-            ∙ ap (λ f. printed ends here.prefix here.hanging lines_shown
-            ++ ((end ++ ending_if f ends) ++ back)) fed_is
-            ∙ ap (λ b. printed ends here.prefix here.hanging lines_shown
-            ++ ((end ++ ending_if fed ends) ++ b)) later.text_is
-            ∙ text-joined options.justify wide returns end here.hanging later.again ls here.prefix word words
-            (cut-some options here.starred ls later_words cut);
-        feedless = All-append IsFeedless
-            (new_raw ∷ later_raws options.justify wide returns more end here.hanging ls) later.again
-            (raws-feedless options here.starred wide returns more end here.hanging white
-            (All-head IsFeedlessLine here lines free).hanging ls here.prefix (word ∷ words) later_words
-            (All-head IsFeedlessLine here lines free).prefix cut
-            (subst (All IsFeedless) parts (words-feedless (here ∷ lines) free)))
-            later.feedless;
-        heads = alike.head;
-        some = lt-ltb 0 (length (new_raw ∷ raws_new)) (omega arith)
-            ∙ sym (lt-ltb 0 (length (raw ∷ p.behind)) (omega arith))
-            ∙ ap (λ l. nat_lt 0 (length l)) (sym whole);
-        begun = subst (λ l. AreBegun returns l (new_raw ∷ raws_new)) (sym whole)
-            (inr (in-place (wide (length ls)) word words (text_end end ls) (returns_at returns more ls) raws_new
-            (end-white end white ls) first_is
-            mine (followed options.justify wide returns end here.hanging later.again ls)));
-        alike = subst (λ l. AreAlike options l (new_raw ∷ raws_new)) (sym (whole ∙ ap (λ l. raw ∷ l) p.walked.whole))
-            (alike-append options (raw ∷ p.walked.done)
-            (new_raw ∷ later_raws options.justify wide returns more end here.hanging ls) p.walked.left later.again
-            (record {
-              shown = marks_shown ++ words_of_lines (here ∷ lines);
-              these = old_lines.0;
-              those = rw (n.spells ∙ sym parts) at new_lines.0;
-              alone = λ plain. new_lines.1 plain ∙ sym (old_lines.1 plain);
-            }) later.alike);
-      }
+    abbrev tail : List ℕ
+    tail = text_end end ls
+
+    abbrev new_words : List SpacedText
+    new_words = spread options.justify gaps (word ∷ words) tail
+
+    -- the first of these lines, and the later ones
+    abbrev new_raw : List ℕ
+    new_raw = line_raw options.justify wide returns more end here.prefix (word ∷ words) ls
+
+    abbrev later_lines : List (List ℕ)
+    later_lines = later_raws options.justify wide returns more end here.hanging ls
+
+    abbrev new : LineText
+    new = line_as_read options at new_raw (nat_lt 0 (length (later_lines ++ later.again)))
+
+    white : All IsWhite tail
+    white = end-white end (break-spaced final p.walked.of.spaced) ls
+
+    first-is : first_word p.has.ws ≡ word
+    first-is = first-of-words p.has.ws (words_of_lines lines) word (words ++ later_words) of-here.some parts
+
+    all : AreTextWords block_here ((word ∷ words) ++ later_words)
+    all = subst (AreTextWords block_here) parts p.walked.words
+
+    mine : AreTextWords block_here (word ∷ words)
+    mine = here-words options block_here here.starred word words later_words ls cut all
+
+    begins : begins_text here.starred word ≡ true
+    begins = sym (ap (begins_text here.starred) first-is) ∙ first-begins options at raw p.fed p.has p.apart
+
+    new-text : without_returns new_raw ≡ here.prefix ++ spaced_text new_words
+    new-text =
+        raw-text options.justify gaps here.prefix word words tail (returns_at returns more ls) mine.plain
+        mine.columns white
+
+    -- no fence is open at the first of them either
+    enters : IsSafe options state → entered state (without_returns new_raw) ≡ at
+    enters safe =
+        let (rest, is, ends) = text-end options.justify gaps word words tail white in
+        let old = first-unfenced options at raw p.fed p.has p.apart in
+        let whole : here.prefix ++ (first_word p.has.ws ++ rest) ≡ here.prefix ++ spaced_text new_words =
+        ap (λ w. here.prefix ++ (w ++ rest)) first-is ∙ ap (λ l. here.prefix ++ l) (sym is) in
+        ap (λ f. record state { fence = f }) (ap (fence_at state.fence) (new-text ∙ sym whole)
+        ∙ still-left options state raw p.has of-here.some of-here.starred rest of-here.begins ends safe old
+        ∙ sym old)
+
+    -- it stands in the place of that of the text
+    in-place : IsInPlace returns raw new_raw (later_lines ++ later.again)
+    in-place =
+        let text = spaced_text new_words in
+        let r = returns_at returns more ls in
+        let (rest, is, ends) = text-end options.justify gaps word words tail white in
+        let (old_rest, old, old_ends) = text-tail raw here.prefix p.has.ws of-here.some
+        (read-split options at raw p.has) of-here.spaced in
+        let well = text-ends options.justify gaps here.prefix word words tail mine.plain mine.columns white in
+        record {
+          common = here.prefix ++ word;
+          old_end = old_rest;
+          new_end = rest ++ return_if r;
+          old = old ∙ ap (λ w. here.prefix ++ (w ++ old_rest)) first-is
+              ∙ sym (append_assoc here.prefix word old_rest);
+          is = ap (λ t. t ++ return_if r) (ap (λ t. here.prefix ++ t) is
+              ∙ sym (append_assoc here.prefix word rest))
+              ∙ append_assoc (here.prefix ++ word) rest (return_if r);
+          old_ends = old_ends;
+          new_ends = ends-word rest r ends;
+          ends = λ some. return-ends (here.prefix ++ text) r (returns-none (here.prefix ++ text) well)
+              ∙ followed options.justify wide returns end here.hanging later.again ls some;
+        }
+
+    new-line : IsNew options block_here here.hanging at new here.prefix new_words × IsFirstAlike here new
+    new-line =
+        let same = spread-first options.justify gaps word words tail in
+        first-new options at raw p.fed p.has p.apart new_words new_raw _ new-text
+        (spread-spaced options.justify gaps (word ∷ words) tail mine.plain white)
+        (omega (arith, spread-len options.justify gaps (word ∷ words) tail)) (first-is ∙ sym same) (record {
+          begins = ap (begins_text here.starred) same ∙ begins;
+          columns = spread-columns options.justify gaps (word ∷ words) tail mine.columns;
+          field = ap (λ w. here.field && has_byte 45 w) (same ∙ sym first-is)
+              ∙ first-keyed options at raw p.fed p.has p.apart;
+          closes = spread-free block_here options.justify gaps (word ∷ words) tail mine.closing;
+        })
+
+    filled-lines : (front : List ℕ) (raws : List (List ℕ)) → raws ≡ raw ∷ p.behind
+        → AreBlocks ((here ∷ lines) ∷ bs) → stays (beside || is_beside here bs) here ≡ false
+        → front ≡ printed (ending options returns told) here.prefix here.hanging
+        (all_shown options.justify wide ((word ∷ words) ∷ ls)) ++ filled_end (ending options returns told)
+        (here ∷ lines)
+        → IsSafe options state → All IsFeedlessLine (here ∷ lines)
+        → IsReadBack options returns told state beside [] ((here ∷ lines) ∷ bs) raws (front ++ back)
+    filled-lines front raws whole (one, stops, are) stay is safe free =
+        let others = flat later.blocks in
+        let news = later_lines ++ later.again in
+        let fed = nat_lt 0 (length later.again) in
+        let ends = ending options returns told in
+        let shown = printed ends here.prefix here.hanging
+        (all_shown options.justify wide ((word ∷ words) ∷ ls)) in
+        let title : (l : LineText) → l.hanging ≡ here.hanging → title_of l others ≡ false =
+        λ l same. title-heads final l (flat bs) others later.heads (same ∙ sym p.walked.of.hangs)
+        ∙ p.walked.title in
+        let (new_is, alike) = new-line in
+        let n = new-behind options block_here here.starred wide here.hanging
+        (first-hangs options at raw p.fed p.has p.apart)
+        (first-starred options at raw p.fed p.has p.apart) returns
+        more p.walked.at final p.walked.of p.walked.apart later.again others later.reads title ls word words
+        later_words at new here.prefix may cut all
+        (sym (ap last_text parts) ∙ p.walked.final) begins new_is refl in
+        let old_lines = text-lines raw here p.walked.done lines of-here
+        (read-split options at raw p.has) p.walked.texts in
+        let new_lines = text-lines new_raw new later_lines n.lines new_is.of
+        (new-text ∙ ap (λ l. here.prefix ++ spaced_text l) (sym new_is.has)) n.texts in
+        let fed_is : final.fed ≡ fed = p.walked.fed ∙ sym later.some in
+        let same : IsSameParagraph (part_of false here lines) (part_of false new n.lines) = record {
+          prefix = alike.head.prefix;
+          hanging = alike.head.hangs;
+          starred = alike.starred;
+          words = n.spells ∙ sym parts;
+          end = λ e. filled-last e new n.lines ∙ n.finish e ∙ ap (λ f. end ++ ending_if f e) (sym fed_is)
+              ∙ sym (filled-last e here lines);
+        } in
+        let behind : StateText → List LineText = λ s.
+        let l = line_as_read options s new_raw (nat_lt 0 (length news)) in
+        let ls = read options (passed s l) news in
+        as_title (title_of l ls) l ∷ ls in record {
+          again = new_raw ∷ news;
+          blocks = (new ∷ n.lines) ∷ later.blocks;
+          reads = sym (read-more options state new_raw news ∙ ap behind (enters safe)
+              ∙ ap (λ ls. as_title (title_of new ls) new ∷ ls) n.read_is
+              ∙ ap (λ b. as_title b new ∷ (n.lines ++ others)) n.untitled
+              ∙ ap (λ l. l ∷ (n.lines ++ others)) (as-title-none new));
+          are = (
+            n.one,
+            stops-same final (last_line new n.lines) bs later.blocks are later.are later.heads n.alike stops,
+            later.are,
+          );
+          same = λ e tells. part-cons e beside here new lines n.lines bs later.blocks alike.head are later.are
+              later.heads (later.same e tells)
+              (subst (λ b. IsSameBy e b (part_of b here lines) (part_of b new n.lines)) (sym stay)
+              (refl, same));
+          text_is = ap (λ f. f ++ back) (is ∙ ap (λ e. shown ++ e) (filled-last ends here lines))
+              ∙ append_assoc shown (ends_as ends final) back
+              ∙ ap₂ (λ f b. shown ++ ((end ++ ending_if f ends) ++ b)) fed_is later.text_is
+              ∙ text-joined options here.starred wide returns end here.hanging later.again ls here.prefix word
+              words later_words cut;
+          feedless = All-append IsFeedless (new_raw ∷ later_lines) later.again
+              (raws-feedless options here.starred wide returns end here.hanging later.again
+              (break-spaced final p.walked.of.spaced)
+              (All-head IsFeedlessLine here lines free).hanging ls here.prefix
+              (word ∷ words) later_words (All-head IsFeedlessLine here lines free).prefix cut
+              (subst (All IsFeedless) parts (words-feedless (here ∷ lines) free)))
+              later.feedless;
+          heads = alike.head;
+          some = lt-ltb 0 (length (new_raw ∷ news)) (omega arith)
+              ∙ sym (lt-ltb 0 (length (raw ∷ p.behind)) (omega arith))
+              ∙ ap (λ l. nat_lt 0 (length l)) (sym whole);
+          begun = subst (λ l. AreBegun returns l (new_raw ∷ news)) (sym whole) (inr in-place);
+          alike = subst (λ l. AreAlike options l (new_raw ∷ news))
+              (sym (whole ∙ ap (λ l. raw ∷ l) p.walked.whole))
+              (alike-append options (raw ∷ p.walked.done) (new_raw ∷ later_lines) p.walked.left later.again
+              (record {
+                shown = marks_shown ++ words_of_lines (here ∷ lines);
+                these = old_lines.0;
+                those = rw (n.spells ∙ sym parts) at new_lines.0;
+                alone = λ plain. new_lines.1 plain ∙ sym (old_lines.1 plain);
+              }) later.alike);
+        }
 
   abbrev FillsBack : LineText → Type 0
   FillsBack l =
@@ -276,7 +287,7 @@ module _ (options : ReflowOptions) (returns : Bool) (told : IsTold options.endin
       → AreOfBlocksAny options returns told (is_beside l bs) bs back
       → Walks options returns told (is_beside l bs) bs → IsSafe options state → All IsFeedless raws
       → All IsFeedlessLine (l ∷ lines)
-      → IsReadBack options returns told state beside ((l ∷ lines) ∷ bs) raws (front ++ back)
+      → IsReadBack options returns told state beside [] ((l ∷ lines) ∷ bs) raws (front ++ back)
 
   filled-here : FillsBack here
   filled-here = λ front back raws whole blocks stay (division, divided, is) laid walks safe free lines_free.
@@ -286,10 +297,29 @@ module _ (options : ReflowOptions) (returns : Bool) (told : IsTold options.endin
       let behind = behind_text block_here here.hanging final.words in
       let free_left : All IsFeedless p.walked.left = all-right IsFeedless p.walked.done p.walked.left
       (subst (All IsFeedless) p.walked.whole (All-tail IsFeedless raw p.behind (subst (All IsFeedless) whole free))) in
-      let printed_is = is ∙ ap (λ l. printed (ending options returns told) here.prefix here.hanging l
-      ++ filled_end (ending options returns told) (here ∷ lines)) shown in
-      filled-division front back ls wide raws whole blocks stay printed_is cut safe lines_free
+      by ls wide front back raws whole blocks stay cut
+      (is ∙ ap (λ l. printed (ending options returns told) here.prefix
+      here.hanging l ++ filled_end (ending options returns told) (here ∷ lines)) shown) safe lines_free
       (walks behind p.walked.left back p.walked.reads laid (safe-none options behind refl) free_left)
+    where
+      by : (ls : List (List (List ℕ))) (wide : ℕ → ℕ → ℕ) (front back : List ℕ) (raws : List (List ℕ))
+          → raws ≡ raw ∷ p.behind → AreBlocks ((here ∷ lines) ∷ bs)
+          → stays (beside || is_beside here bs) here ≡ false
+          → AreCutInto options here.starred (words_of_lines (here ∷ lines)) ls
+          → front ≡ printed (ending options returns told) here.prefix here.hanging
+          (all_shown options.justify wide ls) ++ filled_end (ending options returns told) (here ∷ lines)
+          → IsSafe options state → All IsFeedlessLine (here ∷ lines)
+          → IsReadBack options returns told (behind_text block_here here.hanging final.words)
+          (is_beside here bs) [] bs p.walked.left back
+          → IsReadBack options returns told state beside [] ((here ∷ lines) ∷ bs) raws (front ++ back)
+      by [] wide front back raws whole blocks stay cut is safe free later =
+          absurd (omega (arith, p.walked.words_some, ap length cut))
+      by ([] ∷ ls) wide front back raws whole blocks stay (behind, some, parts, may, cut) is safe free later =
+          absurd (some refl)
+      by ((word ∷ words) ∷ ls) wide front back raws whole blocks stay (behind, some, parts, may, cut) is safe
+          free later =
+          filled-lines wide word words behind ls may cut parts back later front raws whole blocks stay
+          is safe free
 
   -- the same of the line that is read
   pub filled-step : FillsBack first

@@ -1,25 +1,21 @@
 -- The printed lines of a division are lines of the paragraph's words, with blanks between them.
-use Rattle.textwrap_display.proofs.Common.{◌%◌, widened_words, indent_len, justified, gaps, line_bytes, Slice}
-use Rattle.textwrap_display.proofs.Common.{chunks, chunks-from, words_of, tiled}
+use Rattle.textwrap_display.proofs.Common.{widened_words, chunks-from, indent_len, line_bytes, justified, ◌%◌}
+use Rattle.textwrap_display.proofs.Common.{words_of, chunks, Slice, tiled, gaps}
 use Rattle.textwrap_display.proofs.WidenedWords.{widened_chunks, widened-text}
 use Rattle.textwrap_marked.proofs.PrintedLines.{texts_more}
-use Rattle.textwrap_marked_laws.proofs.Common.{ReflowOptions, append_assoc, shown_lines, IsDivision, all-right}
-use Rattle.textwrap_marked_laws.proofs.Common.{all-left, is_blank, covered, word_of, blanks, get_or, length, ℕ}
-use Rattle.textwrap_marked_laws.proofs.Common.{append-nil, first_room, later_room, line_texts, onto_first, All}
-use Rattle.textwrap_marked_laws.proofs.Common.{cond, drop, flat, refl, take, true, ◌&&◌, ◌++◌, ◌==◌, ◌||◌, map}
-use Rattle.textwrap_marked_laws.proofs.Common.{nat_lt, ne_eqb, pieces, arith, blank, false, subst, Bool, List}
-use Rattle.textwrap_marked_laws.proofs.Common.{not, sym, ◌+◌, ◌-◌, ◌<◌, ◌∙◌, ◌∷◌, ◌≡◌, ◌≢◌, ◌≤◌, [], ap}
-use Rattle.textwrap_marked_laws.proofs.Common.{text_width, line_text, All-head, All-tail, LineText, WordText}
-use Rattle.textwrap_marked_laws.proofs.LineWords.{division-words, AreCutInto, all_shown, ink-blank, joined}
-use Rattle.textwrap_marked_laws.proofs.{LineWords.shown, SpacedBack.IsPlain, SpacedBack.IsInk}
 use Rattle.textwrap_text.proofs.Common.{cond_both, eq-eqb, min, ◌/◌}
+use Rattle.textwrap_marked_laws.proofs as own
+use own.Common.{LineText, WordText, all-left, is_blank, covered, word_of, blanks, get_or, length, nat_lt, not}
+use own.Common.{ReflowOptions, append_assoc, shown_lines, IsDivision, append-nil, cases_Bool, first_room, All}
+use own.Common.{later_room, line_texts, onto_first, text_width, all-right, line_text, All-head, All-tail, map}
+use own.Common.{ne_eqb, pieces, arith, blank, false, subst, Bool, List, cond, drop, flat, refl, take, true, ℕ}
+use own.{Common.{◌++◌, ◌==◌, ◌||◌, sym, ◌+◌, ◌-◌, ◌<◌, ◌∙◌, ◌∷◌, ◌≡◌, ◌≢◌, ◌≤◌, [], ap}, SpacedBack.IsInk}
+use own.{LineWords.{division-words, AreCutInto, all_shown, ink-blank, joined, shown}, SpacedBack.IsPlain}
 
 -- ---- the chunks of a line
 
 ink-onto : (c x : ℕ) (xs : List ℕ) → IsInk c → chunks (c ∷ x ∷ xs) ≡ onto_first c (chunks (x ∷ xs))
-ink-onto c x xs ink =
-    ap (λ b. cond (b && not (is_blank x)) ((c ∷ []) ∷ chunks (x ∷ xs)) (onto_first c (chunks (x ∷ xs))))
-    (ink-blank c ink)
+ink-onto c x xs ink = grind (arith, cases_Bool, ink-blank)
 
 chunks-one : (c : ℕ) (cs : List ℕ) → All IsInk (c ∷ cs) → chunks (c ∷ cs) ≡ (c ∷ cs) ∷ []
 chunks-one c [] ink = refl
@@ -133,9 +129,7 @@ all-same : (wide other : ℕ → ℕ → ℕ) (lines : List (List (List ℕ)))
     → ((n : ℕ) → n < length lines → other n ≡ wide n) → all_shown true other lines ≡ all_shown true wide lines
 all-same wide other [] same = refl
 all-same wide other (words ∷ lines) same =
-    ap (λ more. shown true more words ∷ all_shown true other lines) (same (length lines) (omega arith))
-    ∙ ap (λ l. shown true (wide (length lines)) words ∷ l)
-    (all-same wide other lines (λ n less. same n (omega (arith, less))))
+    grind (arith, cases_Bool, all-same wide other lines (λ n less. same n (omega (arith, less))))
 
 abbrev AreShown : Bool → List (List ℕ) → List (List (List ℕ)) → Type 0
 AreShown justify texts lines = (wide : ℕ → ℕ → ℕ) × (texts ≡ all_shown justify wide lines)
@@ -169,8 +163,7 @@ module _ (options : ReflowOptions) (starred : Bool) where
       let each = subst (All IsPlain) parts plain in
       subst (λ texts. AreShown true texts (own ∷ lines)) (sym (texts_more true room later line division))
       (more-shown (line_text (nat_lt 0 (length division)) room line) (line_texts true later later division)
-      own lines
-      (line-shown (nat_lt 0 (length division)) room line own some (all-left IsPlain own behind each)
+      own lines (line-shown (nat_lt 0 (length division)) room line own some (all-left IsPlain own behind each)
       (ap (λ l. get_or l 0 []) is))
       (widened-lines later later division behind lines (all-right IsPlain own behind each) cut
       (ap (drop 1) is)))

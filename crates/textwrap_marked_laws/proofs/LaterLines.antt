@@ -1,16 +1,15 @@
 -- Lines of a paragraph, and lines of other words behind the same marks.
-use Rattle.textwrap_marked_laws.proofs.Common.{StateText, has_words, is_bullet, LineText, bytes_eq, is_ended, []}
-use Rattle.textwrap_marked_laws.proofs.Common.{closes_early, line_as_read, begins_text, bullets_len, has_columns}
-use Rattle.textwrap_marked_laws.proofs.Common.{flat_map-append, hanging_bullets, without_returns, ReflowOptions}
-use Rattle.textwrap_marked_laws.proofs.Common.{is_comment_at, length-append, append_assoc, closes_block, is_box}
-use Rattle.textwrap_marked_laws.proofs.Common.{is_quote, length, passed, arith, codes, false, subst, List, cond}
-use Rattle.textwrap_marked_laws.proofs.Common.{refl, true, ◌&&◌, ◌++◌, suc, sym, ◌+◌, ◌<◌, ◌∙◌, ◌∷◌, ◌≡◌, ap, ℕ}
-use Rattle.textwrap_marked_laws.proofs.Common.{spaced_text, SpacedText, first_word, quotes_len, true≢false, Bool}
-use Rattle.textwrap_marked_laws.proofs.{HangingKinds.{quotes-all, quotes-are}, LineKinds.{hanging_of, HaveKinds}}
-use Rattle.textwrap_marked_laws.proofs.LineKinds.{kinds-cut, line-is, line_by, none-if, one_if, Kinds, kinds}
-use Rattle.textwrap_marked_laws.proofs.OpenBehind.{behind-free, behind_text, apart-free, starred_at, block_at}
-use Rattle.textwrap_marked_laws.proofs.{OpenBehind.begun, SpacedBack.{IsLineText, AreSpaced, line-text}}
 use Rattle.textwrap_marked_lines.proofs.FirstWords.{comment_is}
+use Rattle.textwrap_text.proofs.Common.{rules}
+use Rattle.textwrap_marked_laws.proofs as own
+use own.Common.{Bool, List, cond, refl, true, ◌&&◌, ◌++◌, suc, sym, ◌+◌, ◌<◌, ◌∙◌, ◌∷◌, ◌≡◌, [], ap, ℕ}
+use own.Common.{flat_map-append, hanging_bullets, without_returns, ReflowOptions, is_comment_at, append_assoc}
+use own.Common.{has_columns, spaced_text, cases_Bool, first_word, quotes_len, true≢false, StateText, LineText}
+use own.Common.{has_words, is_bullet, bytes_eq, is_ended, is_box, length, passed, arith, codes, false, subst}
+use own.Common.{length-append, closes_block, closes_early, line_as_read, begins_text, bullets_len, SpacedText}
+use own.LineKinds.{hanging_of, HaveKinds, kinds-cut, line-is, line_by, none-if, one_if, Kinds, kinds}
+use own.OpenBehind.{behind-free, behind_text, apart-free, starred_at, block_at, begun}
+use own.{HangingForms.{quotes-all, quotes-are}, SpacedBack.{IsLineText, AreSpaced, line-text}}
 
 -- ---- what is read of a line
 
@@ -48,11 +47,18 @@ module _ (options : ReflowOptions) (state : StateText) (raw : List ℕ) (r : IsR
   abbrev pub read_kinds : Kinds
   read_kinds = kinds r.lead r.cs r.qs r.bs r.ws
 
+  -- the line that is read, and whether it is in a block comment
+  abbrev pub read_as : Bool → LineText
+  read_as fed = line_by options state raw fed read_kinds
+
+  abbrev pub read_block : Bool
+  read_block = block_at state read_kinds
+
   -- the marks before the text
   abbrev pub read_marks : List SpacedText
   read_marks = r.cs ++ (r.qs ++ r.bs)
 
-  pub read-line : (fed : Bool) → line_as_read options state raw fed ≡ line_by options state raw fed read_kinds
+  pub read-line : (fed : Bool) → line_as_read options state raw fed ≡ read_as fed
   read-line fed = line-is r.lead r.cs r.qs r.bs r.ws options state raw fed r.text r.have
 
   pub read-spaced : AreSpaced (read_marks ++ r.ws)
@@ -60,10 +66,7 @@ module _ (options : ReflowOptions) (state : StateText) (raw : List ℕ) (r : IsR
 
   -- a line is its prefix and its text
   pub read-split : without_returns raw ≡ (r.lead ++ spaced_text read_marks) ++ spaced_text r.ws
-  read-split =
-      r.text.is ∙ ap (λ l. r.lead ++ spaced_text l) (regroup r.cs r.qs r.bs r.ws)
-      ∙ ap (λ l. r.lead ++ l) (text-parts read_marks r.ws)
-      ∙ sym (append_assoc r.lead (spaced_text read_marks) (spaced_text r.ws))
+  read-split = grind (arith, cases_Bool, text-parts, append_assoc)
 
 -- a line of a paragraph with this hanging form, in a block comment or not
 pub record IsOfText (options : ReflowOptions) (in_block : Bool) (hanging : List ℕ) (state : StateText)
@@ -112,37 +115,24 @@ quote-none : (xs bs : List SpacedText) → 0 < length xs → quotes_len xs ≡ 0
     → first_word xs ≡ first_word bs → quotes_len bs ≡ 0
 quote-none [] bs some none same = absurd (omega (arith, some))
 quote-none (a ∷ xs) [] some none same = refl
-quote-none (a ∷ xs) (b ∷ bs) some none same =
-    ap (λ t. cond t (suc (quotes_len bs)) 0)
-    (ap is_quote (sym same) ∙ none-if (is_quote a.word) (quotes_len xs) 0 none)
+quote-none (a ∷ xs) (b ∷ bs) some none same = grind (arith, cases_Bool, none-if)
 
 -- no bullet begins these words
 pub bullets-none : (w : SpacedText) (ws : List SpacedText) → is_bullet w.word ≡ false
     → bytes_eq w.word (codes "[") ≡ false → bullets_len (w ∷ ws) ≡ 0
 bullets-none w [] none box = ap one_if none
-bullets-none w (v ∷ ws) none box =
-    ap (λ b. cond b (suc (bullets_len (v ∷ ws))) (cond (is_box w v) (suc (suc (bullets_len ws))) 0)) none
-    ∙ ap (λ b. cond (b && bytes_eq w.white (codes " ") && bytes_eq v.word (codes "]"))
-    (suc (suc (bullets_len ws))) 0) box
+bullets-none w (v ∷ ws) none box = grind (arith, cases_Bool)
 
 bullet-none : (xs bs : List SpacedText) → 0 < length xs → bullets_len xs ≡ 0
-    → first_word xs ≡ first_word bs → bytes_eq (first_word xs) (codes "[") ≡ false
-    → bullets_len bs ≡ 0
+    → first_word xs ≡ first_word bs → bytes_eq (first_word xs) (codes "[") ≡ false → bullets_len bs ≡ 0
 bullet-none [] bs some none same box = absurd (omega (arith, some))
 bullet-none (a ∷ xs) [] some none same box = refl
-bullet-none (a ∷ xs) (b ∷ bs) some none same box =
-    bullets-none b bs (ap is_bullet (sym same) ∙ first xs none)
-    (ap (λ w. bytes_eq w (codes "[")) (sym same) ∙ box)
-  where
-    first : (xs : List SpacedText) → bullets_len (a ∷ xs) ≡ 0 → is_bullet a.word ≡ false
-    first [] is = none-if (is_bullet a.word) 0 0 is
-    first (v ∷ xs) is = none-if (is_bullet a.word) (bullets_len (v ∷ xs)) _ is
+bullet-none (a ∷ xs) (b ∷ bs) some none same box = search (rules, arith, bullets-none, none-if)
 
 abbrev bullets_by : SpacedText → SpacedText → List SpacedText → Bool → Bool → ℕ
 bullets_by b c ws t u = cond t (suc (bullets_len (c ∷ ws))) (cond u (suc (suc (bullets_len ws))) 0)
 
-pub one-bullet : (t u : Bool) (n m : ℕ) → cond t (suc n) (cond u (suc (suc m)) 0) ≡ 1
-    → (t ≡ true) × (n ≡ 0)
+pub one-bullet : (t u : Bool) (n m : ℕ) → cond t (suc n) (cond u (suc (suc m)) 0) ≡ 1 → (t ≡ true) × (n ≡ 0)
 one-bullet true u n m is = (refl, omega (arith, is))
 one-bullet false true n m is = absurd (omega (arith, is))
 one-bullet false false n m is = absurd (omega (arith, is))
@@ -153,15 +143,7 @@ bullets-same : (bs xs others : List SpacedText) → 0 < length xs
     → bullets_len (bs ++ others) ≡ length bs
 bullets-same [] xs others some none is = none is
 bullets-same (b ∷ []) [] others some none is = absurd (omega (arith, some))
-bullets-same (b ∷ []) (a ∷ xs) others some none is =
-    let (first, len) =
-    one-bullet (is_bullet b.word) (is_box b a) (bullets_len (a ∷ xs)) (bullets_len xs) is in
-    one others first (none len)
-  where
-    one : (others : List SpacedText) → is_bullet b.word ≡ true → bullets_len others ≡ 0
-        → bullets_len (b ∷ others) ≡ 1
-    one [] first none = ap one_if first
-    one (v ∷ others) first none = ap (λ t. bullets_by b v others t (is_box b v)) first ∙ ap suc none
+bullets-same (b ∷ []) (a ∷ xs) others some none is = search (rules, arith, one-bullet)
 bullets-same (b ∷ c ∷ bs) xs others some none is =
     cut (is_bullet b.word) (is_box b c) (bullets-same (c ∷ bs) xs others some none)
     (bullets-same bs xs others some none) is

@@ -1,18 +1,16 @@
 -- What is read of a line, from its words by kind: a comment mark, quote marks, bullets and text.
 use Rattle.std.proofs.Common.{length-take-le, drop_at, eq-eqb}
-use Rattle.textwrap_marked_laws.proofs.Common.{append-nil, cases_Bool, first_word, quotes_len, LineText, is_deep}
-use Rattle.textwrap_marked_laws.proofs.Common.{bullets_len, comment_len, slice_range, spaced_text, SpacedText, ℕ}
-use Rattle.textwrap_marked_laws.proofs.Common.{closes_block, line_as_read, spaced_words, stands_apart, is_bullet}
-use Rattle.textwrap_marked_laws.proofs.Common.{flat_map-append, hanging_bullets, line_from_words, ReflowOptions}
-use Rattle.textwrap_marked_laws.proofs.Common.{has_byte, is_ended, list_any, is_some, take_at, is_box, is_key}
-use Rattle.textwrap_marked_laws.proofs.Common.{is_comment_opening, hanging_comments, take-append-drop, StateText}
-use Rattle.textwrap_marked_laws.proofs.Common.{length, lt-ltb, ne_eqb, arith, false, List, cond, drop, refl, not}
-use Rattle.textwrap_marked_laws.proofs.Common.{take, true, ◌&&◌, ◌++◌, ◌==◌, ◌||◌, suc, sym, ◌+◌, ◌-◌, ◌∙◌, ◌∷◌}
-use Rattle.textwrap_marked_laws.proofs.Common.{without_returns, is_comment_at, length-append, append_assoc, Bool}
-use Rattle.textwrap_marked_laws.proofs.{Common.◌≡◌, Common.◌≤◌, Common.[], Common.ap, SpacedBack.begins-plain}
-use Rattle.textwrap_marked_laws.proofs.SpacedBack.{BeginsPlain, IsLineText, lead_words, line-back, with_lead}
-use Rattle.textwrap_marked_lines.specs.{Lines.is_chosen, Prefixes.prefix_ends, Prefixes.lead_len}
-use Rattle.textwrap_marked_lines.specs.declared.prefixes.PrefixEnds.{PrefixEnds}
+use Rattle.textwrap_marked_lines.specs.Prefixes.{prefix_ends, lead_len}
+use Rattle.textwrap_marked_lines.{specs.Lines.is_chosen, specs.declared.prefixes.PrefixEnds.PrefixEnds}
+use Rattle.textwrap_marked_laws.proofs as own
+use own.Common.{LineText, has_byte, is_ended, list_any, is_deep, is_some, take_at, is_box, is_key, length, []}
+use own.Common.{closes_block, line_as_read, spaced_words, stands_apart, bullets_len, comment_len, slice_range}
+use own.Common.{is_comment_opening, hanging_comments, take-append-drop, flat_map-append, hanging_bullets, not}
+use own.Common.{line_from_words, without_returns, ReflowOptions, is_comment_at, length-append, append_assoc}
+use own.Common.{lt-ltb, ne_eqb, arith, false, Bool, List, cond, drop, refl, take, true, ◌&&◌, ◌++◌, ◌==◌, suc}
+use own.Common.{spaced_text, SpacedText, append-nil, cases_Bool, first_word, quotes_len, StateText, is_bullet}
+use own.Common.{◌||◌, sym, ◌+◌, ◌-◌, ◌<◌, ◌∙◌, ◌∷◌, ◌≡◌, ◌≤◌, ap, ℕ}
+use own.SpacedBack.{begins-plain, BeginsPlain, IsLineText, lead_words, line-back, with_lead}
 
 -- ---- what is read of words by kind
 
@@ -71,8 +69,7 @@ cut_kinds all ends = record {
   bare = ends.margin == ends.text;
 }
 
-abbrev pub kinds : List ℕ → List SpacedText → List SpacedText → List SpacedText → List SpacedText
-    → Kinds
+abbrev pub kinds : List ℕ → List SpacedText → List SpacedText → List SpacedText → List SpacedText → Kinds
 kinds lead comments quotes bullets words = record {
   lead = lead;
   comments = comments;
@@ -165,17 +162,11 @@ module _ (lead : List ℕ) (cs qs bs ws : List SpacedText) where
 
   text-before : (front rest ks : List SpacedText) → all ≡ front ++ rest → front ≡ lead_words lead ++ ks
       → spaced_text (take (length front) all) ≡ lead ++ spaced_text ks
-  text-before front rest ks is parts =
-      ap spaced_text (ap (take (length front)) is ∙ take_at front rest (length front) refl ∙ parts)
-      ∙ flat_map-append (λ w. w.word ++ w.white) (lead_words lead) ks
-      ∙ ap (λ t. t ++ spaced_text ks) (lead-text lead)
+  text-before front rest ks is parts = grind (arith, cases_Bool, take_at, flat_map-append, lead-text)
 
   no-bullets : (xs : List SpacedText) → (length to_bullets == length (to_bullets ++ xs)) ≡ (length xs == 0)
   no-bullets [] = eq-eqb (length to_bullets) (length (to_bullets ++ [])) (omega (arith, length-append to_bullets []))
-  no-bullets (x ∷ xs) =
-      ne_eqb (length to_bullets) (length (to_bullets ++ (x ∷ xs)))
-      (λ e. omega (arith, e, length-append to_bullets (x ∷ xs)))
-      ∙ sym (ne_eqb (length (x ∷ xs)) 0 (λ e. omega (arith, e)))
+  no-bullets (x ∷ xs) = grind (arith, cases_Bool, ne_eqb, length-append)
 
   cut-is : cut_kinds all all_ends ≡ kinds lead cs qs bs ws
   cut-is = λ i. record {
@@ -210,8 +201,7 @@ module _ (lead : List ℕ) (cs qs bs ws : List SpacedText) where
 
   -- the line that is read of such words
   pub line-is : (options : ReflowOptions) (state : StateText) (raw : List ℕ) (fed : Bool)
-      → IsLineText (without_returns raw) lead all_words
-      → HaveKinds options state.in_block cs qs bs ws
+      → IsLineText (without_returns raw) lead all_words → HaveKinds options state.in_block cs qs bs ws
       → line_as_read options state raw fed ≡ line_by options state raw fed (kinds lead cs qs bs ws)
   line-is options state raw fed is have =
       ap (λ a. line_from_words options state raw fed a (prefix_ends options state.in_block a))
@@ -235,27 +225,33 @@ cut-at count ws few = (
   sym (length-take-le (count ws) ws few),
 )
 
-if-few : (b : Bool) (n m most : ℕ) → n ≤ most → m ≤ most → cond b n m ≤ most
-if-few true n m most few less = few
-if-few false n m most few less = less
+pub comment-most : (options : ReflowOptions) (in_block : Bool) (ws : List SpacedText)
+    → comment_len options in_block ws ≤ 1
+comment-most options in_block [] = omega arith
+comment-most options in_block (w ∷ ws) =
+    elim (is_comment_at options in_block w.word) as (λ b. one_if b ≤ 1) [
+      | true ↦ omega arith
+      | false ↦ omega arith
+    ]
 
 comment-few : (options : ReflowOptions) (in_block : Bool) (ws : List SpacedText)
     → comment_len options in_block ws ≤ length ws
 comment-few options in_block [] = omega arith
-comment-few options in_block (w ∷ ws) =
-    if-few (is_comment_at options in_block w.word) 1 0 (length (w ∷ ws)) (omega arith) (omega arith)
+comment-few options in_block (w ∷ ws) = omega (arith, comment-most options in_block (w ∷ ws))
 
 quotes-few : (ws : List SpacedText) → quotes_len ws ≤ length ws
 quotes-few [] = omega arith
 quotes-few (w ∷ ws) = grind (arith, cases_Bool, quotes-few ws)
 
+few : (t u : Bool) (n m most : ℕ) → n < most → m + 1 < most → cond t (suc n) (cond u (suc (suc m)) 0) ≤ most
+few t u n m most one two = grind (arith, cases_Bool)
+
 bullets-few : (ws : List SpacedText) → bullets_len ws ≤ length ws
 bullets-few [] = omega arith
 bullets-few (w ∷ []) = grind (arith, cases_Bool)
 bullets-few (w ∷ v ∷ ws) =
-    let most = length (w ∷ v ∷ ws) in
-    if-few (is_bullet w.word) (suc (bullets_len (v ∷ ws))) _ most (omega (arith, bullets-few (v ∷ ws)))
-    (if-few (is_box w v) (suc (suc (bullets_len ws))) 0 most (omega (arith, bullets-few ws)) (omega arith))
+    few (is_bullet w.word) (is_box w v) (bullets_len (v ∷ ws)) (bullets_len ws) (length (w ∷ v ∷ ws))
+    (omega (arith, bullets-few (v ∷ ws))) (omega (arith, bullets-few ws))
 
 pub kinds-cut : (options : ReflowOptions) (in_block : Bool) (ws : List SpacedText)
     → (cs : List SpacedText) × (qs : List SpacedText) × (bs : List SpacedText)

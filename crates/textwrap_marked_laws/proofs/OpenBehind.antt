@@ -1,41 +1,38 @@
 -- What is open behind a line that does not stand apart, and which lines do not.
-use Rattle.std.specs.Str.{chars}
-use Rattle.textwrap_marked_laws.proofs.Common.{ReflowOptions, closes_block, closes_early, stands_apart, Option}
-use Rattle.textwrap_marked_laws.proofs.Common.{begins_text, has_columns, starts_with, All-weaker, SpacedText}
-use Rattle.textwrap_marked_laws.proofs.Common.{cases_Bool, first_word, has_letter, option_map, prefix_len, All}
-use Rattle.textwrap_marked_laws.proofs.Common.{contains, eqb-true, has_byte, list_any, marks_of, none-any, not}
-use Rattle.textwrap_marked_laws.proofs.Common.{deeper_by, has_words, nat_tests, new_fence, any-none, bytes_eq}
-use Rattle.textwrap_marked_laws.proofs.Common.{false_from_ne_true, words_before_last, is_column_word, LineText}
-use Rattle.textwrap_marked_laws.proofs.Common.{is_deep, is_some, or-left, length, nat_eq, nat_lt, ne_eqb, Bool}
-use Rattle.textwrap_marked_laws.proofs.Common.{passed, arith, codes, false, List, None, Some, cond, drop, refl}
-use Rattle.textwrap_marked_laws.proofs.Common.{told-apart, true≢false, FenceText, StateText, and-false, is_key}
-use Rattle.textwrap_marked_laws.proofs.Common.{true, ◌&&◌, ◌==◌, ◌||◌, sym, ◌∙◌, ◌∷◌, ◌≡◌, [], ap, ℕ}
-use Rattle.textwrap_marked_laws.proofs.LineKinds.{has_opening_in, hanging_of, line_by, Kinds}
-use Rattle.textwrap_marked_lines.specs.Lines.{is_in_block, is_prompted, new_before, is_before, new_by}
+use Rattle.std.{proofs.Common.nat_le, specs.Str.chars}
 use Rattle.textwrap_marked_lines.specs.Fences.{opens_attribute, opens_formula, has_pre_end, opened_by, opened}
 use Rattle.textwrap_marked_lines.specs.Fences.{run_of}
-use Rattle.textwrap_marks.specs.Signs.{is_comment_behind, opens_session, any_contains, is_directive}
-use Rattle.textwrap_marks.specs.Signs.{is_for_tools, is_sign_byte, opens_code, is_sign, is_gap}
-use Rattle.textwrap_marked_lines.specs.declared.fences.FenceKind.{FenceKind}
+use Rattle.textwrap_marked_lines.specs.Lines.{begins_code, is_in_block, is_prompted, new_before, is_before}
 use Rattle.textwrap_marked_lines.specs.declared.fences.FenceKind.TheVariants.{Attribute, Formula, Code, Pre}
-use Rattle.textwrap_marks.proofs.Letterless.{no-session}
-use Rattle.textwrap_marked_lines.specs.Columns.{depth_of}
-use Rattle.textwrap_text.proofs.Common.{slice_index, and_parts}
+use Rattle.textwrap_marked_lines.specs.declared.fences.FenceKind.{FenceKind}
+use Rattle.textwrap_marked_lines.{specs.Columns.{DepthText, is_deeper, depth_of}, specs.Lines.new_by}
+use Rattle.textwrap_marks.proofs.ListLemmas.{or-right}
+use Rattle.textwrap_marks.specs.Signs.{any_contains, is_rule_characters, opens_session, is_directive, opens_code}
+use Rattle.textwrap_marks.specs.Signs.{is_rule}
+use Rattle.textwrap_marks.{proofs.Letterless.no-session, specs.Signs.is_sign, specs.Words.is_letter_or_digit}
+use Rattle.textwrap_text.proofs.Common.{slice_index, and_parts, list_all, not-true, rules}
+use Rattle.textwrap_marked_laws.proofs as own
+use own.Common.{Option, is_key, length, nat_eq, nat_lt, ne_eqb, passed, codes, false, Bool, List, None, Some}
+use own.Common.{StateText, and-false, deeper_by, has_words, nat_tests, new_fence, LineText, any-none, is_deep}
+use own.Common.{bytes_eq, contains, eqb-true, has_byte, list_any, marks_of, none-any, is_some, or-left, arith}
+use own.Common.{cases_Bool, first_word, has_letter, option_map, prefix_len, told-apart, true≢false, FenceText}
+use own.Common.{closes_block, closes_early, begins_text, has_columns, starts_with, All-weaker, SpacedText, []}
+use own.Common.{cond, refl, true, ◌&&◌, ◌==◌, ◌||◌, All, not, sym, ◌-◌, ◌<◌, ◌∙◌, ◌∷◌, ◌≡◌, ap, ℕ}
+use own.Common.{false_from_ne_true, bytes_eq-Decides, opens_paragraph, is_column_word, ReflowOptions, goes_on}
+use own.LineKinds.{has_opening_in, hanging_of, line_by, Kinds}
 
 -- ---- the first word of a text
 
-and-three : (a b c : Bool) → (a && not b && c) ≡ true → (a ≡ true) × (b ≡ false)
-and-three a b c is = grind (arith, cases_Bool)
-
-pub text-letter : (starred : Bool) (word : List ℕ) → begins_text starred word ≡ true
-    → has_letter word ≡ true
+pub text-letter : (starred : Bool) (word : List ℕ) → begins_text starred word ≡ true → has_letter word ≡ true
 text-letter starred word is =
-    (and-three (has_letter word) (is_sign word) (not (starred && slice_index word 0 == 42)) is).0
+    (and_parts (has_letter word) (not (is_sign word))
+    (and_parts (has_letter word && not (is_sign word)) _ is).0).0
 
-pub text-no-sign : (starred : Bool) (word : List ℕ) → begins_text starred word ≡ true
-    → is_sign word ≡ false
+pub text-no-sign : (starred : Bool) (word : List ℕ) → begins_text starred word ≡ true → is_sign word ≡ false
 text-no-sign starred word is =
-    (and-three (has_letter word) (is_sign word) (not (starred && slice_index word 0 == 42)) is).1
+    not-true (is_sign word)
+    (and_parts (has_letter word) (not (is_sign word))
+    (and_parts (has_letter word && not (is_sign word)) _ is).0).1
 
 -- it is none of the texts that have no letter
 pub text-other : (starred : Bool) (word other : List ℕ) → begins_text starred word ≡ true
@@ -52,40 +49,17 @@ three mark (a ∷ []) long = grind (arith, nat_tests, cases_Bool)
 three mark (a ∷ b ∷ []) long = grind (arith, nat_tests, cases_Bool)
 three mark (a ∷ b ∷ c ∷ word) long = grind (arith, nat_tests, cases_Bool)
 
-parts : (a b c d e f : Bool) → (a || b || c || d || e || f) ≡ false
-    → (d ≡ false) × (e ≡ false) × (f ≡ false)
-parts a b c d e f is = grind (arith, cases_Bool)
-
-sign-parts : (word : List ℕ) → is_sign word ≡ false
-    → (starts_with nat_eq word (codes "```") ≡ false)
-    × (starts_with nat_eq word (codes "~~~") ≡ false) × (is_directive word ≡ false)
-sign-parts word none =
-    parts (is_sign_byte (slice_index word 0)) (starts_with nat_eq word (codes "//"))
-    (starts_with nat_eq word (codes "/*")) (starts_with nat_eq word (codes "```"))
-    (starts_with nat_eq word (codes "~~~")) (is_directive word) none
-
--- nor a formula or code
-no-code : (word : List ℕ) → is_sign word ≡ false
-    → (starts_with nat_eq word (codes "$$") ≡ false) × (opens_code word ≡ false)
-no-code word none =
-    let (tools, formula, code) = parts (starts_with nat_eq word (codes "[!"))
-    (starts_with nat_eq word (codes "[TOC]")) (starts_with nat_eq word (codes ":::")) (is_for_tools word)
-    (starts_with nat_eq word (codes "$$")) (opens_code word) (sign-parts word none).2 in (formula, code)
-
-no-formula : (words : List SpacedText) → is_sign (first_word words) ≡ false
-    → opens_formula words ≡ false
+-- nor a formula
+no-formula : (words : List SpacedText) → is_sign (first_word words) ≡ false → opens_formula words ≡ false
 no-formula [] none = refl
-no-formula (w ∷ ws) none =
-    ap (λ b. cond b (not (contains (codes "$$") (drop 2 w.word)) && not (any_contains (codes "$$") ws))
-    false) (no-code w.word none).0
+no-formula (w ∷ ws) none = search (rules, arith, or-right, or-left)
 
 -- nor an attribute
 hash : (word : List ℕ) → is_sign word ≡ false → starts_with nat_eq word (codes "#[") ≡ false
 hash [] none = refl
 hash (c ∷ word) none = grind (arith, nat_tests, cases_Bool)
 
-no-attribute : (words : List SpacedText) → is_sign (first_word words) ≡ false
-    → opens_attribute words ≡ false
+no-attribute : (words : List SpacedText) → is_sign (first_word words) ≡ false → opens_attribute words ≡ false
 no-attribute words none = ap (λ b. b && any_contains (codes "\"```") words) (hash (first_word words) none)
 
 run-none : (word : List ℕ) → is_sign word ≡ false → run_of word ≡ None
@@ -104,48 +78,32 @@ run-none word none =
         cut : (b : Bool) → (mark == 96) ≡ b → (b || mark == 126) ≡ true → ⊥
         cut true same either =
             true≢false (sym starts ∙ ap (λ m. starts_with nat_eq word (m ∷ m ∷ m ∷ []))
-            (eqb-true mark 96 same) ∙ (sign-parts word none).0)
+            (eqb-true mark 96 same) ∙ or-right _ _ (or-left _ _ (or-left _ (is_directive word) none)))
         cut false same either =
             true≢false (sym starts ∙ ap (λ m. starts_with nat_eq word (m ∷ m ∷ m ∷ []))
-            (eqb-true mark 126 either) ∙ (sign-parts word none).1)
+            (eqb-true mark 126 either) ∙ or-right _ _ (or-left _ (is_directive word) none))
 
 pub no-columns : (justify : Bool) (words : List SpacedText) → has_columns justify words ≡ false
     → All (λ w. is_column_word w.word ≡ false) words
-no-columns justify words none =
-    any-none (λ w. is_column_word w.word) words
-    (or-left (list_any (λ w. is_column_word w.word) words)
-    (list_any (is_gap justify) (words_before_last words)) none)
-
-column-none : (word : List ℕ) → is_column_word word ≡ false
-    → (has_byte 13 word ≡ false) × (contains (codes "<pre") word ≡ false)
-column-none word none =
-    let (return, label, pre) = parts (bytes_eq word (codes "|")) (bytes_eq word (codes "="))
-    (is_comment_behind word) (has_byte 13 word) (contains (codes "]:") word)
-    (contains (codes "<pre") word) none in (return, pre)
+no-columns justify words none = grind (arith, cases_Bool, any-none, or-left)
 
 pub no-return : (word : List ℕ) → is_column_word word ≡ false → has_byte 13 word ≡ false
-no-return word none = (column-none word none).0
+no-return word none = or-right _ _ (or-left _ _ (or-left _ (contains (codes "<pre") word) none))
 
--- the fence of words that neither have `<pre` nor open code
-abbrev other_fence : List SpacedText → Option FenceKind
-other_fence words =
-    cond (opens_formula words) (Some Formula) (cond (opens_attribute words) (Some Attribute) None)
-
-pub opened-none : (starred : Bool) (words : List SpacedText)
-    → begins_text starred (first_word words) ≡ true
+pub opened-none : (starred : Bool) (words : List SpacedText) → begins_text starred (first_word words) ≡ true
     → All (λ w. is_column_word w.word ≡ false) words → opened words ≡ None
 opened-none starred words begins none =
     let no_sign = text-no-sign starred (first_word words) begins in
-    ap (λ r. opened_by r words) (run-none (first_word words) no_sign)
-    ∙ ap (λ b. cond (b && not (has_pre_end words)) (Some Pre)
-    (cond (opens_code (first_word words)) (Some Code) (other_fence words)))
-    (none-any (λ w. contains (codes "<pre") w.word) words
+    let pre = none-any (λ w. contains (codes "<pre") w.word) words
     (All-weaker (λ w. is_column_word w.word ≡ false) (λ w. contains (codes "<pre") w.word ≡ false)
-    (λ w no. (column-none w.word no).1) words none))
-    ∙ ap (λ b. cond b (Some Code) (other_fence words)) (no-code (first_word words) no_sign).1
-    ∙ ap (λ b. cond b (Some Formula) (cond (opens_attribute words) (Some Attribute) None))
-    (no-formula words no_sign)
-    ∙ ap (λ b. cond b (Some Attribute) None) (no-attribute words no_sign)
+    (λ w no. or-right _ (contains (codes "<pre") w.word) no) words none) in
+    let code = or-right _ (opens_code (first_word words))
+    (or-right _ (is_directive (first_word words)) no_sign) in
+    let formula = no-formula words no_sign in
+    let attribute = no-attribute words no_sign in
+    ap (λ r. opened_by r words) (run-none (first_word words) no_sign)
+    ∙ (λ i. cond (pre i && not (has_pre_end words)) (Some Pre)
+    (cond (code i) (Some Code) (cond (formula i) (Some Formula) (cond (attribute i) (Some Attribute) None))))
 
 -- ---- the state behind it
 
@@ -157,26 +115,6 @@ behind_text in_block hanging words = record {
   before = Some (depth_of hanging);
   by = deeper_by hanging words;
 }
-
-pub passed-is : (state : StateText) (line : LineText) (in_block : Bool) → state.fence ≡ None
-    → line.deeper ≡ false → opened line.words ≡ None → has_words line.words ≡ true
-    → is_prompted state.prompted false line.words ≡ false
-    → is_in_block state.in_block false line ≡ (in_block && not (closes_block line.words))
-    → passed state line ≡ behind_text in_block line.hanging line.words
-passed-is state line in_block none level opens some prompts block =
-    let unfenced : is_some state.fence ≡ false = ap is_some none in
-    let before : is_before (is_some state.fence) line ≡ true =
-    ap (λ b. is_before b line) unfenced ∙ ap (λ d. not d && has_words line.words) level ∙ some in
-    λ i. record {
-      in_block = (ap (λ b. is_in_block state.in_block b line) unfenced ∙ block) i;
-      fence = (ap (λ f. new_fence f line) none
-          ∙ ap (λ d. cond d None (option_map (λ kind. record { marks = marks_of line.hanging; kind = kind })
-          (opened line.words))) level
-          ∙ ap (option_map (λ kind. record { marks = marks_of line.hanging; kind = kind })) opens) i;
-      prompted = (ap (λ b. is_prompted state.prompted b line.words) unfenced ∙ prompts) i;
-      before = ap (λ b. new_before state.before b line) before i;
-      by = ap (λ b. new_by state.by b line) before i;
-    }
 
 -- ---- lines that do not stand apart, by themselves, and what is open behind them
 
@@ -202,38 +140,13 @@ pub record IsOpen (options : ReflowOptions) (state : StateText) (margin : List �
   pub level : is_deep options state margin ≡ false
   pub prompt : state.prompted ≡ false
 
-four : (a b c d : Bool) → (a || b || c || d) ≡ false
-    → (a ≡ false) × (b ≡ false) × (c ≡ false) × (d ≡ false)
-four a b c d is = grind (arith, cases_Bool)
-
-none-four : (a b c d : Bool) → a ≡ false → b ≡ false → c ≡ false → d ≡ false
-    → (a || b || c || d) ≡ false
-none-four a b c d p q r s = rw (p, q, r, s) refl
+seven : (a b c d e f g : Bool) → (a || b || c || (d || e || f || g)) ≡ false
+    → (a ≡ false) × (b ≡ false) × (c ≡ false) × (d ≡ false) × (e ≡ false) × (f ≡ false) × (g ≡ false)
+seven a b c d e f g is = grind (arith, cases_Bool)
 
 yes-not : (b : Bool) → not b ≡ false → b ≡ true
 yes-not true is = refl
 yes-not false is = sym is
-
-words-free : (justify in_block starred field : Bool) (words : List SpacedText)
-    → stands_apart justify in_block starred field words ≡ false
-    → AreFree justify in_block starred field words
-words-free justify in_block starred field words is =
-    let parts = four (not (begins_text starred (first_word words))) (has_columns justify words)
-    (field && has_byte 45 (first_word words)) (in_block && closes_block words && closes_early words) is in
-    record {
-      begins = yes-not (begins_text starred (first_word words)) parts.0;
-      columns = parts.1;
-      field = parts.2;
-      closes = parts.3;
-    }
-
-free-words : (justify in_block starred field : Bool) (words : List SpacedText)
-    → AreFree justify in_block starred field words
-    → stands_apart justify in_block starred field words ≡ false
-free-words justify in_block starred field words are =
-    none-four (not (begins_text starred (first_word words))) (has_columns justify words)
-    (field && has_byte 45 (first_word words)) (in_block && closes_block words && closes_early words)
-    (ap not are.begins) are.columns are.field are.closes
 
 pub some-none : (f : Option FenceText) → is_some f ≡ false → f ≡ None
 some-none None is = refl
@@ -250,43 +163,117 @@ module _ (options : ReflowOptions) (state : StateText) (raw : List ℕ) (fed : B
       → IsOpen options state (hanging_of options.bare k)
       × AreFree options.justify (block_at state k) (starred_at options state k) (field_of k) k.words
   apart-free is =
-      let parts = four (is_some state.fence) (is_deep options state (hanging_of options.bare k))
-      state.prompted
-      (stands_apart options.justify (block_at state k) (starred_at options state k) (field_of k)
-      k.words) is in (
+      let begins = begins_text (starred_at options state k) (first_word k.words) in
+      let parts = seven (is_some state.fence)
+      (is_deep options state (hanging_of options.bare k)) state.prompted
+      (not begins) (has_columns options.justify k.words) (field_of k && has_byte 45 (first_word k.words))
+      (block_at state k && closes_block k.words && closes_early k.words) is in (
         record { fence = parts.0; level = parts.1; prompt = parts.2 },
-        words-free options.justify (block_at state k) (starred_at options state k) (field_of k) k.words
-            parts.3,
+        record {
+          begins = yes-not begins parts.3;
+          columns = parts.4;
+          field = parts.5;
+          closes = parts.6;
+        },
       )
 
   pub free-apart : IsOpen options state (hanging_of options.bare k)
       → AreFree options.justify (block_at state k) (starred_at options state k) (field_of k) k.words
       → (line_by options state raw fed k).apart ≡ false
-  free-apart at are =
-      none-four (is_some state.fence) (is_deep options state (hanging_of options.bare k)) state.prompted
-      (stands_apart options.justify (block_at state k) (starred_at options state k) (field_of k)
-      k.words) at.fence
-      at.level at.prompt
-      (free-words options.justify (block_at state k) (starred_at options state k) (field_of k) k.words are)
+  free-apart at are = grind (arith, cases_Bool)
 
   pub behind-free : IsOpen options state (hanging_of options.bare k)
       → AreFree options.justify (block_at state k) (starred_at options state k) (field_of k) k.words
       → passed state (line_by options state raw fed k)
       ≡ behind_text (block_at state k) (line_by options state raw fed k).hanging k.words
   behind-free at are =
+      let line = line_by options state raw fed k in
       let starred = starred_at options state k in
-      let first = first_word k.words in
-      let prompts : is_prompted state.prompted false k.words ≡ false =
-      ap (λ b. has_words k.words && (b || opens_session k.words)) at.prompt
-      ∙ ap (λ b. has_words k.words && b) (no-session k.words (text-letter starred first are.begins))
+      let none = some-none state.fence at.fence in
+      let unfenced : is_some state.fence ≡ false = ap is_some none in
+      let opens = opened-none starred k.words are.begins (no-columns options.justify k.words are.columns) in
+      let fence_of : Option FenceKind → Option FenceText =
+      option_map (λ kind. record { marks = marks_of line.hanging; kind = kind }) in
+      let before : is_before (is_some state.fence) line ≡ true = ap (λ b. is_before b line) unfenced
+      ∙ ap (λ d. not d && has_words k.words) at.level ∙ begun starred k.words are.begins in
+      let prompts : is_prompted state.prompted (is_some state.fence) k.words ≡ false =
+      ap (λ b. is_prompted state.prompted b k.words) unfenced
+      ∙ ap (λ b. has_words k.words && (b || opens_session k.words)) at.prompt
+      ∙ ap (λ b. has_words k.words && b) (no-session k.words
+      (text-letter starred (first_word k.words) are.begins))
       ∙ and-false (has_words k.words) in
-      passed-is state (line_by options state raw fed k) (block_at state k)
-      (some-none state.fence at.fence) at.level
-      (opened-none starred k.words are.begins (no-columns options.justify k.words are.columns))
-      (begun starred k.words are.begins) prompts
-      (block state.in_block (has_opening_in k.comments) (closes_block k.words))
+      λ i. record {
+        in_block = (ap (λ b. is_in_block state.in_block b line) unfenced
+            ∙ block state.in_block (has_opening_in k.comments) (closes_block k.words)) i;
+        fence = (ap (λ f. new_fence f line) none
+            ∙ ap (λ d. cond d None (fence_of (opened k.words))) at.level ∙ ap fence_of opens) i;
+        prompted = prompts i;
+        before = ap (λ b. new_before state.before b line) before i;
+        by = ap (λ b. new_by state.by b line) before i;
+      }
     where
-      block : (i o c : Bool)
-          → cond i (not c) (true && (o && not c)) ≡ ((i || o) && not c)
+      block : (i o c : Bool) → cond i (not c) (true && (o && not c)) ≡ ((i || o) && not c)
       block true o c = refl
       block false o c = refl
+
+-- ---- no rule begins with a letter
+
+same-any : (test : ℕ → Bool) (c : ℕ) (cs : List ℕ) → list_all (λ x. x == c) cs ≡ true
+    → list_any test cs ≡ true → test c ≡ true
+same-any test c [] all some = absurd (true≢false (sym some))
+same-any test c (x ∷ cs) all some = grind (arith, cases_Bool, eqb-true, same-any test c cs)
+
+rule-none : (cs : List ℕ) → list_any is_letter_or_digit cs ≡ true → is_rule_characters cs ≡ false
+rule-none [] some = absurd (true≢false (sym some))
+rule-none (c ∷ cs) some = grind (arith, cases_Bool, same-any)
+
+pub letter-no-rule : (words : List SpacedText) → has_letter (first_word words) ≡ true → is_rule words ≡ false
+letter-no-rule [] some = refl
+letter-no-rule (w ∷ []) some = rule-none (chars w.word) some
+letter-no-rule (w ∷ v ∷ ws) some = refl
+
+-- ---- what is behind a line is not deeper
+
+no-less : (by x : ℕ) → 0 < by → nat_le by (x - x) ≡ false
+no-less by x some = grind (arith, nat_tests, cases_Bool)
+
+never-deeper : (by : ℕ) (d : DepthText) → 0 < by → is_deeper by d d ≡ false
+never-deeper by d some = grind (arith, cases_Bool, no-less, and-false)
+
+depth-some : (hanging : List ℕ) (words : List SpacedText) → 0 < deeper_by hanging words
+depth-some hanging words = grind (arith, cases_Bool)
+
+pub open-behind : (options : ReflowOptions) (in_block : Bool) (hanging : List ℕ) (words : List SpacedText)
+    → IsOpen options (behind_text in_block hanging words) hanging
+open-behind options in_block hanging words = record {
+  fence = refl;
+  level = deep options.indented;
+  prompt = refl;
+}
+  where
+    none : (a b : Bool) → (a && b && not true) ≡ false
+    none true true = refl
+    none true false = refl
+    none false b = refl
+
+    deep : (b : Bool)
+        → cond b false (is_deeper (deeper_by hanging words) (depth_of hanging) (depth_of hanging)
+        || (options.markdown && begins_code (depth_of hanging)
+        && not (bytes_eq (marks_of hanging) (marks_of hanging)))) ≡ false
+    deep true = refl
+    deep false =
+        rw (
+          never-deeper (deeper_by hanging words) (depth_of hanging) (depth-some hanging words),
+          (bytes_eq-Decides (marks_of hanging) (marks_of hanging)).1 refl,
+        )
+        (none options.markdown (begins_code (depth_of hanging)))
+
+pub behind-same : (in_block : Bool) (hanging : List ℕ) (words others : List SpacedText)
+    → (in_block && closes_block words) ≡ (in_block && closes_block others)
+    → deeper_by hanging words ≡ deeper_by hanging others
+    → behind_text in_block hanging words ≡ behind_text in_block hanging others
+behind-same in_block hanging words others closes deeper = grind (arith, cases_Bool)
+
+pub goes-true : (line next : LineText) → line.apart ≡ false → next.apart ≡ false → line.ended ≡ false
+    → next.prefix ≡ line.hanging → opens_paragraph (first_word next.words) ≡ false → goes_on line next ≡ true
+goes-true line next a b c d e = grind (arith, cases_Bool, bytes_eq-Decides)

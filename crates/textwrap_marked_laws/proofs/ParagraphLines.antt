@@ -1,26 +1,38 @@
 -- The lines of a paragraph: the first one, those behind its hanging form, and others in their place.
 use Rattle.std.proofs.lemmas.List.Folds.{list_any-append}
-use Rattle.textwrap_marked_laws.proofs.Common.{None, refl, true, ◌&&◌, ◌++◌, ◌==◌, ◌||◌, All, not, sym, ◌<◌, ℕ}
-use Rattle.textwrap_marked_laws.proofs.Common.{ReflowOptions, line_as_read, spaced_words, begins_text, is_key}
-use Rattle.textwrap_marked_laws.proofs.Common.{hanging_bullets, opens_paragraph, without_returns, append_assoc}
-use Rattle.textwrap_marked_laws.proofs.Common.{has_letter, StateText, all-right, LineText, has_byte, none-any}
-use Rattle.textwrap_marked_laws.proofs.Common.{or-false, length, codes, false, subst, Bool, List, ap}
-use Rattle.textwrap_marked_laws.proofs.Common.{spaced_text, All-weaker, SpacedText, append-nil, first_word, []}
-use Rattle.textwrap_marked_laws.proofs.{Common.{◌∙◌, ◌≡◌}, HangingForms.{bullets-white, hanging-is, IsHanging}}
-use Rattle.textwrap_marked_laws.proofs.HangingKinds.{before-full, full-before, marks-kinds, hangs-same, IsFull}
-use Rattle.textwrap_marked_laws.proofs.HangingKinds.{kinds-same, opens-none, HasNoMark}
-use Rattle.textwrap_marked_laws.proofs.LaterLines.{kinds-first, read-spaced, read_kinds, read_marks, line-read}
-use Rattle.textwrap_marked_laws.proofs.LaterLines.{text-parts, words-some, read-line, text-line, IsOfText}
-use Rattle.textwrap_marked_laws.proofs.LaterLines.{regroup, IsRead}
-use Rattle.textwrap_marked_laws.proofs.LineKinds.{has_opening_in, hanging_of, HaveKinds, line_by, Kinds, kinds}
-use Rattle.textwrap_marked_laws.proofs.{LineTests.letter-no-rule, OpenBehind.{some-none, block_at, field_of}}
-use Rattle.textwrap_marked_laws.proofs.OpenBehind.{AreFree, IsOpen, begun, text-letter, apart-free, free-apart}
-use Rattle.textwrap_marked_laws.proofs.{OpenBehind.{starred_at, text-other}, SpacedBack.white-other}
-use Rattle.textwrap_marked_laws.proofs.SpacedBack.{AreSpaced, line-back, with_lead, lead-one, IsWhite}
 use Rattle.textwrap_marks.{proofs.Letterless.box-plain, specs.Signs.is_rule}
+use Rattle.textwrap_marked_laws.proofs as own
+use own.Common.{first_word, has_letter, StateText, all-right, LineText, has_byte, none-any, or-false, is_key}
+use own.Common.{hanging_bullets, opens_paragraph, without_returns, ReflowOptions, append_assoc, line_as_read}
+use own.Common.{length, codes, false, subst, Bool, List, None, refl, true, ◌&&◌, ◌++◌, ◌==◌, ◌||◌, All, not}
+use own.Common.{spaced_words, begins_text, spaced_text, All-weaker, SpacedText, append-nil, cases_Bool, arith}
+use own.HangingForms.{bullets-white, before-full, full-before, marks-kinds, hanging-is, hangs-same, HasNoMark}
+use own.LaterLines.{kinds-first, read-spaced, read_block, read_kinds, read_marks, text-parts, words-some}
+use own.LaterLines.{line-read, read-line, text-line, IsOfText, read_as, regroup, IsRead}
+use own.LineKinds.{has_opening_in, hanging_of, HaveKinds, line-is, line_by, Kinds, kinds}
+use own.OpenBehind.{field_of, AreFree, IsOpen, begun}
+use own.OpenBehind.{letter-no-rule, text-letter, apart-free, free-apart, starred_at, text-other, some-none}
+use own.SpacedBack.{white-other, AreSpaced, line-back, with_lead, lead-one, IsWhite}
+use own.{Common.{sym, ◌<◌, ◌∙◌, ◌≡◌, [], ap, ℕ}, HangingForms.{kinds-same, opens-none, IsHanging, IsFull}}
 
 pub all-spaced : (ks : List SpacedText) → All IsFull ks → AreSpaced ks
 all-spaced ks full = subst AreSpaced (append-nil ks) (full-before ks [] full tt)
+
+-- what is read of a line that is made of these
+made-line : (options : ReflowOptions) (state : StateText) (raw : List ℕ) (fed : Bool) (lead : List ℕ)
+    (cs qs bs ws : List SpacedText) → All IsWhite lead → All IsFull (cs ++ (qs ++ bs)) → AreSpaced ws
+    → HaveKinds options state.in_block cs qs bs ws
+    → without_returns raw ≡ (lead ++ spaced_text (cs ++ (qs ++ bs))) ++ spaced_text ws
+    → line_as_read options state raw fed ≡ line_by options state raw fed (kinds lead cs qs bs ws)
+made-line options state raw fed lead cs qs bs ws white full spaced have text =
+    let marks = cs ++ (qs ++ bs) in
+    let group = regroup cs qs bs ws in
+    line-is lead cs qs bs ws options state raw fed (record {
+      white = white;
+      spaced = subst AreSpaced (sym group) (full-before marks ws full spaced);
+      is = text ∙ append_assoc lead (spaced_text marks) (spaced_text ws)
+          ∙ ap (λ l. lead ++ l) (sym (text-parts marks ws) ∙ ap spaced_text (sym group));
+    }) have
 
 -- ---- lines behind a hanging form
 
@@ -40,9 +52,7 @@ module _ (options : ReflowOptions) (in_block : Bool) (hanging : List ℕ)
 
   hung-block : (state : StateText) → state.in_block ≡ in_block
       → (state.in_block || has_opening_in hang.cs) ≡ in_block
-  hung-block state block =
-      ap (λ o. state.in_block || o) (opens-none options in_block hang.cs hang.qs hang.marks)
-      ∙ or-false state.in_block ∙ block
+  hung-block state block = grind (arith, cases_Bool, opens-none, or-false)
 
   hung-margin : (ws : List SpacedText) → hanging_of options.bare (hung ws) ≡ hanging
   hung-margin ws =
@@ -90,24 +100,13 @@ module _ (options : ReflowOptions) (in_block : Bool) (hanging : List ℕ)
       → AreFree options.justify in_block (in_block && not (has_byte 42 hanging)) (is_key (first_word ws) && true) ws
       → IsNew options in_block hanging state (line_as_read options state raw fed) hanging ws
   later-new state raw fed ws block text spaced lacks at are =
-      let marks = hang.cs ++ hang.qs in
-      let group : hang.cs ++ (hang.qs ++ ws) ≡ marks ++ ws = sym (append_assoc hang.cs hang.qs ws) in
-      let r : IsRead options state raw = record {
-        lead = hang.lead;
-        cs = hang.cs;
-        qs = hang.qs;
-        bs = [];
-        ws = ws;
-        text = record {
-          white = hang.white;
-          spaced = subst AreSpaced (sym group) (full-before marks ws hang.full spaced);
-          is = text ∙ ap (λ h. h ++ spaced_text ws) hang.is
-              ∙ append_assoc hang.lead (spaced_text marks) (spaced_text ws)
-              ∙ ap (λ l. hang.lead ++ l) (sym (text-parts marks ws) ∙ ap spaced_text (sym group));
-        };
-        have = subst (λ b. HaveKinds options b hang.cs hang.qs [] ws) (sym block)
-            (marks-kinds options in_block hang.cs hang.qs hang.marks ws lacks);
-      } in
+      let whole = append-nil hang.qs in
+      let is = made-line options state raw fed hang.lead hang.cs hang.qs [] ws hang.white
+      (subst (λ l. All IsFull (hang.cs ++ l)) (sym whole) hang.full) spaced
+      (subst (λ b. HaveKinds options b hang.cs hang.qs [] ws) (sym block)
+      (marks-kinds options in_block hang.cs hang.qs hang.marks ws lacks))
+      (text ∙ ap (λ h. h ++ spaced_text ws)
+      (hang.is ∙ ap (λ l. hang.lead ++ spaced_text (hang.cs ++ l)) (sym whole))) in
       let margin = hung-margin ws in
       let apart : (line_by options state raw fed (hung ws)).apart ≡ false =
       free-apart options state raw fed (hung ws)
@@ -116,7 +115,7 @@ module _ (options : ReflowOptions) (in_block : Bool) (hanging : List ℕ)
       (is_key (first_word ws) && true) ws) (sym (hung-block state block))
       (subst (λ h. AreFree options.justify in_block (in_block && not (has_byte 42 h)) (is_key (first_word ws) && true) ws)
       (sym margin) are)) in
-      subst (λ l. IsNew options in_block hanging state l hanging ws) (sym (read-line options state raw r fed)) (record {
+      subst (λ l. IsNew options in_block hanging state l hanging ws) (sym is) (record {
         of = hung-line state raw fed ws block apart spaced;
         apart = apart;
         prefixed = ap (λ l. hang.lead ++ spaced_text (hang.cs ++ l)) (append-nil hang.qs) ∙ sym hang.is;
@@ -141,16 +140,15 @@ pub record IsFirstAlike (line new : LineText) : Type 0 where
   pub starred : new.starred ≡ line.starred
 
 module _ (options : ReflowOptions) (state : StateText) (raw : List ℕ) (fed : Bool)
-    (r : IsRead options state raw)
-    (apart : (line_by options state raw fed (read_kinds options state raw r)).apart ≡ false) where
+    (r : IsRead options state raw) (apart : (read_as options state raw r fed).apart ≡ false) where
   abbrev first_kinds : Kinds
   first_kinds = read_kinds options state raw r
 
   abbrev first_line : LineText
-  first_line = line_by options state raw fed first_kinds
+  first_line = read_as options state raw r fed
 
   abbrev first_block : Bool
-  first_block = block_at state first_kinds
+  first_block = read_block options state raw r
 
   first-free : IsOpen options state (hanging_of options.bare first_kinds)
       × AreFree options.justify first_block (starred_at options state first_kinds) (field_of first_kinds) r.ws
@@ -202,24 +200,10 @@ module _ (options : ReflowOptions) (state : StateText) (raw : List ℕ) (fed : B
       × IsFirstAlike first_line (line_as_read options state new more)
   first-new others new more text spaced some same are =
       let k = kinds r.lead r.cs r.qs r.bs others in
-      let marks = read_marks options state raw r in
-      let group = regroup r.cs r.qs r.bs others in
       let box = text-other (starred_at options state first_kinds) (first_word r.ws) (codes "[")
       first-begins box-plain in
-      let read : IsRead options state new = record {
-        lead = r.lead;
-        cs = r.cs;
-        qs = r.qs;
-        bs = r.bs;
-        ws = others;
-        text = record {
-          white = r.text.white;
-          spaced = subst AreSpaced (sym group) (full-before marks others first-parts.0 spaced);
-          is = text ∙ append_assoc r.lead (spaced_text marks) (spaced_text others)
-              ∙ ap (λ l. r.lead ++ l) (sym (text-parts marks others) ∙ ap spaced_text (sym group));
-        };
-        have = kinds-first options state.in_block r.cs r.qs r.bs r.ws others r.have first-some some same box;
-      } in
+      let is = made-line options state new more r.lead r.cs r.qs r.bs others r.text.white first-parts.0 spaced
+      (kinds-first options state.in_block r.cs r.qs r.bs r.ws others r.have first-some some same box) text in
       let letter = text-letter first_line.starred (first_word r.ws) first-begins in
       let keyed : (is_key (first_word others) && (length r.bs == 0)) ≡ first_line.field =
       ap (λ w. is_key w && (length r.bs == 0)) (sym same) in
@@ -228,7 +212,7 @@ module _ (options : ReflowOptions) (state : StateText) (raw : List ℕ) (fed : B
       let free : (line_by options state new more k).apart ≡ false =
       free-apart options state new more k first-free.0 fits in
       subst (λ l. IsNew options first_block first_line.hanging state l first_line.prefix others
-      × IsFirstAlike first_line l) (sym (read-line options state new read more)) (
+      × IsFirstAlike first_line l) (sym is) (
         record {
           of = text-line options first_block first_line.hanging state new more k free refl refl spaced;
           apart = free;

@@ -1,8 +1,9 @@
 -- Answers that do not meet the laws.
-use Rattle.std.proofs.{Math.Seq.drop-append_seam, lemmas.List.Folds.list_any-append}
-use Rattle.textwrap_marked_laws.proofs.Common.{bytes_eq, list_any, length, arith, codes, false, Bool, List, []}
-use Rattle.textwrap_marked_laws.proofs.Common.{drop, refl, true, zero, ◌++◌, ◌||◌, sym, ◌∙◌, ◌∷◌, ◌≡◌, ap, ℕ}
-use Rattle.textwrap_marked_laws.proofs.Common.{words_between_white, ReflowOptions, cases_Bool, true≢false, suc}
+use Rattle.std.{proofs.Math.Seq.drop-append_seam, proofs.lemmas.List.Folds.list_any-append}
+use Rattle.textwrap_marked_laws.proofs.Common.{ap}
+use Rattle.textwrap_marked_laws.proofs.Common.{bytes_eq, list_any, length, arith, codes, false, Bool, List, ℕ}
+use Rattle.textwrap_marked_laws.proofs.Common.{drop, refl, true, zero, ◌++◌, ◌||◌, suc, sym, ◌∙◌, ◌∷◌, ◌≡◌}
+use Rattle.textwrap_marked_laws.proofs.Common.{words_between_white, ReflowOptions, cases_Bool, true≢false, []}
 use Rattle.textwrap_marked_laws.specs.Laws.{ShowTheSame}
 
 -- an empty line is shown

@@ -1,12 +1,12 @@
 -- Words with white between them are read back from their text.
-use Rattle.textwrap_marked_laws.proofs.Common.{cond, refl, true, ◌++◌, ◌==◌, map, sym, ◌<◌, ◌∙◌, ◌∷◌, ◌≡◌, ℕ, ⊤}
-use Rattle.textwrap_marked_laws.proofs.Common.{flat_map, is_white, All-nil, length, lt-ltb, arith, false, List}
-use Rattle.textwrap_marked_laws.proofs.Common.{slice_split, spaced_text, SpacedText, append-nil, onto_first, All}
-use Rattle.textwrap_marked_laws.proofs.Common.{slice_split_none, flat_map-append, append_assoc, spaced_words, []}
-use Rattle.textwrap_marked_laws.proofs.Common.{true≢false, has_bytes, All-cons, All-head, All-tail, eqb-true, ap}
-use Rattle.textwrap_marked_laws.proofs.Common.{words_between_white, false_from_ne_true, length-slice_split, Bool}
 use Rattle.textwrap_marks.specs.Words.{onto_word, with_byte}
 use Rattle.textwrap_text.proofs.Lists.Parts.{onto_first-append}
+use Rattle.textwrap_marked_laws.proofs as own
+use own.Common.{first_word, onto_first, true≢false, has_bytes, All-cons, All-head, All-tail, eqb-true, length}
+use own.Common.{flat_map-append, spaced_words, slice_split, spaced_text, SpacedText, append-nil, cases_Bool}
+use own.Common.{is_white, All-nil, lt-ltb, arith, false, Bool, List, cond, refl, true, ◌++◌, ◌==◌, All, map}
+use own.Common.{sym, ◌<◌, ◌∙◌, ◌∷◌, ◌≡◌, [], ap, ℕ, ⊤}
+use own.Common.{words_between_white, false_from_ne_true, length-slice_split, slice_split_none, append_assoc}
 
 -- ---- texts
 
@@ -15,22 +15,12 @@ split-white : (front : List ℕ) (c : ℕ) (rest : List ℕ) → is_white c ≡ 
 split-white [] c rest white =
     ap (λ b. cond b ([] ∷ slice_split is_white rest) (onto_first c (slice_split is_white rest))) white
 split-white (x ∷ front) c rest white =
-    let first = slice_split is_white front in
-    let later = slice_split is_white rest in
-    ap (λ s. cond (is_white x) ([] ∷ s) (onto_first x s)) (split-white front c rest white)
-    ∙ elim (is_white x) as (λ b. cond b ([] ∷ (first ++ later)) (onto_first x (first ++ later))
-    ≡ cond b ([] ∷ first) (onto_first x first) ++ later) [
-      | true ↦ refl
-      | false ↦ onto_first-append x first later (omega (arith, length-slice_split is_white front))
-    ]
+    grind (arith, cases_Bool, onto_first-append, length-slice_split, split-white front c rest white)
 
 -- the words before and behind white
 pub words-white : (front : List ℕ) (c : ℕ) (rest : List ℕ) → is_white c ≡ true
     → words_between_white (front ++ c ∷ rest) ≡ words_between_white front ++ words_between_white rest
-words-white front c rest white =
-    ap (flat_map (λ w. cond (has_bytes w) (w ∷ []) [])) (split-white front c rest white)
-    ∙ flat_map-append (λ w. cond (has_bytes w) (w ∷ []) []) (slice_split is_white front)
-    (slice_split is_white rest)
+words-white front c rest white = grind (arith, cases_Bool, split-white, flat_map-append)
 
 -- white in front adds none
 pub white-words : (white rest : List ℕ) → All (λ c. is_white c ≡ true) white
@@ -48,11 +38,19 @@ pub record IsPlain (word : List ℕ) : Type 0 where
   pub ink : All (λ c. is_white c ≡ false) word
 
 pub word-alone : (word : List ℕ) → IsPlain word → words_between_white word ≡ word ∷ []
-word-alone word plain =
-    ap (flat_map (λ w. cond (has_bytes w) (w ∷ []) [])) (slice_split_none is_white word plain.ink)
-    ∙ ap (λ b. cond b (word ∷ []) [] ++ []) (lt-ltb 0 (length word) plain.some)
+word-alone word plain = grind (arith, cases_Bool, slice_split_none, lt-ltb)
 
 -- ---- words with white between them are read back from their text
+
+abbrev pub words_in : List SpacedText → List (List ℕ)
+words_in ws = map (λ w. w.word) ws
+
+-- what holds of each word
+pub each-word : (P : List ℕ → Type 0) (ws : List SpacedText) → All P (words_in ws) → All (λ w. P w.word) ws
+each-word P [] all = All-nil (λ w. P w.word)
+each-word P (w ∷ ws) all =
+    All-cons (λ w. P w.word) w ws (All-head P w.word (words_in ws) all)
+    (each-word P ws (All-tail P w.word (words_in ws) all))
 
 abbrev pub IsWhite : ℕ → Type 0
 IsWhite c = is_white c ≡ true
@@ -80,6 +78,15 @@ pub spaced-first : (w : SpacedText) (ws : List SpacedText) → AreSpaced (w ∷ 
 spaced-first w [] are = are
 spaced-first w (v ∷ ws) are = are.0
 
+pub plain-first : (ws : List SpacedText) → 0 < length ws → AreSpaced ws → IsPlain (first_word ws)
+plain-first [] some are = absurd (omega (arith, some))
+plain-first (w ∷ ws) some are = (spaced-first w ws are).word
+
+pub spaced-cons : (w : SpacedText) (ws : List SpacedText) → IsSpaced w
+    → (0 < length ws → 0 < length w.white) → AreSpaced ws → AreSpaced (w ∷ ws)
+spaced-cons w [] here some are = here
+spaced-cons w (v ∷ ws) here some are = (here, some (omega arith), are)
+
 pub spaced-plain : (ws : List SpacedText) → AreSpaced ws → All (λ w. IsPlain w.word) ws
 spaced-plain [] are = All-nil (λ w. IsPlain w.word)
 spaced-plain (w ∷ []) are = All-cons (λ w. IsPlain w.word) w [] are.word (All-nil (λ w. IsPlain w.word))
@@ -105,12 +112,7 @@ begins-plain (w ∷ ws) are = (spaced-first w ws are).word.some
 white-alone : (c : ℕ) (ws : List SpacedText) → IsWhite c → BeginsPlain ws
     → with_byte c ws ≡ with_lead (c ∷ []) ws
 white-alone c [] white begins = simp white
-white-alone c (w ∷ ws) white begins = cut w.word refl begins
-  where
-    cut : (word : List ℕ) → w.word ≡ word → 0 < length word
-        → with_byte c (w ∷ ws) ≡ with_lead (c ∷ []) (w ∷ ws)
-    cut [] is some = absurd (omega (arith, some))
-    cut (x ∷ xs) is some = simp (white, is)
+white-alone c (w ∷ ws) white begins = grind (arith, cases_Bool)
 
 -- white before words
 white-before : (lead text : List ℕ) (ws : List SpacedText) → All IsWhite lead → BeginsPlain ws
@@ -119,28 +121,33 @@ white-before [] text ws white begins is = is
 white-before (c ∷ []) text ws white begins is =
     ap (with_byte c) is ∙ white-alone c ws (All-head IsWhite c [] white) begins
 white-before (c ∷ d ∷ lead) text ws white begins is =
-    let here : IsWhite c = All-head IsWhite c (d ∷ lead) white in
-    ap (with_byte c)
-    (white-before (d ∷ lead) text ws (All-tail IsWhite c (d ∷ lead) white) begins is)
-    ∙ simp here
+    grind (
+      arith,
+      cases_Bool,
+      All-head,
+      All-tail,
+      white-before (d ∷ lead) text ws (All-tail IsWhite c (d ∷ lead) white) begins is,
+    )
 
 -- a word before white, or at the end
 word-before : (word lead text : List ℕ) (ws : List SpacedText) → IsPlain word
     → (length lead ≡ 0 → ws ≡ []) → spaced_words text ≡ with_lead lead ws
     → spaced_words (word ++ text) ≡ record { word = word; white = lead } ∷ ws
 word-before [] lead text ws plain ends is = absurd (omega (arith, plain.some))
-word-before (c ∷ []) [] text ws plain ends is =
-    let here : IsInk c = All-head IsInk c [] plain.ink in
-    let alone : with_byte c [] ≡ record { word = c ∷ []; white = [] } ∷ [] = simp here in
-    ap (with_byte c) (is ∙ ends refl) ∙ alone
-    ∙ ap (λ l. record { word = c ∷ []; white = [] } ∷ l) (sym (ends refl))
+word-before (c ∷ []) [] text ws plain ends is = grind (arith, cases_Bool, All-head)
 word-before (c ∷ []) (x ∷ lead) text ws plain ends is =
     let here : IsInk c = All-head IsInk c [] plain.ink in ap (with_byte c) is ∙ simp here
 word-before (c ∷ d ∷ word) lead text ws plain ends is =
-    let here : IsInk c = All-head IsInk c (d ∷ word) plain.ink in
-    ap (with_byte c) (word-before (d ∷ word) lead text ws
-    (record { some = omega arith; ink = All-tail IsInk c (d ∷ word) plain.ink }) ends is)
-    ∙ simp here
+    grind (
+      arith,
+      cases_Bool,
+      All-head,
+      All-tail,
+      word-before (d ∷ word) lead text ws (record {
+        some = omega arith;
+        ink = All-tail IsInk c (d ∷ word) plain.ink;
+      }) ends is,
+    )
 
 pub spaced-back : (ws : List SpacedText) → AreSpaced ws → spaced_words (spaced_text ws) ≡ ws
 spaced-back [] are = refl
@@ -183,20 +190,16 @@ onto-spaced c w [] ink are =
 onto-spaced c w (v ∷ ws) ink (here, some, later) =
     (record { word = plain-more c w.word ink here.word; white = here.white }, some, later)
 
-word-spaced : (c d : ℕ) (lead : List ℕ) (ws : List SpacedText) → IsInk c → All IsWhite (d ∷ lead)
-    → AreSpaced ws → AreSpaced (record { word = c ∷ []; white = d ∷ lead } ∷ ws)
-word-spaced c d lead [] ink white are = record { word = plain-one c ink; white = white }
-word-spaced c d lead (v ∷ ws) ink white are =
-    (record { word = plain-one c ink; white = white }, omega arith, are)
-
-pub line-text : (text : List ℕ)
-    → (lead : List ℕ) × (ws : List SpacedText) × IsLineText text lead ws
+pub line-text : (text : List ℕ) → (lead : List ℕ) × (ws : List SpacedText) × IsLineText text lead ws
 line-text [] = ([], [], record { white = All-nil IsWhite; spaced = tt; is = refl })
 line-text (c ∷ cs) =
     let (lead, ws, is) = line-text cs in more (is_white c) refl lead ws is
   where
-    more : (w : Bool) → is_white c ≡ w → (lead : List ℕ) (ws : List SpacedText)
-        → IsLineText cs lead ws
+    of : (ws : List SpacedText) → AreSpaced ws → c ∷ cs ≡ spaced_text ws
+        → (lead : List ℕ) × (ws : List SpacedText) × IsLineText (c ∷ cs) lead ws
+    of ws spaced is = ([], ws, record { white = All-nil IsWhite; spaced = spaced; is = is })
+
+    more : (w : Bool) → is_white c ≡ w → (lead : List ℕ) (ws : List SpacedText) → IsLineText cs lead ws
         → (lead : List ℕ) × (ws : List SpacedText) × IsLineText (c ∷ cs) lead ws
     more true white lead ws is = (
       c ∷ lead,
@@ -207,33 +210,16 @@ line-text (c ∷ cs) =
         is = ap (λ l. c ∷ l) is.is;
       },
     )
-    more false ink [] [] is = (
-      [],
-      record { word = c ∷ []; white = [] } ∷ [],
-      record {
-        white = All-nil IsWhite;
-        spaced = record { word = plain-one c ink; white = All-nil IsWhite };
-        is = ap (λ l. c ∷ l) is.is;
-      },
-    )
-    more false ink [] (w ∷ ws) is = (
-      [],
-      onto_word c w ∷ ws,
-      record {
-        white = All-nil IsWhite;
-        spaced = onto-spaced c w ws ink is.spaced;
-        is = ap (λ l. c ∷ l) is.is;
-      },
-    )
-    more false ink (d ∷ lead) ws is = (
-      [],
-      record { word = c ∷ []; white = d ∷ lead } ∷ ws,
-      record {
-        white = All-nil IsWhite;
-        spaced = word-spaced c d lead ws ink is.white is.spaced;
-        is = ap (λ l. c ∷ l) is.is;
-      },
-    )
+    more false ink [] [] is =
+        of (record { word = c ∷ []; white = [] } ∷ [])
+        (record { word = plain-one c ink; white = All-nil IsWhite })
+        (ap (λ l. c ∷ l) is.is)
+    more false ink [] (w ∷ ws) is =
+        of (onto_word c w ∷ ws) (onto-spaced c w ws ink is.spaced) (ap (λ l. c ∷ l) is.is)
+    more false ink (d ∷ lead) ws is =
+        let w : SpacedText = record { word = c ∷ []; white = d ∷ lead } in
+        of (w ∷ ws) (spaced-cons w ws (record { word = plain-one c ink; white = is.white })
+        (λ more. omega arith) is.spaced) (ap (λ l. c ∷ l) is.is)
 
 -- ---- its words between white
 
@@ -246,7 +232,7 @@ word-in word (c ∷ white) rest plain all some =
     ∙ ap (λ l. l ++ words_between_white (white ++ rest)) (word-alone word plain)
     ∙ ap (λ l. word ∷ l) (white-words white rest (All-tail IsWhite c white all))
 
-pub spaced-in : (ws : List SpacedText) → AreSpaced ws → words_between_white (spaced_text ws) ≡ map (λ w. w.word) ws
+pub spaced-in : (ws : List SpacedText) → AreSpaced ws → words_between_white (spaced_text ws) ≡ words_in ws
 spaced-in [] are = refl
 spaced-in (w ∷ []) are = cut w.white are.white
   where
@@ -254,12 +240,10 @@ spaced-in (w ∷ []) are = cut w.white are.white
     cut [] all =
         ap words_between_white (append-nil (w.word ++ []) ∙ append-nil w.word) ∙ word-alone w.word are.word
     cut (c ∷ white) all = word-in w.word (c ∷ white) [] are.word all (omega arith)
-spaced-in (w ∷ v ∷ ws) (here, some, later) =
-    word-in w.word w.white (spaced_text (v ∷ ws)) here.word here.white some
-    ∙ ap (λ l. w.word ∷ l) (spaced-in (v ∷ ws) later)
+spaced-in (w ∷ v ∷ ws) (here, some, later) = grind (arith, cases_Bool, word-in, spaced-in (v ∷ ws) later)
 
 pub text-words : (text lead : List ℕ) (ws : List SpacedText) → IsLineText text lead ws
-    → words_between_white text ≡ map (λ w. w.word) ws
+    → words_between_white text ≡ words_in ws
 text-words text lead ws is =
     ap words_between_white is.is ∙ white-words lead (spaced_text ws) is.white ∙ spaced-in ws is.spaced
 
@@ -277,14 +261,9 @@ behind_lead (w ∷ ws) = cond (has_bytes w.word) (w ∷ ws) ws
 lead-parts : (lead : List ℕ) (ws : List SpacedText) → AreSpaced ws
     → (lead_of (with_lead lead ws) ≡ lead) × (behind_lead (with_lead lead ws) ≡ ws)
 lead-parts [] [] are = (refl, refl)
-lead-parts [] (w ∷ ws) are =
-    let some = lt-ltb 0 (length w.word) (begins-plain (w ∷ ws) are) in
-    (ap (λ b. cond b [] w.white) some, ap (λ b. cond b (w ∷ ws) ws) some)
+lead-parts [] (w ∷ ws) are = grind (arith, cases_Bool, lt-ltb, begins-plain)
 lead-parts (c ∷ lead) ws are = (refl, refl)
 
 pub lead-one : (lead other : List ℕ) (ws vs : List SpacedText) → AreSpaced ws → AreSpaced vs
     → with_lead lead ws ≡ with_lead other vs → (lead ≡ other) × (ws ≡ vs)
-lead-one lead other ws vs are be is =
-    let (front, words) = lead-parts lead ws are in
-    let (begin, behind) = lead-parts other vs be in
-    (sym front ∙ ap lead_of is ∙ begin, sym words ∙ ap behind_lead is ∙ behind)
+lead-one lead other ws vs are be is = grind (arith, cases_Bool, lead-parts)

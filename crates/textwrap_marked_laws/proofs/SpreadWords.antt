@@ -1,18 +1,16 @@
 -- Words with blanks between them, as the words of a line's text.
-use Rattle.textwrap_marked_laws.proofs.Common.{append-nil, cases_Bool, first_word, last_white, quotes_len, arith}
-use Rattle.textwrap_marked_laws.proofs.Common.{append_assoc, begins_text, has_columns, spaced_text, SpacedText}
-use Rattle.textwrap_marked_laws.proofs.Common.{codes, false, List, cond, drop, refl, take, true, ◌&&◌, ◌++◌, map}
-use Rattle.textwrap_marked_laws.proofs.Common.{false_from_ne_true, words_before_last, opens_paragraph, is_bullet}
-use Rattle.textwrap_marked_laws.proofs.Common.{is_column_word, All-replicate, ReflowOptions, is_comment_at, Bool}
-use Rattle.textwrap_marked_laws.proofs.Common.{is_quote, list_any, none-any, All-nil, blanks, length, blank, All}
-use Rattle.textwrap_marked_laws.proofs.Common.{true≢false, last_word, All-cons, All-head, All-tail, bytes_eq, []}
-use Rattle.textwrap_marked_laws.proofs.Common.{◌==◌, ◌||◌, not, suc, sym, ◌-◌, ◌∙◌, ◌∷◌, ◌≡◌, ap, ℕ}
-use Rattle.textwrap_marked_laws.proofs.{HangingKinds.HasNoMark, LaterLines.bullets-none, LineKinds.one_if}
-use Rattle.textwrap_marked_laws.proofs.{LineWords.{spread, shown, gap}, OpenBehind.{text-letter, text-other}}
-use Rattle.textwrap_marked_laws.proofs.SpacedBack.{AreSpaced, IsSpaced, IsPlain, IsWhite}
 use Rattle.textwrap_marks.proofs.Letterless.{quote-plain, box-plain}
-use Rattle.textwrap_marks.specs.{Marks.is_among, Signs.{first_white, may_go_on, last_of, is_gap}}
-use Rattle.textwrap_text.proofs.Common.{not-true}
+use Rattle.textwrap_marks.{specs.Marks.is_among, specs.Signs.{first_white, may_go_on, is_gap}}
+use Rattle.textwrap_text.proofs.Common.{not-true, rules}
+use Rattle.textwrap_marked_laws.proofs as own
+use own.Common.{All-head, All-tail, is_quote, list_any, none-any, All-nil, length, arith, blank, false, Bool}
+use own.Common.{List, drop, refl, take, true, ◌&&◌, ◌++◌, ◌==◌, ◌||◌, All, suc, sym, ◌-◌, ◌<◌, ◌∙◌, ◌∷◌, ◌≡◌}
+use own.Common.{ReflowOptions, is_comment_at, append_assoc, begins_text, has_columns, spaced_text, SpacedText}
+use own.Common.{[], ap}
+use own.Common.{append-nil, cases_Bool, first_word, last_white, true≢false, is_bullet, last_word, All-cons, ℕ}
+use own.Common.{false_from_ne_true, words_before_last, opens_paragraph, is_column_word, All-replicate, blanks}
+use own.{HangingForms.HasNoMark, LaterLines.bullets-none, OpenBehind.{text-letter, text-other}}
+use own.{LineWords.{spread, shown, gap}, SpacedBack.{spaced-cons, AreSpaced, words_in, IsPlain, IsWhite}}
 
 -- a gap is white
 pub gap-white : (justify : Bool) (gaps : ℕ → ℕ) (n : ℕ) → All IsWhite (gap justify gaps n)
@@ -21,6 +19,10 @@ gap-white true gaps n =
 gap-white false gaps n = All-cons IsWhite blank [] refl (All-nil IsWhite)
 
 module _ (justify : Bool) (gaps : ℕ → ℕ) where
+  -- a word before so many others
+  abbrev pub with_gap : List ℕ → List (List ℕ) → SpacedText
+  with_gap word words = record { word = word; white = gap justify gaps (length words) }
+
   pub spread-first : (word : List ℕ) (words : List (List ℕ)) (end : List ℕ)
       → first_word (spread justify gaps (word ∷ words) end) ≡ word
   spread-first word [] end = refl
@@ -32,8 +34,7 @@ module _ (justify : Bool) (gaps : ℕ → ℕ) where
   spread-len (word ∷ []) end = refl
   spread-len (word ∷ next ∷ words) end = ap suc (spread-len (next ∷ words) end)
 
-  pub spread-words : (words : List (List ℕ)) (end : List ℕ)
-      → map (λ w. w.word) (spread justify gaps words end) ≡ words
+  pub spread-words : (words : List (List ℕ)) (end : List ℕ) → words_in (spread justify gaps words end) ≡ words
   spread-words [] end = refl
   spread-words (word ∷ []) end = refl
   spread-words (word ∷ next ∷ words) end = ap (λ l. word ∷ l) (spread-words (next ∷ words) end)
@@ -44,31 +45,22 @@ module _ (justify : Bool) (gaps : ℕ → ℕ) where
   spread-spaced (word ∷ []) end plain white =
       record { word = All-head IsPlain word [] plain; white = white }
   spread-spaced (word ∷ next ∷ words) end plain white =
-      more (spread justify gaps (next ∷ words) end)
-      (spread-spaced (next ∷ words) end (All-tail IsPlain word (next ∷ words) plain) white)
-    where
-      first : SpacedText
-      first = record { word = word; white = gap justify gaps (length words) }
-
-      spaced : IsSpaced first
-      spaced = record {
-        word = All-head IsPlain word (next ∷ words) plain;
-        white = gap-white justify gaps (length words);
-      }
-
-      more : (l : List SpacedText) → AreSpaced l → AreSpaced (first ∷ l)
-      more [] are = spaced
-      more (v ∷ l) are = (spaced, omega arith, are)
+      search (
+        rules,
+        arith,
+        spaced-cons,
+        All-head,
+        gap-white,
+        All-tail,
+        spread-spaced (next ∷ words) end (All-tail IsPlain word (next ∷ words) plain) white,
+      )
 
   -- the white at the end stands behind the text
   pub spread-end : (word : List ℕ) (words : List (List ℕ)) (end : List ℕ)
       → spaced_text (spread justify gaps (word ∷ words) end) ≡ shown justify gaps (word ∷ words) ++ end
   spread-end word [] end =
       append-nil (word ++ end) ∙ ap (λ l. l ++ end) (sym (append-nil (word ++ []) ∙ append-nil word))
-  spread-end word (next ∷ words) end =
-      let first = word ++ gap justify gaps (length words) in
-      ap (λ l. first ++ l) (spread-end next words end)
-      ∙ sym (append_assoc first (shown justify gaps (next ∷ words)) end)
+  spread-end word (next ∷ words) end = grind (arith, cases_Bool, append_assoc, spread-end next words end)
 
   -- what is asked of each word
   pub spread-any : (test : List ℕ → Bool) (words : List (List ℕ)) (end : List ℕ)
@@ -80,15 +72,17 @@ module _ (justify : Bool) (gaps : ℕ → ℕ) where
 
 -- ---- the last of them
 
-less-one : {X : Type 0} (x y : X) (xs : List X) → length (x ∷ y ∷ xs) - 1 ≡ suc (length (y ∷ xs) - 1)
-less-one x y xs = omega arith
+pub last-more : {X : Type 0} (x : X) (xs : List X) → 0 < length xs
+    → drop (length (x ∷ xs) - 1) (x ∷ xs) ≡ drop (length xs - 1) xs
+last-more x xs some =
+    let less : length (x ∷ xs) - 1 ≡ suc (length xs - 1) =
+    omega (arith, some) in ap (λ n. drop n (x ∷ xs)) less
 
-pub last-more : (w v : SpacedText) (ws : List SpacedText) → last_of (w ∷ v ∷ ws) ≡ last_of (v ∷ ws)
-last-more w v ws = ap (λ n. drop n (w ∷ v ∷ ws)) (less-one w v ws)
-
-pub front-more : (w v : SpacedText) (ws : List SpacedText)
-    → words_before_last (w ∷ v ∷ ws) ≡ w ∷ words_before_last (v ∷ ws)
-front-more w v ws = ap (λ n. take n (w ∷ v ∷ ws)) (less-one w v ws)
+pub front-more : (w : SpacedText) (ws : List SpacedText) → 0 < length ws
+    → words_before_last (w ∷ ws) ≡ w ∷ words_before_last ws
+front-more w ws some =
+    let less : length (w ∷ ws) - 1 ≡ suc (length ws - 1) =
+    omega (arith, some) in ap (λ n. take n (w ∷ ws)) less
 
 -- the last of some texts
 abbrev pub last_text : List (List ℕ) → List ℕ
@@ -96,10 +90,10 @@ last_text [] = []
 last_text (word ∷ []) = word
 last_text (word ∷ next ∷ words) = last_text (next ∷ words)
 
-pub last-word : (ws : List SpacedText) → last_word ws ≡ last_text (map (λ w. w.word) ws)
+pub last-word : (ws : List SpacedText) → last_word ws ≡ last_text (words_in ws)
 last-word [] = refl
 last-word (w ∷ []) = refl
-last-word (w ∷ v ∷ ws) = ap first_word (last-more w v ws) ∙ last-word (v ∷ ws)
+last-word (w ∷ v ∷ ws) = ap first_word (last-more w (v ∷ ws) (omega arith)) ∙ last-word (v ∷ ws)
 
 pub spread-last : (justify : Bool) (gaps : ℕ → ℕ) (words : List (List ℕ)) (end : List ℕ)
     → last_word (spread justify gaps words end) ≡ last_text words
@@ -110,14 +104,8 @@ pub spread-white : (justify : Bool) (gaps : ℕ → ℕ) (word : List ℕ) (word
     → last_white (spread justify gaps (word ∷ words) end) ≡ end
 spread-white justify gaps word [] end = refl
 spread-white justify gaps word (next ∷ words) end =
-    white (spread justify gaps (next ∷ words) end) refl ∙ spread-white justify gaps next words end
-  where
-    white : (l : List SpacedText) → spread justify gaps (next ∷ words) end ≡ l
-        → last_white (record { word = word; white = gap justify gaps (length words) } ∷ l)
-        ≡ last_white l
-    white [] is = absurd (omega (arith, ap length is, spread-len justify gaps (next ∷ words) end))
-    white (v ∷ l) is =
-        ap first_white (last-more (record { word = word; white = gap justify gaps (length words) }) v l)
+    ap first_white (last-more (with_gap justify gaps word words) (spread justify gaps (next ∷ words) end)
+    (omega (arith, spread-len justify gaps (next ∷ words) end))) ∙ spread-white justify gaps next words end
 
 -- ---- no columns
 
@@ -134,18 +122,7 @@ gaps-none : (justify : Bool) (gaps : ℕ → ℕ) (words : List (List ℕ)) (end
 gaps-none justify gaps [] end = refl
 gaps-none justify gaps (word ∷ []) end = refl
 gaps-none justify gaps (word ∷ next ∷ words) end =
-    more (spread justify gaps (next ∷ words) end) (gaps-none justify gaps (next ∷ words) end)
-  where
-    first : SpacedText
-    first = record { word = word; white = gap justify gaps (length words) }
-
-    more : (l : List SpacedText) → list_any (is_gap justify) (words_before_last l) ≡ false
-        → list_any (is_gap justify) (words_before_last (first ∷ l)) ≡ false
-    more [] is = refl
-    more (v ∷ l) is =
-        ap (list_any (is_gap justify)) (front-more first v l)
-        ∙ ap (λ b. b || list_any (is_gap justify) (words_before_last (v ∷ l)))
-        (gap-none justify gaps (length words) word) ∙ is
+    grind (arith, cases_Bool, front-more, spread-len, gap-none, gaps-none justify gaps (next ∷ words) end)
 
 pub spread-columns : (justify : Bool) (gaps : ℕ → ℕ) (words : List (List ℕ)) (end : List ℕ)
     → All (λ w. is_column_word w ≡ false) words → has_columns justify (spread justify gaps words end) ≡ false
@@ -156,8 +133,7 @@ spread-columns justify gaps words end none =
 
 -- ---- what may not begin a line
 
-three-parts : (a b c d : Bool) → (a && b && c && d) ≡ true
-    → (a ≡ true) × (b ≡ true) × (c ≡ true) × (d ≡ true)
+three-parts : (a b c d : Bool) → (a && b && c && d) ≡ true → (a ≡ true) × (b ≡ true) × (c ≡ true) × (d ≡ true)
 three-parts a b c d is = grind (arith, cases_Bool)
 
 -- a word that may go on with a paragraph
@@ -169,41 +145,17 @@ pub record MayGoOn (options : ReflowOptions) (starred : Bool) (word : List ℕ) 
 
 pub goes-on : (options : ReflowOptions) (starred : Bool) (word : List ℕ)
     → may_go_on options starred word ≡ true → MayGoOn options starred word
-goes-on options starred word is =
-    let parts = three-parts (begins_text starred word) (not (opens_paragraph word))
-    (not (is_bullet word)) (not (is_among word options.markers.now)) is in record {
-      begins = parts.0;
-      opens = not-true (opens_paragraph word) parts.1;
-      bullet = not-true (is_bullet word) parts.2;
-      marker = not-true (is_among word options.markers.now) parts.3;
-    }
+goes-on options starred word is = grind (arith, cases_Bool, three-parts, not-true)
 
-pub text-no-quote : (starred : Bool) (word : List ℕ) → begins_text starred word ≡ true
-    → is_quote word ≡ false
+pub text-no-quote : (starred : Bool) (word : List ℕ) → begins_text starred word ≡ true → is_quote word ≡ false
 text-no-quote starred word begins =
     false_from_ne_true (is_quote word)
     (λ quote. true≢false (sym (text-letter starred word begins) ∙ quote-plain word quote))
 
 -- words that begin with such a one are no marks
-pub no-mark : (options : ReflowOptions) (in_block starred justify : Bool) (gaps : ℕ → ℕ)
-    (word : List ℕ) (words : List (List ℕ)) (end : List ℕ) → begins_text starred word ≡ true
-    → is_bullet word ≡ false → is_comment_at options in_block word ≡ false
-    → HasNoMark options in_block (spread justify gaps (word ∷ words) end)
-no-mark options in_block starred justify gaps word words end begins bullet comment =
-    spread-mark words (text-other starred word (codes "[") begins box-plain)
-    (text-no-quote starred word begins)
-  where
-    of : (w : SpacedText) (l : List SpacedText) → bytes_eq w.word (codes "[") ≡ false
-        → is_quote w.word ≡ false → is_bullet w.word ≡ false
-        → is_comment_at options in_block w.word ≡ false → HasNoMark options in_block (w ∷ l)
-    of w l box quote bullet comment = record {
-      comment = ap one_if comment;
-      quote = ap (λ b. cond b (suc (quotes_len l)) 0) quote;
-      bullet = bullets-none w l bullet box;
-    }
-
-    spread-mark : (words : List (List ℕ)) → bytes_eq word (codes "[") ≡ false
-        → is_quote word ≡ false → HasNoMark options in_block (spread justify gaps (word ∷ words) end)
-    spread-mark [] box quote = of _ [] box quote bullet comment
-    spread-mark (next ∷ words) box quote =
-        of _ (spread justify gaps (next ∷ words) end) box quote bullet comment
+pub no-mark : (options : ReflowOptions) (in_block starred : Bool) (word : List ℕ) (ws : List SpacedText)
+    → first_word ws ≡ word → begins_text starred word ≡ true → is_bullet word ≡ false
+    → is_comment_at options in_block word ≡ false → HasNoMark options in_block ws
+no-mark options in_block starred word [] is begins bullet comment = search (rules, arith)
+no-mark options in_block starred word (w ∷ ws) is begins bullet comment =
+    search (rules, arith, text-no-quote, bullets-none, text-other, box-plain)

@@ -1,27 +1,25 @@
 -- The lines of a paragraph of a text, one after another.
-use Rattle.textwrap_marked_laws.proofs.Common.{All-append, SpacedText, append-nil, cases_Bool, first_word, arith}
-use Rattle.textwrap_marked_laws.proofs.Common.{LineText, any-none, as_title, bytes_eq, contains, is_ended, codes}
-use Rattle.textwrap_marked_laws.proofs.Common.{length, nat_lt, passed, false, subst, Bool, List, drop, refl, All}
-use Rattle.textwrap_marked_laws.proofs.Common.{length-append, closes_block, closes_early, line_as_read, All-cons}
-use Rattle.textwrap_marked_laws.proofs.Common.{length-map, read_lines, StateText, last_word, All-head, All-tail}
-use Rattle.textwrap_marked_laws.proofs.Common.{or-false, All-map, All-nil, entered, goes_on, or-left, get_or, []}
-use Rattle.textwrap_marked_laws.proofs.Common.{true, ◌&&◌, ◌++◌, ◌||◌, ap₂, map, not, sym, ◌<◌, ◌∙◌, ◌∷◌, ◌≡◌, ⊤}
-use Rattle.textwrap_marked_laws.proofs.Common.{without_returns, is_column_word, words_of_lines, ReflowOptions, ℕ}
-use Rattle.textwrap_marked_laws.proofs.Common.{words_before_last, bytes_eq-Decides, opens_paragraph, with_titles}
-use Rattle.textwrap_marked_laws.proofs.{Common.ap, HangingForms.IsHanging, LaterLines.IsOfText}
-use Rattle.textwrap_marked_laws.proofs.LinesAlone.{AreTextLines, more-lines, no-lines}
-use Rattle.textwrap_marked_laws.proofs.{OpenBehind.behind_text, OpenBehind.no-columns, ParagraphLines.later-line}
-use Rattle.textwrap_marked_laws.proofs.SpacedBack.{spaced-plain, IsPlain}
-use Rattle.textwrap_marked_laws.proofs.SpreadWords.{front-more, last-more, last_text}
 use Rattle.textwrap_marked_lines.specs.Lines.{is_title}
 use Rattle.textwrap_marks.{proofs.ListLemmas.or-right, specs.Signs.ends_early}
+use Rattle.textwrap_marked_laws.proofs as own
+use own.Common.{All-append, SpacedText, append-nil, cases_Bool, first_word, length-map, read_lines, All-head}
+use own.Common.{All-tail, LineText, any-none, as_title, contains, is_ended, or-false, All-map, All-nil, arith}
+use own.Common.{ReflowOptions, length-append, closes_block, closes_early, line_as_read, with_titles, All-cons}
+use own.Common.{bytes_eq-Decides, opens_paragraph, without_returns, is_column_word, words_of_lines, StateText}
+use own.Common.{entered, goes_on, or-left, get_or, length, nat_lt, passed, codes, false, subst, Bool, List, ℕ}
+use own.Common.{refl, true, ◌&&◌, ◌++◌, ◌||◌, All, not, sym, ◌<◌, ◌∙◌, ◌∷◌, ◌≡◌, [], ap, ⊤}
+use own.OpenBehind.{behind_text, no-columns}
+use own.{HangingForms.IsHanging, LaterLines.{read_block, line-read, read-line, IsOfText, read_as, IsRead}}
+use own.{LinesAlone.{AreTextLines, more-lines, no-lines}, SpacedBack.{spaced-plain, words_in, IsPlain}}
+use own.{ParagraphLines.{first-hangs, first-text, later-line}, SpreadWords.{front-more, last-more, last_text}}
 
 -- the last of some texts is that of those behind others
-pub last-behind : (words : List (List ℕ)) (word : List ℕ) (later : List (List ℕ))
-    → last_text (words ++ word ∷ later) ≡ last_text (word ∷ later)
-last-behind [] word later = refl
-last-behind (v ∷ []) word later = refl
-last-behind (v ∷ w ∷ words) word later = last-behind (w ∷ words) word later
+pub last-behind : (words later : List (List ℕ)) → 0 < length later
+    → last_text (words ++ later) ≡ last_text later
+last-behind [] later some = refl
+last-behind (v ∷ []) [] some = absurd (omega (arith, some))
+last-behind (v ∷ []) (word ∷ later) some = refl
+last-behind (v ∷ w ∷ words) later some = last-behind (w ∷ words) later some
 
 -- ---- titles
 
@@ -58,11 +56,7 @@ module _ (options : ReflowOptions) where
       → let line = line_at state raw raws in
       let later = read (passed (entered state (without_returns raw)) line) raws in
       read state (raw ∷ raws) ≡ as_title (title_of line later) line ∷ later
-  read-more state raw raws =
-      let line = line_at state raw raws in
-      let later = read_lines options (passed (entered state (without_returns raw)) line) raws in
-      titles-more line later
-      ∙ ap (λ b. as_title b line ∷ with_titles later) (sym (title-same line later))
+  read-more state raw raws = grind (arith, cases_Bool, titles-more, title-same)
 
   -- what holds of each line that is read, a title or not, holds of all of them
   pub read-all : (P : LineText → Type 0) (Q : List ℕ → Type 0) → ((state : StateText) (raw : List ℕ)
@@ -89,29 +83,12 @@ module _ (options : ReflowOptions) where
   pub peel : (state : StateText) (raws : List (List ℕ)) (line : LineText) (lines : List LineText)
       → line ∷ lines ≡ read state raws → IsPeeled state line lines raws
   peel state [] line lines is = absurd (omega (arith, ap length is))
-  peel state (raw ∷ raws) line lines is =
-      let here = line_at state raw raws in
-      let behind = read (passed (entered state (without_returns raw)) here) raws in
-      let whole : line ∷ lines ≡ as_title (title_of here behind) here ∷ behind =
-      is ∙ read-more state raw raws in
-      let later : lines ≡ behind = ap (drop 1) whole in record {
-        raw = raw;
-        left = raws;
-        whole = refl;
-        here = ap (λ l. get_or l 0 line) whole ∙ ap (λ l. as_title (title_of here l) here) (sym later);
-        later = later;
-      }
+  peel state (raw ∷ raws) line lines is = grind (arith, cases_Bool, read-more)
 
 -- a line that does not stand apart is no title
 pub untitled : (is : Bool) (line titled : LineText) → titled ≡ as_title is line
     → titled.apart ≡ false → (titled ≡ line) × (line.apart ≡ false) × (is ≡ false)
-untitled is line titled same apart =
-    let both : (line.apart || is) ≡ false = sym (ap (λ (l : LineText). l.apart) same) ∙ apart in
-    let title = or-right line.apart is both in (
-      same ∙ ap (λ b. as_title b line) title ∙ as-title-none line,
-      or-left line.apart is both,
-      title,
-    )
+untitled is line titled same apart = grind (arith, cases_Bool, or-right, as-title-none, or-left)
 
 -- ---- words that may close a block comment
 
@@ -133,41 +110,30 @@ pub closing-before : (in_block : Bool) (words later : List (List ℕ)) → All (
 closing-before false words later all are = refl
 closing-before true [] later all are = are
 closing-before true (word ∷ words) later all are =
-    more (words ++ later) (All-head (NoClose true) word words all)
-    (closing-before true words later (All-tail (NoClose true) word words all) are)
-  where
-    more : (l : List (List ℕ)) → NoClose true word → AreClosing true l → AreClosing true (word ∷ l)
-    more [] none are = ap (λ t. t && ends_early word) none
-    more (v ∷ l) none are = ap (λ t. t || closes_badly (v ∷ l)) none ∙ are
+    grind (
+      arith,
+      cases_Bool,
+      All-head,
+      All-tail,
+      closing-before true words later (All-tail (NoClose true) word words all) are,
+    )
 
-masked-all : (in_block : Bool) (words : List SpacedText)
-    → (in_block && closes_block words) ≡ false
-    → All (NoClose in_block) (map (λ w. w.word) words)
+masked-all : (in_block : Bool) (words : List SpacedText) → (in_block && closes_block words) ≡ false
+    → All (NoClose in_block) (words_in words)
 masked-all false words is =
     All-map (NoClose false) (λ w. w.word) words (λ k d within. refl)
 masked-all true words is =
     All-map (NoClose true) (λ w. w.word) words (any-none (λ w. contains (codes "*/") w.word) words is)
 
 closing-is : (words : List SpacedText)
-    → (closes_block words && closes_early words) ≡ closes_badly (map (λ w. w.word) words)
+    → (closes_block words && closes_early words) ≡ closes_badly (words_in words)
 closing-is [] = refl
-closing-is (w ∷ []) =
-    elim (contains (codes "*/") w.word)
-    as (λ c. ((c || false) && (false || ends_early w.word)) ≡ (c && ends_early w.word))
-    [ true ↦ refl | false ↦ refl ]
-closing-is (w ∷ v ∷ ws) =
-    let all = closes_block (v ∷ ws) in
-    let front = closes_block (words_before_last (v ∷ ws)) in
-    let early = ends_early (last_word (v ∷ ws)) in
-    ap₂ (λ l k. (contains (codes "*/") w.word || all) && (closes_block l || ends_early (first_word k)))
-    (front-more w v ws) (last-more w v ws)
-    ∙ elim (contains (codes "*/") w.word)
-    as (λ c. ((c || all) && ((c || front) || early)) ≡ (c || (all && (front || early)))) [ true ↦ refl | false ↦ refl ]
-    ∙ ap (λ b. contains (codes "*/") w.word || b) (closing-is (v ∷ ws))
+closing-is (w ∷ []) = grind (arith, cases_Bool)
+closing-is (w ∷ v ∷ ws) = grind (arith, cases_Bool, front-more, last-more, closing-is (v ∷ ws))
 
 pub closing-same : (in_block : Bool) (words : List SpacedText)
     → (in_block && closes_block words && closes_early words)
-    ≡ (in_block && closes_badly (map (λ w. w.word) words))
+    ≡ (in_block && closes_badly (words_in words))
 closing-same true words = closing-is words
 closing-same false words = refl
 
@@ -192,17 +158,10 @@ pub record AreTextWords (in_block : Bool) (words : List (List ℕ)) : Type 0 whe
   pub columns : All (λ w. is_column_word w ≡ false) words
   pub closing : AreClosing in_block words
 
-going : (a b c d e : Bool) → (not a && not b && not c && d && not e) ≡ true
-    → (b ≡ false) × (c ≡ false) × (d ≡ true) × (e ≡ false)
-going a b c d e is = grind (arith, cases_Bool)
-
 pub goes-facts : (line next : LineText) → goes_on line next ≡ true
     → (next.apart ≡ false) × (line.ended ≡ false) × (next.prefix ≡ line.hanging)
     × (opens_paragraph (first_word next.words) ≡ false)
-goes-facts line next is =
-    let facts = going line.apart next.apart line.ended (bytes_eq next.prefix line.hanging)
-    (opens_paragraph (first_word next.words)) is in
-    (facts.0, facts.1, (bytes_eq-Decides next.prefix line.hanging).0 facts.2, facts.3)
+goes-facts line next is = grind (arith, cases_Bool, bytes_eq-Decides)
 
 -- what does not close a block comment leaves it as it is
 pub open_still : (a c : Bool) → (a && c) ≡ false → (a && not c) ≡ a
@@ -212,8 +171,7 @@ ended-none : (in_block : Bool) (words : List SpacedText) → is_ended in_block w
     → (in_block && closes_block words) ≡ false
 ended-none in_block words is = or-right _ (in_block && closes_block words) is
 
-module _ (options : ReflowOptions) (in_block : Bool) (hanging : List ℕ)
-    (hang : IsHanging options in_block hanging) where
+module _ (options : ReflowOptions) (in_block : Bool) (hanging : List ℕ) where
   -- the paragraph up to its last line, and the lines behind it
   pub record IsWalked (line : LineText) (lines rest : List LineText) (raws : List (List ℕ)) : Type 0 where
     pub done : List (List ℕ)
@@ -225,64 +183,30 @@ module _ (options : ReflowOptions) (in_block : Bool) (hanging : List ℕ)
     pub apart : (last_line line lines).apart ≡ false
     pub title : title_of (last_line line lines) rest ≡ false
     pub fed : (last_line line lines).fed ≡ nat_lt 0 (length left)
-    pub closing : AreClosing in_block (map (λ w. w.word) (last_line line lines).words)
     pub words_some : 0 < length (words_of_lines (line ∷ lines))
     pub final : last_text (words_of_lines (line ∷ lines))
-        ≡ last_text (map (λ w. w.word) (last_line line lines).words)
+        ≡ last_text (words_in (last_line line lines).words)
     pub words : AreTextWords in_block (words_of_lines (line ∷ lines))
     pub texts : AreTextLines options done lines
 
-  walked-last : (mine others : List (List ℕ)) → 0 < length others
-      → last_text (mine ++ others) ≡ last_text others
-  walked-last mine [] some = absurd (omega (arith, some))
-  walked-last mine (word ∷ others) some = last-behind mine word others
+  pub line-closing : (state : StateText) (line : LineText) → IsOfText options in_block hanging state line
+      → AreClosing in_block (words_in line.words)
+  line-closing state line of = sym (closing-same in_block line.words) ∙ of.closes
 
   line-words : (state : StateText) (line : LineText) → IsOfText options in_block hanging state line
-      → AreTextWords in_block (map (λ w. w.word) line.words)
+      → AreTextWords in_block (words_in line.words)
   line-words state line of = record {
     plain = All-map IsPlain (λ w. w.word) line.words (spaced-plain line.words of.spaced);
-    columns = All-map (λ w. is_column_word w ≡ false) (λ w. w.word) line.words
-        (no-columns options.justify line.words of.columns);
-    closing = sym (closing-same in_block line.words) ∙ of.closes;
+    columns = All-map NoColumn (λ w. w.word) line.words (no-columns options.justify line.words of.columns);
+    closing = line-closing state line of;
   }
 
-  walk-more : (state : StateText) (line next : LineText) (lines rest : List LineText)
-      (raw : List ℕ) (raws left : List (List ℕ)) → raws ≡ raw ∷ left
-      → IsOfText options in_block hanging state line → line.ended ≡ false
-      → (walked : IsWalked next lines rest left) → AreTextLines options (raw ∷ walked.done) (next ∷ lines)
-      → IsWalked line (next ∷ lines) rest raws
-  walk-more state line next lines rest raw raws left whole of ended walked texts =
-      let own = line-words state line of in
-      let none = masked-all in_block line.words
-      (ended-none in_block line.words (sym of.ends ∙ ended)) in
-      let mine = map (λ (w : SpacedText). w.word) line.words in
-      let others = words_of_lines (next ∷ lines) in record {
-        done = raw ∷ walked.done;
-        left = walked.left;
-        whole = whole ∙ ap (λ l. raw ∷ l) walked.whole;
-        reads = walked.reads;
-        at = walked.at;
-        of = walked.of;
-        apart = walked.apart;
-        title = walked.title;
-        fed = walked.fed;
-        closing = walked.closing;
-        words_some = omega (arith, walked.words_some, length-append mine others);
-        final = walked-last mine others walked.words_some ∙ walked.final;
-        words = record {
-          plain = All-append IsPlain mine others own.plain walked.words.plain;
-          columns = All-append NoColumn mine others own.columns walked.words.columns;
-          closing = closing-before in_block mine others none walked.words.closing;
-        };
-        texts = texts;
-      }
-
-  pub walk : (lines : List LineText) (line : LineText) (state : StateText) (rest : List LineText)
-      (raws : List (List ℕ)) → IsOfText options in_block hanging state line → line.apart ≡ false
-      → title_of line (lines ++ rest) ≡ false → AreOneBlock line lines
+  walk : IsHanging options in_block hanging → (lines : List LineText) (line : LineText) (state : StateText)
+      (rest : List LineText) (raws : List (List ℕ)) → IsOfText options in_block hanging state line
+      → line.apart ≡ false → title_of line (lines ++ rest) ≡ false → AreOneBlock line lines
       → line.fed ≡ nat_lt 0 (length raws)
       → lines ++ rest ≡ read options (passed state line) raws → IsWalked line lines rest raws
-  walk [] line state rest raws of apart title one fed is = record {
+  walk hang [] line state rest raws of apart title one fed is = record {
     done = [];
     left = raws;
     whole = refl;
@@ -292,38 +216,111 @@ module _ (options : ReflowOptions) (in_block : Bool) (hanging : List ℕ)
     apart = apart;
     title = title;
     fed = fed;
-    closing = sym (closing-same in_block line.words) ∙ of.closes;
     words_some = omega (
       arith,
-      length-append (map (λ w. w.word) line.words) [],
+      length-append (words_in line.words) [],
       length-map line.words (λ w. w.word),
     );
-    final = ap last_text (append-nil (map (λ w. w.word) line.words));
-    words = subst (AreTextWords in_block) (sym (append-nil (map (λ w. w.word) line.words)))
+    final = ap last_text (append-nil (words_in line.words));
+    words = subst (AreTextWords in_block) (sym (append-nil (words_in line.words)))
         (line-words state line of);
     texts = no-lines options;
   }
-  walk (next ∷ lines) line state rest raws of apart title (goes, one) fed is =
+  walk hang (next ∷ lines) line state rest raws of apart title (goes, one) fed is =
       let (level, ended, prefix, opens) = goes-facts line next goes in
       let behind = behind_text in_block hanging line.words in
       let peeled = peel options behind raws next (lines ++ rest)
       (is ∙ ap (λ s. read options s raws) of.behind) in
-      let read_line = line_at options behind peeled.raw peeled.left in
+      let raw = peeled.raw in
+      let read_line = line_at options behind raw peeled.left in
       let (same, free, plain) =
       untitled (title_of read_line (lines ++ rest)) read_line next peeled.here level in
-      let block : (in_block && not (closes_block line.words)) ≡ in_block =
-      open_still in_block (closes_block line.words)
-      (ended-none in_block line.words (sym of.ends ∙ ended)) in
+      let open_block = ended-none in_block line.words (sym of.ends ∙ ended) in
       let hung : read_line.prefix ≡ hanging =
       sym (ap (λ (l : LineText). l.prefix) same) ∙ prefix ∙ of.hangs in
       let fed_next = nat_lt 0 (length peeled.left) in
-      let of_read = later-line options in_block hanging hang behind peeled.raw fed_next block free hung in
-      let of_next = subst (IsOfText options in_block hanging behind) (sym same) of_read in
-      let title_next : title_of next (lines ++ rest) ≡ false =
-      ap (λ l. title_of l (lines ++ rest)) same ∙ plain in
-      let walked = walk lines next behind rest peeled.left of_next level title_next one
-      (ap (λ (l : LineText). l.fed) same)
+      let of_read = later-line options in_block hanging hang behind raw fed_next
+      (open_still in_block (closes_block line.words) open_block) free hung in
+      let walked = walk hang lines next behind rest peeled.left
+      (subst (IsOfText options in_block hanging behind) (sym same) of_read) level
+      (ap (λ l. title_of l (lines ++ rest)) same ∙ plain) one (ap (λ (l : LineText). l.fed) same)
       (peeled.later ∙ ap (λ l. read options (passed behind l) peeled.left) (sym same)) in
-      walk-more state line next lines rest peeled.raw raws peeled.left peeled.whole of ended walked
-      (subst (λ l. AreTextLines options (peeled.raw ∷ walked.done) (l ∷ lines)) (sym same)
-      (more-lines options in_block hanging hang behind peeled.raw fed_next walked.done lines of_read hung walked.texts))
+      let own = line-words state line of in
+      let mine = words_in line.words in
+      let others = words_of_lines (next ∷ lines) in record {
+        done = raw ∷ walked.done;
+        left = walked.left;
+        whole = peeled.whole ∙ ap (λ l. raw ∷ l) walked.whole;
+        reads = walked.reads;
+        at = walked.at;
+        of = walked.of;
+        apart = walked.apart;
+        title = walked.title;
+        fed = walked.fed;
+        words_some = omega (arith, walked.words_some, length-append mine others);
+        final = last-behind mine others walked.words_some ∙ walked.final;
+        words = record {
+          plain = All-append IsPlain mine others own.plain walked.words.plain;
+          columns = All-append NoColumn mine others own.columns walked.words.columns;
+          closing = closing-before in_block mine others (masked-all in_block line.words open_block)
+              walked.words.closing;
+        };
+        texts = subst (λ l. AreTextLines options (raw ∷ walked.done) (l ∷ lines)) (sym same)
+            (more-lines options in_block hanging hang behind raw fed_next walked.done lines of_read hung
+            walked.texts);
+      }
+
+module _ (options : ReflowOptions) where
+  -- a paragraph's first line as it is read, and the walk over the others
+  pub record IsParagraph (state : StateText) (raw : List ℕ) (first : LineText)
+      (lines rest : List LineText) : Type 0 where
+    pub fed : Bool
+    pub behind : List (List ℕ)
+    pub has : IsRead options state raw
+    pub is : first ≡ read_as options state raw has fed
+    pub apart : (read_as options state raw has fed).apart ≡ false
+    pub walked : IsWalked options (read_block options state raw has)
+        (read_as options state raw has fed).hanging
+        (read_as options state raw has fed) lines rest behind
+
+  pub paragraph-at : (state : StateText) (raws : List (List ℕ)) (first : LineText)
+      (lines rest : List LineText) → first ∷ (lines ++ rest) ≡ read options state raws
+      → first.apart ≡ false → AreOneBlock first lines
+      → (raw : List ℕ) × (p : IsParagraph (entered state (without_returns raw)) raw first lines rest)
+      × (raws ≡ raw ∷ p.behind)
+  paragraph-at state raws first lines rest reads apart one =
+      let peeled = peel options state raws first (lines ++ rest) reads in
+      let raw = peeled.raw in
+      let at = entered state (without_returns raw) in
+      let fed = nat_lt 0 (length peeled.left) in
+      let read_line = line_at options state raw peeled.left in
+      let (same, free, plain) =
+      untitled (title_of read_line (lines ++ rest)) read_line first peeled.here apart in
+      let has = line-read options at raw in
+      let here = read_as options at raw has fed in
+      let is : read_line ≡ here = read-line options at raw has fed in
+      let whole = same ∙ is in
+      let level : here.apart ≡ false = sym (ap (λ (l : LineText). l.apart) whole) ∙ apart in
+      let title : title_of here (lines ++ rest) ≡ false =
+      sym (ap (λ l. title_of l (lines ++ rest)) is) ∙ plain in
+      let later : lines ++ rest ≡ read options (passed at here) peeled.left =
+      peeled.later ∙ ap (λ l. read options (passed at l) peeled.left) is in (
+        raw,
+        record {
+          fed = fed;
+          behind = peeled.left;
+          has = has;
+          is = whole;
+          apart = level;
+          walked = walk options (read_block options at raw has) here.hanging
+              (first-hangs options at raw fed has level)
+              lines here at rest peeled.left (first-text options at raw fed has level) level title
+              (subst (λ l. AreOneBlock l lines) whole one) refl later;
+        },
+        peeled.whole,
+      )
+
+pub first-of-words : (ws : List SpacedText) (others : List (List ℕ)) (word : List ℕ) (words : List (List ℕ))
+    → 0 < length ws → words_in ws ++ others ≡ word ∷ words → first_word ws ≡ word
+first-of-words [] others word words some is = absurd (omega (arith, some))
+first-of-words (w ∷ ws) others word words some is = ap (λ l. get_or l 0 []) is

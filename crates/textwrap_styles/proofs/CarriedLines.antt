@@ -14,14 +14,14 @@ use Rattle.textwrap_styles.proofs.SequenceTexts.{penned-append, text-sequences, 
 use Rattle.textwrap_styles.specs.{Indents.{after_indent, before_text, indent_end}, Penned.penned_units}
 use Rattle.textwrap_styles.specs.Styled.{EachWithIndent, EndsPlain, IsWholeText, MayCarry}
 use Rattle.textwrap_styles.specs.Styles.{carried_line, opening, reopened_link, texts_of}
-use Rattle.textwrap_text.proofs.Common.{◌+◌, ◌++◌, ◌<◌, ◌==◌, [], All, All-append, All-cons, All-drop}
-use Rattle.textwrap_text.proofs.Common.{All-head, All-nil, All-tail, All-weaker, ap, append-nil, append_assoc}
-use Rattle.textwrap_text.proofs.Common.{arith, cases_Bool, chars-nil, cond, drop, drop_at, drop_more}
-use Rattle.textwrap_text.proofs.Common.{flat_map, fold, get_or, inl, inr, IsUtf8, IsUtf8-drop, length}
-use Rattle.textwrap_text.proofs.Common.{length-append, List, map, map-append, nat_eq, nat_tests}
-use Rattle.textwrap_text.proofs.Common.{nil_from_length, refl, rules, starts_with, subst, sym, take}
-use Rattle.textwrap_text.proofs.Common.{take-append-drop, take_at, text_width, units, ℕ, ◌∙◌, ◌∷◌, ◌≡◌, ◌≤◌}
-use Rattle.textwrap_text.proofs.{Lists.Parts.{all-right, starts_with-rest}, Texts.StartsWith-boundary}
+use Rattle.textwrap_text.proofs.Common.{◌+◌, ◌++◌, ◌<◌, ◌==◌, [], All, All-append, All-cons, All-head}
+use Rattle.textwrap_text.proofs.Common.{All-nil, All-tail, All-weaker, ap, append-nil, append_assoc, arith}
+use Rattle.textwrap_text.proofs.Common.{cases_Bool, chars-nil, cond, drop, drop_at, drop_more, flat_map, fold}
+use Rattle.textwrap_text.proofs.Common.{get_or, inl, inr, IsUtf8, IsUtf8-drop, length, length-append, List}
+use Rattle.textwrap_text.proofs.Common.{map, map-append, nat_eq, nat_tests, nil_from_length, refl, rules}
+use Rattle.textwrap_text.proofs.Common.{starts_with, subst, sym, take, take-append-drop, take_at, text_width}
+use Rattle.textwrap_text.proofs.{Common.{units, ℕ, ◌∙◌, ◌∷◌, ◌≡◌, ◌≤◌}, Texts.StartsWith-boundary}
+use Rattle.textwrap_text.proofs.Lists.Parts.{all-right, starts_with-rest}
 
 -- ---- one line more that sets anew what is open, and ends plain
 

@@ -11,10 +11,10 @@ use Rattle.textwrap_styles.proofs.{PenOpen.{AreLatest, open-latest, open-pen, pe
 use Rattle.textwrap_styles.proofs.WrittenSettings.{all-settings}
 use Rattle.textwrap_styles.specs.Laws.{NothingIfUnknown, NothingShorterGivesThePen, OpenStylesAreSetters}
 use Rattle.textwrap_styles.specs.Settings.{is_end, is_unknown, number, replaces, takes_back}
-use Rattle.textwrap_text.proofs.Common.{◌&&◌, ◌==◌, [], after_last, All, All-head, All-tail, ap, arith}
-use Rattle.textwrap_text.proofs.Common.{cases_Bool, cond, eqb, eqb-true, false, filter, flat_map, inl, inr}
-use Rattle.textwrap_text.proofs.Common.{length-map, List, list_any, nat_tests, not, refl, sym, true}
-use Rattle.textwrap_text.proofs.Common.{true≢false, ◌||◌, ℕ, ◌∙◌, ◌∷◌, ◌≡◌}
+use Rattle.textwrap_text.proofs.Common.{◌&&◌, [], after_last, All, All-head, All-tail, ap, arith, cases_Bool}
+use Rattle.textwrap_text.proofs.Common.{cond, eqb, eqb-true, false, filter, flat_map, inl, inr, length-map}
+use Rattle.textwrap_text.proofs.Common.{List, list_any, nat_tests, not, refl, sym, true, true≢false, ℕ, ◌∙◌}
+use Rattle.textwrap_text.proofs.Common.{◌∷◌, ◌≡◌}
 
 -- ---- the fields of a pen that are not plain
 

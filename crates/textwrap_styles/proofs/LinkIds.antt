@@ -1,9 +1,8 @@
 -- A link that is set anew with an id: it is a link to the same target, and one sequence.
-use Rattle.std.proofs.lemmas.{Fmt.{decimal_is_IsNumeral, length-decimal-le}, Str.Ascii.IsAscii-from_all}
-use Rattle.std.proofs.lemmas.{List.Elements.{All-from_get_or, filter_passes}, Str.Parse.digit_at}
-use Rattle.std.{proofs.lemmas.List.Folds.{list_all-append, list_any-append}, specs.Fmt.decimal}
-use Rattle.std.{proofs.lemmas.List.Sums.{AllPass-from_list_all, list_all-from_AllPass}, specs.Str.IsAscii}
-use Rattle.std.specs.List.{after_first, concat}
+use Rattle.std.proofs.lemmas.{Fmt.{decimal_is_IsNumeral, length-decimal-le}, List.Elements.All-from_get_or}
+use Rattle.std.proofs.lemmas.{List.Folds.{list_all-append, list_any-append}, Str.Ascii.IsAscii-from_all}
+use Rattle.std.proofs.lemmas.{List.Sums.{AllPass-from_list_all, list_all-from_AllPass}, Str.Parse.digit_at}
+use Rattle.std.specs.{Fmt.decimal, List.{after_first, concat}, Str.IsAscii}
 use Rattle.textwrap_styles.proofs.Common.{chars, is_in_range, is_link, is_style, open_link}
 use Rattle.textwrap_styles.proofs.{LinkParameters.id-begins, SequenceTexts.{IsSequence, unit-sequence}}
 use Rattle.textwrap_styles.proofs.Sequences.{around-bell, around-terminator, bell, IsAround, link-no_style}

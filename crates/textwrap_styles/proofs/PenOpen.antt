@@ -6,17 +6,17 @@ use Rattle.textwrap_styles.proofs.{Common.{Pen, plain_pen, Reset, settings}, Ope
 use Rattle.textwrap_styles.proofs.OpenSettings.{all-latest, all-since, known-below, latest-in_effect}
 use Rattle.textwrap_styles.proofs.OpenSettings.{left-after, next_left, none-latest, resets, Sets}
 use Rattle.textwrap_styles.proofs.PenCodes.{apply-changes, Changes, changes-then, mix, mix-again, mix-swap}
-use Rattle.textwrap_styles.proofs.{PenCodes.{mix-within, nothing, sets}, SettingTexts.taken-again}
-use Rattle.textwrap_styles.{proofs.PenSettings.{all-known, among, kind-code, many-end}, specs.Pen.read}
-use Rattle.textwrap_styles.proofs.SettingTexts.{are-settings, between-append, drop-all, fields-split}
-use Rattle.textwrap_styles.proofs.SettingTexts.{first-take, InRange, IsSetting, settings-next, settings-one}
+use Rattle.textwrap_styles.{proofs.PenCodes.{mix-within, nothing, sets}, specs.Pen.read}
+use Rattle.textwrap_styles.proofs.PenSettings.{all-known, kind-code, many-end}
+use Rattle.textwrap_styles.proofs.SettingTexts.{are-settings, between-append, drop-all, fields-split, InRange}
+use Rattle.textwrap_styles.proofs.SettingTexts.{IsSetting, settings-next, settings-one, taken-again}
 use Rattle.textwrap_styles.specs.Settings.{first_setting, is_color_code, is_end, is_ending_code, is_unknown}
 use Rattle.textwrap_styles.specs.Settings.{kind_of, kind_of_code, number, replaces, taken_fields, takes_back}
 use Rattle.textwrap_text.proofs.Common.{◌&&◌, ◌+◌, ◌++◌, ◌<◌, ◌==◌, [], after_last, All, All-drop, All-head}
 use Rattle.textwrap_text.proofs.Common.{All-tail, ap, arith, cases_Bool, cond_both, drop, eqb-true, false}
 use Rattle.textwrap_text.proofs.Common.{fold, inl, inr, length, length-drop, List, list_any, map-append}
-use Rattle.textwrap_text.proofs.Common.{nat_tests, refl, rules, subst, suc, sym, take_all, true, true≢false}
-use Rattle.textwrap_text.proofs.Common.{zero, ◌||◌, ℕ, ◌∙◌, ◌∷◌, ◌≡◌, ◌≤◌, ⊤}
+use Rattle.textwrap_text.proofs.Common.{nat_tests, refl, rules, subst, suc, sym, true, true≢false, zero, ◌||◌}
+use Rattle.textwrap_text.proofs.Common.{ℕ, ◌∙◌, ◌∷◌, ◌≡◌, ◌≤◌, ⊤}
 
 -- ---- settings one after another, of which each sets its own fields
 

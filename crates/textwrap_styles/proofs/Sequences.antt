@@ -5,18 +5,18 @@ use Rattle.std.specs.Str.Pattern.{FindsTextSuffix, StripsSuffix}
 use Rattle.textwrap_styles.proofs.Common.{All-filter, chars, has_target, is_in_range, is_link, is_style}
 use Rattle.textwrap_styles.proofs.Common.{open_link, sequence_of, sequences, style_parameters}
 use Rattle.textwrap_styles.specs.Styles.{link_fields}
-use Rattle.textwrap_text.proofs.Common.{◌+◌, ◌++◌, ◌-◌, ◌==◌, [], All, All-drop, All-head, All-tail}
-use Rattle.textwrap_text.proofs.Common.{and_parts, ap, append-nil, append_assoc, arith, Bool, Bor, cases_Bool}
-use Rattle.textwrap_text.proofs.Common.{chars-append, chars_from_encodes, chars_past_char, codes, cond}
-use Rattle.textwrap_text.proofs.Common.{cond_both, drop, drop-append-add, drop-drop, drop_at, encode_ascii}
-use Rattle.textwrap_text.proofs.Common.{encode_utf8_all, ends_with, eqb, escape_len, false, filter}
-use Rattle.textwrap_text.proofs.Common.{filter-append, flat_map, IsCharBoundary, IsUtf8, IsUtf8-drop, length}
-use Rattle.textwrap_text.proofs.Common.{length-append, List, list_all, list_any, nat_eq, next_of, None}
-use Rattle.textwrap_text.proofs.Common.{Option, refl, rules, slice_range, Some, subst, suc, sym, take}
-use Rattle.textwrap_text.proofs.Common.{take-append-drop, take_all, take_at, taken_in, true, units, ◌||◌, ℕ}
-use Rattle.textwrap_text.proofs.{Common.{◌∙◌, ◌∷◌, ◌≡◌, ◌≢◌}, Lists.Parts.{starts_with-rest, stripped_suffix}}
+use Rattle.textwrap_text.proofs.Common.{◌+◌, ◌++◌, ◌-◌, ◌==◌, [], All, All-head, All-tail, and_parts, ap}
+use Rattle.textwrap_text.proofs.Common.{append-nil, append_assoc, arith, Bool, Bor, cases_Bool, chars-append}
+use Rattle.textwrap_text.proofs.Common.{chars_from_encodes, chars_past_char, codes, cond, cond_both, drop}
+use Rattle.textwrap_text.proofs.Common.{drop-append-add, drop-drop, drop_at, encode_ascii, encode_utf8_all}
+use Rattle.textwrap_text.proofs.Common.{ends_with, eqb, escape_len, false, filter, filter-append, flat_map}
+use Rattle.textwrap_text.proofs.Common.{IsCharBoundary, IsUtf8, IsUtf8-drop, length, length-append, List}
+use Rattle.textwrap_text.proofs.Common.{list_all, list_any, nat_eq, next_of, None, Option, refl, rules}
+use Rattle.textwrap_text.proofs.Common.{slice_range, Some, subst, suc, sym, take, take-append-drop, take_all}
+use Rattle.textwrap_text.proofs.Common.{take_at, taken_in, true, units, ◌||◌, ℕ, ◌∙◌, ◌∷◌, ◌≡◌, ◌≢◌}
 use Rattle.textwrap_text.proofs.Lists.Parts.{ends_with-after, ends_with-other, ends_with-true, last_one-push}
-use Rattle.textwrap_text.proofs.{Texts.{ascii_seam, AsciiSeam, cut_text, IsCut}, Units.Reading.taken-step}
+use Rattle.textwrap_text.proofs.{Lists.Parts.{starts_with-rest, stripped_suffix}, Units.Reading.taken-step}
+use Rattle.textwrap_text.proofs.Texts.{ascii_seam, AsciiSeam, cut_text, IsCut}
 use Rattle.textwrap_text.proofs.Units.Reading.{IsRead, read-ahead, read-all, read-next, read-none, read-start}
 use Rattle.textwrap_text.specs.declared.escapes.State.{State, TheVariants.{Escape, Text}}
 use Rattle.textwrap_words.proofs.Word.Breaking.{units_past-skip}

@@ -1,8 +1,7 @@
 use Rattle.textwrap_styles.proofs.settings.next_setting.Goals as goal
 use Rattle.textwrap_styles.{proofs.Common.{is_in_range, settings}, specs.Settings.first_setting}
 use Rattle.textwrap_styles.proofs.SettingTexts.{drop-all, first-take, settings-next, settings-one}
-use Rattle.textwrap_text.proofs.Common.{◌+◌, ◌-◌, ◌<◌, [], ap, arith, drop, length, List, sym, take, take_all}
-use Rattle.textwrap_text.proofs.Common.{ℕ, ◌∙◌, ◌∷◌, ◌≡◌, ◌≤◌}
+use Rattle.textwrap_text.proofs.Common.{◌+◌, ◌-◌, ◌<◌, ap, arith, drop, length, List, take, ℕ, ◌∙◌, ◌∷◌, ◌≡◌}
 
 -- the first setting, where it ends at a place, and those behind the next one
 next : (s first rest : List ℕ) (n : ℕ) → n ≡ length (first_setting s) → n < length s

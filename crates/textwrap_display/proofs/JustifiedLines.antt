@@ -205,7 +205,8 @@ module _ {Z : Type 0} where
       → new.waits ≡ false → WritesParagraph first new lines
   paragraph-written {first = first} {then = then} {lines = lines} given writes waits = record {
     text =
-        let last = last-written (layout_view then.layout) then.has_lines then.waits (string_bytes then.line) in
+        let last = last-written (layout_view then.layout) then.has_lines then.waits
+        (string_bytes then.line) in
         cc (writes.text, last, given.text [], append-nil lines);
     has_lines = writes.has_lines ∙ given.some ∙ ap (λ b. first.has_lines || b) given.waits;
     waits = waits;

@@ -254,8 +254,8 @@ module _ (kept : List ℕ) (whole : IsWholeText kept) where
   closed-is = ap (λ l. kept ++ l) (closing-is (sequences kept))
 
   closed-units : units (chars closed) ≡ units (chars kept) ++ sequence_units ends
-  closed-units = ap (λ l. units (chars l)) closed-is ∙ text_units-append kept (concat ends) whole
-      ∙ ap (λ us. units (chars kept) ++ us) (concat-units ends are-ends)
+  closed-units =
+      cc (closed-is, text_units-append kept (concat ends) whole, concat-units ends are-ends)
 
   closed-whole : IsWholeText closed
   closed-whole =
@@ -275,8 +275,7 @@ module _ (kept : List ℕ) (whole : IsWholeText kept) where
   module _ (placeholder : List ℕ) where
     pub followed-width : text_width (closed ++ placeholder) ≡ text_width kept + text_width placeholder
     followed-width =
-        text_width-append closed placeholder closed-whole.0 closed-whole.1
-        ∙ ap (λ n. n + text_width placeholder) closed-width
+        cc (text_width-append closed placeholder closed-whole.0 closed-whole.1, closed-width)
 
     pub followed-pens : penned_text plain_rendition (closed ++ placeholder)
         ≡ penned_text plain_rendition kept ++ penned_text plain_rendition placeholder

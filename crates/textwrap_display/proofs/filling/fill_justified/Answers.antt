@@ -28,12 +28,10 @@ loop-rest-preserved g c =
     (ap (map line_bytes) (lines_of-more [] 0 (cut_lines 0 own) ∙ lines_of-cut_lines 0 own))
     (pushed.held first 0 [] (justified-none first so_far.waits)))
     c.in_ok-end_paragraph.ensures.written c.in_ok-end_paragraph.ensures.none in
+    let split = paragraphs_left-split ending c.in-Some.text.now after paragraph
+    c.split_paragraph.ensures.paragraphs in
     record {
-      so_far = so_far-more own (rw (
-        c.in-Some.is,
-        paragraphs_left-split ending c.in-Some.text.now after paragraph
-            c.split_paragraph.ensures.paragraphs,
-      ) at so_far.so_far) are
+      so_far = so_far-more own (rw (c.in-Some.is, split) at so_far.so_far) are
           (cc (more.text, so_far.layout_is))
           (cc (more.has_lines, length-map (map line_from own) line_bytes, length-map own line_from));
       waits = more.waits;

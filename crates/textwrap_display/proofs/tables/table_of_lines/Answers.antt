@@ -15,13 +15,10 @@ loop-group-preserved g c =
     let columns = map shape_of c.args.columns.now in
     let count = c.loop-group.invariant.0 ∙ sym (length-map c.args.columns.now shape_of) in
     let group = first-group (λ lines. texts_of lines.items) (chunks_rest c.loop-group.group-iterator)
-    c.in-Some.group.now (chunks_rest c.next.new.self) c.loop-group.iterator.0 count chunk in (
+    c.in-Some.group.now (chunks_rest c.next.new.self) c.loop-group.iterator.0 count chunk in
+    let rows = cells-rows-more (gaps_view c.args.gaps.now) columns _ _ _ group in (
       size ∙ c.loop-group.invariant.0,
-      rw (
-        c.in_ok-push_group.ensures,
-        append_assoc,
-        ← cells-rows-more (gaps_view c.args.gaps.now) columns _ _ _ group,
-      ) c.loop-group.invariant.1,
+      rw (c.in_ok-push_group.ensures, append_assoc, ← rows) c.loop-group.invariant.1,
     )
 
 pub returns : goal.returns

@@ -1,19 +1,20 @@
 -- Lines that stay, with the ending that is asked for, and carriage returns at the end of any line.
 use Rattle.std.proofs.lemmas.List.Elements.{All-get_or}
 use Rattle.std.proofs.lemmas.List.Sums.{suffix_len-take_no, prefix_len_stops}
+use Rattle.textwrap_marked_lines.specs.Prefixes.{prefix_ends}
 use Rattle.textwrap_text.proofs.Common.{reverse-append, take_more, All-take, rules}
 use Rattle.textwrap_text.proofs.Lists.Parts.{ends_with-front, ends_with-true}
 use Rattle.textwrap_words.proofs.Common.{get_or-reverse, length-reverse}
 use Rattle.textwrap_marked_laws.proofs as own
-use own.Common.{All-nil, reverse, take_at, Option, get_or, length, nat_eq, passed, arith, codes, false, Bool}
-use own.Common.{CRLF, List, None, Some, cond, refl, take, true, zero, ◌&&◌, ◌++◌, ap₂, map, suc, sym, ◌+◌, []}
-use own.Common.{cases_Bool, prefix_len, suffix_len, FenceText, StateText, ending_if, ends_with, is_return, LF}
-use own.Common.{kept_line, new_fence, All-cons, All-head, All-tail, LineText, any-none, flat_map, take_all, ℕ}
-use own.Common.{length-append, append_assoc, ending_bytes, line_as_read, All-append, LineEnding, append-nil}
-use own.Common.{suffix_len-le-length, false_from_ne_true, without_returns, is_column_word, ReflowOptions, All}
-use own.OpenBehind.{no-return}
-use own.{Common.{◌-◌, ◌<◌, ◌∙◌, ◌∷◌, ◌≡◌, ap, ⊤}, SpacedBack.{white-other, IsPlain, IsWhite}}
-use own.{Feedless.{IsFeedless, NoFeed}, LineWords.{shown, gap}, TextBlocks.{AreOneBlock, last_line}}
+use own.Common.{All-append, LineEnding, append-nil, cases_Bool, prefix_len, suffix_len, FenceText, StateText}
+use own.Common.{ReflowOptions, length-append, append_assoc, ending_bytes, line_as_read, spaced_words, All-nil}
+use own.Common.{any-none, flat_map, take_all, reverse, take_at, Option, get_or, length, nat_eq, passed, arith}
+use own.Common.{codes, false, Bool, CRLF, List, None, Some, cond, refl, take, true, zero, ◌&&◌, ◌++◌, All, LF}
+use own.Common.{ending_if, ends_with, is_return, kept_line, new_fence, All-cons, All-head, All-tail, LineText}
+use own.Common.{suffix_len-le-length, false_from_ne_true, line_from_words, without_returns, is_column_word, ℕ}
+use own.{Common.{ap₂, map, suc, sym, ◌+◌, ◌-◌, ◌<◌, ◌∙◌, ◌∷◌, ◌≡◌, [], ap, ⊤}, Feedless.{IsFeedless, NoFeed}}
+use own.{LineWords.{shown, gap}, OpenBehind.no-return}
+use own.{SpacedBack.{white-other, IsPlain, IsWhite}, TextBlocks.{AreOneBlock, last_line}}
 
 -- a text whose last byte is no carriage return
 abbrev pub EndsWell : List ℕ → Type 0
@@ -135,7 +136,9 @@ anew-content (Some e) returns fed raw = content-same raw (returns && fed)
 pub anew-line : (options : ReflowOptions) (state : StateText) (e : Option LineEnding) (returns : Bool)
     (raw : List ℕ) (fed : Bool)
     → line_as_read options state (anew_raw e returns fed raw) fed ≡ anew e returns (line_as_read options state raw fed)
-anew-line options state e returns raw fed = search (rules, arith, anew-content)
+anew-line options state e returns raw fed =
+    ap (λ c. line_from_words options state (anew_raw e returns fed raw) fed (spaced_words c)
+    (prefix_ends options state.in_block (spaced_words c))) (anew-content e returns fed raw)
 
 -- nor does it change what is open behind it
 fence-anew : (fence : Option FenceText) (e : Option LineEnding) (returns : Bool) (line : LineText)

@@ -209,7 +209,9 @@ module _ (options : ReflowOptions) (block : Bool) (word : List ℕ) (more : List
       → (length marks ≡ 0 → block ≡ false → is_comment_at options false word ≡ true → ⊥)
       → words_in (cs ++ qs) ≡ words_in marks ++ (word ∷ more) → ⊥
   never [] qs marks are other same = no-quote (words_in marks) (subst (All IsQuote) same are.1)
-  never (c ∷ []) qs [] are other same = grind (arith, cases_Bool, no-comment)
+  never (c ∷ []) qs [] are other same =
+      no-comment block (other refl)
+      (sym (ap (λ l. is_comment_at options block (get_or l 0 [])) same) ∙ are.0)
   never (c ∷ []) qs (m ∷ marks) are other same =
       no-quote (words_in marks) (subst (All IsQuote) (ap (drop 1) same) are.2)
   never (c ∷ d ∷ cs) qs marks are other same = absurd are

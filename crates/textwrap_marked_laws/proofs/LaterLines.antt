@@ -1,6 +1,5 @@
 -- Lines of a paragraph, and lines of other words behind the same marks.
 use Rattle.textwrap_marked_lines.proofs.FirstWords.{comment_is}
-use Rattle.textwrap_text.proofs.Common.{rules}
 use Rattle.textwrap_marked_laws.proofs as own
 use own.Common.{Bool, List, cond, refl, true, ◌&&◌, ◌++◌, suc, sym, ◌+◌, ◌<◌, ◌∙◌, ◌∷◌, ◌≡◌, [], ap, ℕ}
 use own.Common.{flat_map-append, hanging_bullets, without_returns, ReflowOptions, is_comment_at, append_assoc}
@@ -127,7 +126,13 @@ bullet-none : (xs bs : List SpacedText) → 0 < length xs → bullets_len xs ≡
     → first_word xs ≡ first_word bs → bytes_eq (first_word xs) (codes "[") ≡ false → bullets_len bs ≡ 0
 bullet-none [] bs some none same box = absurd (omega (arith, some))
 bullet-none (a ∷ xs) [] some none same box = refl
-bullet-none (a ∷ xs) (b ∷ bs) some none same box = search (rules, arith, bullets-none, none-if)
+bullet-none (a ∷ xs) (b ∷ bs) some none same box =
+    bullets-none b bs (ap is_bullet (sym same) ∙ first xs none)
+    (ap (λ w. bytes_eq w (codes "[")) (sym same) ∙ box)
+  where
+    first : (xs : List SpacedText) → bullets_len (a ∷ xs) ≡ 0 → is_bullet a.word ≡ false
+    first [] is = none-if (is_bullet a.word) 0 0 is
+    first (v ∷ xs) is = none-if (is_bullet a.word) (bullets_len (v ∷ xs)) _ is
 
 abbrev bullets_by : SpacedText → SpacedText → List SpacedText → Bool → Bool → ℕ
 bullets_by b c ws t u = cond t (suc (bullets_len (c ∷ ws))) (cond u (suc (suc (bullets_len ws))) 0)
@@ -143,7 +148,15 @@ bullets-same : (bs xs others : List SpacedText) → 0 < length xs
     → bullets_len (bs ++ others) ≡ length bs
 bullets-same [] xs others some none is = none is
 bullets-same (b ∷ []) [] others some none is = absurd (omega (arith, some))
-bullets-same (b ∷ []) (a ∷ xs) others some none is = search (rules, arith, one-bullet)
+bullets-same (b ∷ []) (a ∷ xs) others some none is =
+    let (first, len) =
+    one-bullet (is_bullet b.word) (is_box b a) (bullets_len (a ∷ xs)) (bullets_len xs) is in
+    one others first (none len)
+  where
+    one : (others : List SpacedText) → is_bullet b.word ≡ true → bullets_len others ≡ 0
+        → bullets_len (b ∷ others) ≡ 1
+    one [] first none = ap one_if first
+    one (v ∷ others) first none = ap (λ t. bullets_by b v others t (is_box b v)) first ∙ ap suc none
 bullets-same (b ∷ c ∷ bs) xs others some none is =
     cut (is_bullet b.word) (is_box b c) (bullets-same (c ∷ bs) xs others some none)
     (bullets-same bs xs others some none) is

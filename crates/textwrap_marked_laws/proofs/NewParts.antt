@@ -9,19 +9,19 @@ use Rattle.textwrap_marked_laws.specs.Laws.{IsWithin}
 use Rattle.textwrap_marked_laws.specs.Laws.{PartKeepsToWidth, IsKeptOrBehind, PartKeepsWords, AreNewParts}
 use Rattle.textwrap_marked_lines.specs.Columns.{text_columns}
 use Rattle.textwrap_marks.specs.declared.options.Algorithm.TheVariants as by
-use Rattle.textwrap_text.proofs.Common.{reverse-append, rules}
+use Rattle.textwrap_text.proofs.Common.{reverse-append}
 use Rattle.textwrap_marked_laws.proofs as own
 use own.Common.{All-cons, All-head, All-tail, LineText, WordText, all-left, flat_map, sizes_of, take_all, All}
-use own.Common.{All-map, All-nil, word_of, blocks, is_cut, length, nat_eq, pieces, arith, blank, false, stays}
+use own.Common.{All-map, All-nil, covered, word_of, blocks, is_cut, length, nat_eq, pieces, arith, blank, inl}
 use own.Common.{ByOptimalFit, append_assoc, ending_bytes, line_as_read, AreOfBlocks, IsDividedBy, first_state}
 use own.Common.{SpacedText, cases_Bool, first_room, later_room, line_texts, onto_front, text_parts, Algorithm}
 use own.Common.{byte_order_mark, parts_of_blocks, words_of_lines, ReflowOptions, filled_ending, lines_of_text}
+use own.Common.{false, stays, subst, None, Part, cond, drop, refl, true, ◌++◌, ◌==◌, inr, map, sym, ◌+◌, ◌-◌}
 use own.Common.{length-drop, piece_words, shown_lines, slice_split, starts_with, All-weaker, IsDivision, Bool}
-use own.Common.{subst, None, Part, cond, drop, refl, true, ◌++◌, ◌==◌, inl, inr, map, sym, ◌+◌, ◌-◌, ◌<◌, ◌∙◌}
 use own.Common.{suffix_len-le-length, words_between_white, IsReflowedBehind, starts_with-rest, IsReflowedFrom}
 use own.Common.{with_blank, IsOfBlock, StateText, all-right, each-flat, flat-each, is_beside, kept_line, List}
-use own.JustifiedTexts.{lines-shown}
-use own.{Common.{◌∷◌, ◌≡◌, ◌≤◌, [], ap, ℕ, ⊤}, TextBlocks.read-all, TextParts.{blocks-flat, text-parts}}
+use own.{Common.{◌<◌, ◌∙◌, ◌∷◌, ◌≡◌, ◌≤◌, [], ap, ℕ, ⊤}, TextParts.{blocks-flat, text-parts}}
+use own.{JustifiedTexts.lines-shown, TextBlocks.read-all}
 use own.{LaterLines.{read-spaced, read_marks, line-read, read-line}, LineWords.{AreCutInto, all_shown, shown}}
 use own.{SpacedBack.{spaced-plain, spaced-in, words_in, IsPlain}, SpreadWords.{spread-spaced, spread-words}}
 
@@ -182,8 +182,13 @@ pub lines-as-wide : (width : ℕ) (first later : List ℕ) (lines : List (List W
     (line_texts true (width - text_columns first) (width - text_columns later) lines)
 lines-as-wide width first later [] = tt
 lines-as-wide width first later (line ∷ []) = tt
-lines-as-wide width first later (line ∷ next ∷ lines) =
-    search (rules, arith, justified-width, lines-as-wide width later later (next ∷ lines))
+lines-as-wide width first later (line ∷ next ∷ lines) = (
+  (λ utf8 whole some fits. omega (
+    arith,
+    justified-width (covered line) utf8 whole some (width - text_columns first) (omega (arith, fits)),
+  )),
+  lines-as-wide width later later (next ∷ lines),
+)
 
 -- ---- all parts
 
@@ -205,14 +210,13 @@ module _ (options : ReflowOptions) (IsNew : List ℕ → Part → List ℕ → T
   laid-new ending beside [] text plain is = is
   laid-new ending beside ([] ∷ bs) text plain laid =
       laid-new ending beside bs text (All-tail IsPlainBlock [] bs plain) laid
-  laid-new ending beside ((first ∷ lines) ∷ bs) text plain (front, back, of, later, is) =
-      search (
-        rules,
-        arith,
-        All-head,
-        All-tail,
-        laid-new ending (is_beside first bs) bs back (All-tail IsPlainBlock (first ∷ lines) bs plain) later,
-      )
+  laid-new ending beside ((first ∷ lines) ∷ bs) text plain (front, back, of, later, is) = (
+    front,
+    back,
+    each ending _ first (first ∷ lines) front (All-head IsPlainBlock (first ∷ lines) bs plain) of,
+    laid-new ending (is_beside first bs) bs back (All-tail IsPlainBlock (first ∷ lines) bs plain) later,
+    is,
+  )
 
   from-new : (text reflowed : List ℕ) → IsReflowedFrom options text reflowed
       → AreNewParts (IsNew (ending_bytes (filled_ending options.ending text))) (text_parts options text)

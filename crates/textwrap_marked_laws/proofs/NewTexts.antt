@@ -10,13 +10,13 @@ use Rattle.textwrap_words.proofs.Common.{Algorithm as DividingAlgorithm}
 use Rattle.textwrap_words.proofs.Common.{ByFirstFit}
 use Rattle.textwrap_marked_laws.proofs as own
 use own.Common.{AreSameParts, ByOptimalFit, ending_bytes, line_as_read, AreOfBlocks, IsDividedBy, first_state}
-use own.Common.{IsOfBlock, LineRange, StateText, is_beside, All-head, IsSameBy, LineText, WordText, sizes_of}
+use own.Common.{WordText, sizes_of, printed, word_of, blocks, length, nat_eq, nat_lt, passed, pieces, arith}
 use own.Common.{dividing_algorithm, IsReflowedBehind, starts_with-rest, byte_order_mark, parts_of_blocks, All}
-use own.Common.{printed, word_of, Option, blocks, length, nat_eq, nat_lt, passed, pieces, arith, false, stays}
-use own.Common.{starts_with, with_titles, LineEnding, cases_Bool, line_texts, read_lines, text_parts, entered}
-use own.Common.{subst, Bool, CRLF, List, Part, Some, drop, refl, true, ◌++◌, ◌||◌, inl, inr, map, sym, ◌-◌, ℕ}
+use own.Common.{false, stays, subst, Bool, CRLF, List, Part, Some, drop, refl, true, ◌++◌, ◌==◌, ◌||◌, inl, ℕ}
+use own.Common.{inr, map, sym, ◌-◌, ◌∙◌, ◌∷◌, ◌≡◌, ◌⊎◌, LF, [], ap}
+use own.Common.{slice_split, starts_with, with_titles, LineEnding, cases_Bool, line_texts, read_lines, Option}
+use own.Common.{text_parts, IsOfBlock, LineRange, StateText, is_beside, All-head, IsSameBy, LineText, entered}
 use own.Common.{without_returns, IsReflowedFrom, join_with_byte, ReflowOptions, filled_ending, lines_of_text}
-use own.Common.{◌∙◌, ◌∷◌, ◌≡◌, ◌⊎◌, LF, [], ap}
 use own.{AnewLines.{returns_by, tells-own, Tells}, Feedless.{split-feedless, IsFeedless, raws-some, raws_of}}
 use own.{BegunAlike.{ends-alike, marks-same, one-line}, TextBack.{within-back, IsTextBack, text-back}}
 
@@ -143,7 +143,9 @@ module _ (options : ReflowOptions) (width : ℕ) (algorithm : Algorithm) (ending
       ap (λ ls. line ∷ ls) (lines-same raws (passed at line))
 
   parts-equal : (text : List ℕ) → text_parts others text ≡ text_parts options text
-  parts-equal text = grind (arith, cases_Bool, lines-same)
+  parts-equal text =
+      ap (λ ls. parts_of_blocks false (blocks (with_titles ls)))
+      (lines-same (slice_split (λ c. c == 10) text) first_state)
 
   pub width-same : (e : Option LineEnding) → Tells ending e → (text between : List ℕ)
       → IsReflowedFrom others text between
@@ -224,11 +226,23 @@ module _ (From : List ℕ → List ℕ → Type 0) (text reflowed : List ℕ) wh
     opened : (Becomes true → IsMarked) → (Becomes false → From text reflowed) → (From text reflowed
         → starts_with nat_eq reflowed byte_order_mark ≡ starts_with nat_eq text byte_order_mark)
         → Becomes (starts_with nat_eq text byte_order_mark) → IsBehind
-    opened marked plain alike = grind (arith, cases_Bool)
+    opened marked plain alike = cut (starts_with nat_eq text byte_order_mark) refl
+      where
+        cut : (b : Bool) → starts_with nat_eq text byte_order_mark ≡ b → Becomes b → IsBehind
+        cut true is becomes = let (rest, laid, whole) = marked becomes in rw (is, whole) (refl, laid)
+        cut false is becomes = let laid = plain becomes in rw (is, alike laid ∙ is) (refl, laid)
 
     closed : (IsMarked → Becomes true) → (From text reflowed → Becomes false) → IsBehind
         → Becomes (starts_with nat_eq text byte_order_mark)
-    closed marked plain (same, laid) = grind (arith, cases_Bool, starts_with-rest)
+    closed marked plain (same, laid) = cut (starts_with nat_eq text byte_order_mark) refl
+      where
+        cut : (b : Bool) → starts_with nat_eq text byte_order_mark ≡ b → Becomes b
+        cut true is = marked (
+          drop 3 reflowed,
+          rw (is, same ∙ is) at laid,
+          starts_with-rest byte_order_mark reflowed (same ∙ is),
+        )
+        cut false is = plain (rw (is, same ∙ is) at laid)
 
 -- what follows a byte order mark in a text is read again behind the same one, if there is one
 abbrev pub IsBack : ReflowOptions → List ℕ → List ℕ → Type 0

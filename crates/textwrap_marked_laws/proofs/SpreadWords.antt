@@ -1,15 +1,15 @@
 -- Words with blanks between them, as the words of a line's text.
 use Rattle.textwrap_marks.proofs.Letterless.{quote-plain, box-plain}
 use Rattle.textwrap_marks.{specs.Marks.is_among, specs.Signs.{first_white, may_go_on, is_gap}}
-use Rattle.textwrap_text.proofs.Common.{not-true, rules}
+use Rattle.textwrap_text.proofs.Common.{not-true}
 use Rattle.textwrap_marked_laws.proofs as own
-use own.Common.{All-head, All-tail, is_quote, list_any, none-any, All-nil, length, arith, blank, false, Bool}
-use own.Common.{List, drop, refl, take, true, ◌&&◌, ◌++◌, ◌==◌, ◌||◌, All, suc, sym, ◌-◌, ◌<◌, ◌∙◌, ◌∷◌, ◌≡◌}
+use own.Common.{All-cons, All-head, All-tail, bytes_eq, is_quote, list_any, none-any, All-nil, length, arith}
 use own.Common.{ReflowOptions, is_comment_at, append_assoc, begins_text, has_columns, spaced_text, SpacedText}
-use own.Common.{[], ap}
-use own.Common.{append-nil, cases_Bool, first_word, last_white, true≢false, is_bullet, last_word, All-cons, ℕ}
+use own.Common.{append-nil, cases_Bool, first_word, last_white, quotes_len, true≢false, is_bullet, last_word}
+use own.Common.{blank, codes, false, Bool, List, cond, drop, refl, take, true, ◌&&◌, ◌++◌, ◌==◌, ◌||◌, All, ℕ}
 use own.Common.{false_from_ne_true, words_before_last, opens_paragraph, is_column_word, All-replicate, blanks}
-use own.{HangingForms.HasNoMark, LaterLines.bullets-none, OpenBehind.{text-letter, text-other}}
+use own.{Common.{suc, sym, ◌-◌, ◌<◌, ◌∙◌, ◌∷◌, ◌≡◌, [], ap}, OpenBehind.{text-letter, text-other}}
+use own.{HangingForms.HasNoMark, LaterLines.bullets-none, LineKinds.one_if}
 use own.{LineWords.{spread, shown, gap}, SpacedBack.{spaced-cons, AreSpaced, words_in, IsPlain, IsWhite}}
 
 -- a gap is white
@@ -45,15 +45,11 @@ module _ (justify : Bool) (gaps : ℕ → ℕ) where
   spread-spaced (word ∷ []) end plain white =
       record { word = All-head IsPlain word [] plain; white = white }
   spread-spaced (word ∷ next ∷ words) end plain white =
-      search (
-        rules,
-        arith,
-        spaced-cons,
-        All-head,
-        gap-white,
-        All-tail,
-        spread-spaced (next ∷ words) end (All-tail IsPlain word (next ∷ words) plain) white,
-      )
+      spaced-cons (with_gap word words) (spread justify gaps (next ∷ words) end) (record {
+        word = All-head IsPlain word (next ∷ words) plain;
+        white = gap-white justify gaps (length words);
+      }) (λ more. omega arith)
+      (spread-spaced (next ∷ words) end (All-tail IsPlain word (next ∷ words) plain) white)
 
   -- the white at the end stands behind the text
   pub spread-end : (word : List ℕ) (words : List (List ℕ)) (end : List ℕ)
@@ -156,6 +152,15 @@ text-no-quote starred word begins =
 pub no-mark : (options : ReflowOptions) (in_block starred : Bool) (word : List ℕ) (ws : List SpacedText)
     → first_word ws ≡ word → begins_text starred word ≡ true → is_bullet word ≡ false
     → is_comment_at options in_block word ≡ false → HasNoMark options in_block ws
-no-mark options in_block starred word [] is begins bullet comment = search (rules, arith)
-no-mark options in_block starred word (w ∷ ws) is begins bullet comment =
-    search (rules, arith, text-no-quote, bullets-none, text-other, box-plain)
+no-mark options in_block starred word [] is begins bullet comment = record {
+  comment = refl;
+  quote = refl;
+  bullet = refl;
+}
+no-mark options in_block starred word (w ∷ ws) is begins bullet comment = record {
+  comment = ap (λ v. one_if (is_comment_at options in_block v)) is ∙ ap one_if comment;
+  quote = ap (λ v. cond (is_quote v) (suc (quotes_len ws)) 0) is
+      ∙ ap (λ b. cond b (suc (quotes_len ws)) 0) (text-no-quote starred word begins);
+  bullet = bullets-none w ws (ap is_bullet is ∙ bullet)
+      (ap (λ v. bytes_eq v (codes "[")) is ∙ text-other starred word (codes "[") begins box-plain);
+}

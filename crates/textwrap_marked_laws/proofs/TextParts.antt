@@ -6,9 +6,9 @@ use own.Common.{AreSameParts, append_assoc, line_as_read, slice_split, with_titl
 use own.Common.{IsSameBy, LineText, bytes_eq, flat_map, entered, goes_on, Option, blocks, length, lt-ltb, sym}
 use own.Common.{cases_Bool, read_lines, text_parts, StateText, ending_if, is_beside, kept_line, with_line, []}
 use own.Common.{flat_map-append, parts_of_blocks, without_returns, join_with_byte, ReflowOptions, first_state}
-use own.Common.{nat_lt, passed, arith, codes, false, stays, Bool, List, None, Part, cond, flat, refl, ◌&&◌, ⊤}
+use own.Common.{nat_lt, passed, arith, codes, false, stays, Bool, List, None, Part, cond, flat, refl, true, ⊤}
 use own.ParagraphLines.{IsHeadAlike}
-use own.{Common.{◌++◌, ◌==◌, ◌||◌, ◌∙◌, ◌∷◌, ◌≡◌, ap}, TextBlocks.{AreOneBlock, last_line, title_of}}
+use own.{Common.{◌&&◌, ◌++◌, ◌==◌, ◌||◌, ◌∙◌, ◌∷◌, ◌≡◌, ap}, TextBlocks.{AreOneBlock, last_line, title_of}}
 
 pub join-more : (raw : List ℕ) (raws : List (List ℕ)) → join_with_byte 10 (raw ∷ raws)
     ≡ (raw ++ ending_if (nat_lt 0 (length raws)) (codes "\n")) ++ join_with_byte 10 raws
@@ -76,7 +76,12 @@ AreBlocks ((line ∷ lines) ∷ bs) =
 with-line : (line : LineText) (bs : List (List LineText)) → AreBlocks bs → AreBlocks (with_line line bs)
 with-line line [] are = (tt, tt, tt)
 with-line line ([] ∷ bs) are = absurd are
-with-line line ((next ∷ lines) ∷ bs) (one, stops, are) = grind (arith, cases_Bool)
+with-line line ((next ∷ lines) ∷ bs) (one, stops, are) = joins (goes_on line next) refl
+  where
+    joins : (b : Bool) → goes_on line next ≡ b
+        → AreBlocks (cond b ((line ∷ next ∷ lines) ∷ bs) ((line ∷ []) ∷ (next ∷ lines) ∷ bs))
+    joins true goes = ((goes, one), stops, are)
+    joins false ends = (tt, ends, (one, stops, are))
 
 pub blocks-are : (lines : List LineText) → AreBlocks (blocks lines)
 blocks-are [] = tt

@@ -158,7 +158,12 @@ widened-width each extra (w ∷ v ∷ ws) sound =
     let many : length (w ∷ v ∷ ws) - 1 ≡ suc (length ws) = omega arith in
     let fewer : length (v ∷ ws) - 1 ≡ length ws = omega arith in
     let others = widened-width each (extra - 1) (v ∷ ws) (All-tail IsSound w (v ∷ ws) sound) in
-    grind (arith, widened-first, word-before, more-blanks, here, many, rw fewer at others, suc-mul)
+    let rest = tiled (widened_words each (extra - 1) (v ∷ ws)) in
+    let new = word-before w (blanks (each + min extra 1) ++ rest) here in
+    let gap = more-blanks (each + min extra 1) rest in
+    let old = word-before w (tiled (v ∷ ws)) here in
+    rw (widened-first each extra w v ws, many)
+    (omega (arith, new, gap, old, rw fewer at others, suc-mul (length ws) each))
 
 -- ---- what words with wider gaps show
 

@@ -25,7 +25,7 @@ use own.{JustifiedTexts.lines-shown, TextBlocks.read-all}
 use own.{LaterLines.{read-spaced, read_marks, line-read, read-line}, LineWords.{AreCutInto, all_shown, shown}}
 use own.{SpacedBack.{spaced-plain, spaced-in, words_in, IsPlain}, SpreadWords.{spread-spaced, spread-words}}
 
--- ---- the words of a paragraph are those of its printed lines
+-- ---- the words of the lines of a text
 
 abbrev IsPlainWord : SpacedText → Type 0
 IsPlainWord w = IsPlain w.word

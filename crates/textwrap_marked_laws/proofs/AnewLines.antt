@@ -65,8 +65,13 @@ return_if b = cond b (13 ∷ []) []
 
 pub returns-off : (text : List ℕ) (b : Bool) → suffix_len is_return text ≡ 0
     → without_returns (text ++ return_if b) ≡ text
-returns-off text false none = grind (arith, cases_Bool, append-nil, take_all)
-returns-off text true none = grind (arith, cases_Bool, take_at, length-append, returns-more)
+returns-off text false none =
+    ap without_returns (append-nil text)
+    ∙ take_all (length text - suffix_len is_return text) text (omega (arith, none))
+returns-off text true none =
+    let whole = text ++ 13 ∷ [] in
+    take_at text (13 ∷ []) (length whole - suffix_len is_return whole)
+    (omega (arith, length-append text (13 ∷ []), returns-more text, none))
 
 -- the ending of a line
 pub return-ends : (text : List ℕ) (b : Bool) → suffix_len is_return text ≡ 0

@@ -49,9 +49,15 @@ none-first (c ∷ cs) m ms small large =
 
 same-start : (common a b : List ℕ) → SmallFirst a → SmallFirst b
     → starts_with nat_eq (common ++ a) byte_order_mark ≡ starts_with nat_eq (common ++ b) byte_order_mark
-same-start [] a b small other = grind (arith, cases_Bool, none-first)
-same-start (x ∷ []) a b small other = grind (arith, cases_Bool, none-first)
-same-start (x ∷ y ∷ []) a b small other = grind (arith, cases_Bool, none-first)
+same-start [] a b small other =
+    none-first a 0xEF (0xBB ∷ 0xBF ∷ []) small (omega arith)
+    ∙ sym (none-first b 0xEF (0xBB ∷ 0xBF ∷ []) other (omega arith))
+same-start (x ∷ []) a b small other =
+    ap (λ t. nat_eq 0xEF x && t) (none-first a 0xBB (0xBF ∷ []) small (omega arith)
+    ∙ sym (none-first b 0xBB (0xBF ∷ []) other (omega arith)))
+same-start (x ∷ y ∷ []) a b small other =
+    ap (λ t. nat_eq 0xEF x && (nat_eq 0xBB y && t)) (none-first a 0xBF [] small (omega arith)
+    ∙ sym (none-first b 0xBF [] other (omega arith)))
 same-start (x ∷ y ∷ z ∷ common) a b small other = refl
 
 word-small : (text more : List ℕ) → EndsWord text → SmallFirst more → SmallFirst (text ++ more)

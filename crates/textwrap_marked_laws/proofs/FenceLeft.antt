@@ -298,7 +298,9 @@ module _ (options : ReflowOptions) (state : StateText) (raw : List ℕ)
       })
 
   begun-text : spaced_text begun ≡ spaced_text marks ++ first.word
-  begun-text = grind (arith, cases_Bool, text-parts, append-nil)
+  begun-text =
+      text-parts marks (first ∷ [])
+      ∙ ap (λ l. spaced_text marks ++ l) (append-nil (first.word ++ []) ∙ append-nil first.word)
 
   behind-begun : (more : List ℕ)
       → behind_white (r.lead ++ (spaced_text begun ++ more)) ≡ spaced_text begun ++ more

@@ -9,7 +9,7 @@ use own.Common.{is_comment_opening, hanging_comments, take-append-drop, flat_map
 use own.Common.{line_from_words, without_returns, ReflowOptions, is_comment_at, length-append, append_assoc}
 use own.Common.{lt-ltb, ne_eqb, arith, false, Bool, List, cond, drop, refl, take, true, ◌&&◌, ◌++◌, ◌==◌, suc}
 use own.Common.{spaced_text, SpacedText, append-nil, cases_Bool, first_word, quotes_len, StateText, is_bullet}
-use own.Common.{◌||◌, sym, ◌+◌, ◌-◌, ◌<◌, ◌∙◌, ◌∷◌, ◌≡◌, ◌≤◌, ap, ℕ}
+use own.Common.{◌||◌, sym, ◌+◌, ◌-◌, ◌∙◌, ◌∷◌, ◌≡◌, ◌≤◌, ap, ℕ}
 use own.SpacedBack.{begins-plain, BeginsPlain, IsLineText, lead_words, line-back, with_lead}
 
 -- ---- what is read of words by kind
@@ -243,15 +243,17 @@ quotes-few : (ws : List SpacedText) → quotes_len ws ≤ length ws
 quotes-few [] = omega arith
 quotes-few (w ∷ ws) = grind (arith, cases_Bool, quotes-few ws)
 
-few : (t u : Bool) (n m most : ℕ) → n < most → m + 1 < most → cond t (suc n) (cond u (suc (suc m)) 0) ≤ most
-few t u n m most one two = grind (arith, cases_Bool)
+if-few : (b : Bool) (n m most : ℕ) → n ≤ most → m ≤ most → cond b n m ≤ most
+if-few true n m most few less = few
+if-few false n m most few less = less
 
 bullets-few : (ws : List SpacedText) → bullets_len ws ≤ length ws
 bullets-few [] = omega arith
-bullets-few (w ∷ []) = grind (arith, cases_Bool)
+bullets-few (w ∷ []) = if-few (is_bullet w.word) 1 0 (length (w ∷ [])) (omega arith) (omega arith)
 bullets-few (w ∷ v ∷ ws) =
-    few (is_bullet w.word) (is_box w v) (bullets_len (v ∷ ws)) (bullets_len ws) (length (w ∷ v ∷ ws))
-    (omega (arith, bullets-few (v ∷ ws))) (omega (arith, bullets-few ws))
+    let most = length (w ∷ v ∷ ws) in
+    if-few (is_bullet w.word) (suc (bullets_len (v ∷ ws))) _ most (omega (arith, bullets-few (v ∷ ws)))
+    (if-few (is_box w v) (suc (suc (bullets_len ws))) 0 most (omega (arith, bullets-few ws)) (omega arith))
 
 pub kinds-cut : (options : ReflowOptions) (in_block : Bool) (ws : List SpacedText)
     → (cs : List SpacedText) × (qs : List SpacedText) × (bs : List SpacedText)

@@ -16,7 +16,7 @@ use own.Common.{All-map, All-nil, covered, word_of, blocks, is_cut, length, nat_
 use own.Common.{ByOptimalFit, append_assoc, ending_bytes, line_as_read, AreOfBlocks, IsDividedBy, first_state}
 use own.Common.{SpacedText, cases_Bool, first_room, later_room, line_texts, onto_front, text_parts, Algorithm}
 use own.Common.{byte_order_mark, parts_of_blocks, words_of_lines, ReflowOptions, filled_ending, lines_of_text}
-use own.Common.{false, stays, subst, None, Part, cond, drop, refl, true, ◌++◌, ◌==◌, inr, map, sym, ◌+◌, ◌-◌}
+use own.Common.{false, subst, None, Part, cond, drop, refl, true, ◌++◌, ◌==◌, inr, map, sym, ◌+◌, ◌-◌}
 use own.Common.{length-drop, piece_words, shown_lines, slice_split, starts_with, All-weaker, IsDivision, Bool}
 use own.Common.{suffix_len-le-length, words_between_white, IsReflowedBehind, starts_with-rest, IsReflowedFrom}
 use own.Common.{with_blank, IsOfBlock, StateText, all-right, each-flat, flat-each, is_beside, kept_line, List}
@@ -25,7 +25,7 @@ use own.{JustifiedTexts.lines-shown, TextBlocks.read-all}
 use own.{LaterLines.{read-spaced, read_marks, line-read, read-line}, LineWords.{AreCutInto, all_shown, shown}}
 use own.{SpacedBack.{spaced-plain, spaced-in, words_in, IsPlain}, SpreadWords.{spread-spaced, spread-words}}
 
--- ---- the words of a paragraph are those of its printed lines
+-- ---- the words of the lines of a text
 
 abbrev IsPlainWord : SpacedText → Type 0
 IsPlainWord w = IsPlain w.word

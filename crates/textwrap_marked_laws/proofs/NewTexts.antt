@@ -47,7 +47,9 @@ module _ (options : ReflowOptions) (ending : List ℕ) where
 
 from-one : (options : ReflowOptions) (text first second : List ℕ)
     → IsReflowedFrom options text first → IsReflowedFrom options text second → first ≡ second
-from-one options text first second of by = grind (arith, cases_Bool, laid-one)
+from-one options text first second of by =
+    laid-one options (ending_bytes (filled_ending options.ending text)) false
+    (blocks (lines_of_text options text)) first second of by
 
 pub behind-one : (marked : Bool) (options : ReflowOptions) (text first second : List ℕ)
     → IsReflowedBehind marked options text first → IsReflowedBehind marked options text second

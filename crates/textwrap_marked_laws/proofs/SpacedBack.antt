@@ -121,13 +121,8 @@ white-before [] text ws white begins is = is
 white-before (c ∷ []) text ws white begins is =
     ap (with_byte c) is ∙ white-alone c ws (All-head IsWhite c [] white) begins
 white-before (c ∷ d ∷ lead) text ws white begins is =
-    grind (
-      arith,
-      cases_Bool,
-      All-head,
-      All-tail,
-      white-before (d ∷ lead) text ws (All-tail IsWhite c (d ∷ lead) white) begins is,
-    )
+    let later = white-before (d ∷ lead) text ws (All-tail IsWhite c (d ∷ lead) white) begins is in
+    grind (arith, cases_Bool, All-head, later)
 
 -- a word before white, or at the end
 word-before : (word lead text : List ℕ) (ws : List SpacedText) → IsPlain word
@@ -138,16 +133,9 @@ word-before (c ∷ []) [] text ws plain ends is = grind (arith, cases_Bool, All-
 word-before (c ∷ []) (x ∷ lead) text ws plain ends is =
     let here : IsInk c = All-head IsInk c [] plain.ink in ap (with_byte c) is ∙ simp here
 word-before (c ∷ d ∷ word) lead text ws plain ends is =
-    grind (
-      arith,
-      cases_Bool,
-      All-head,
-      All-tail,
-      word-before (d ∷ word) lead text ws (record {
-        some = omega arith;
-        ink = All-tail IsInk c (d ∷ word) plain.ink;
-      }) ends is,
-    )
+    let ink = All-tail IsInk c (d ∷ word) plain.ink in
+    let later = word-before (d ∷ word) lead text ws (record { some = omega arith; ink = ink }) ends is in
+    grind (arith, cases_Bool, All-head, later)
 
 pub spaced-back : (ws : List SpacedText) → AreSpaced ws → spaced_words (spaced_text ws) ≡ ws
 spaced-back [] are = refl

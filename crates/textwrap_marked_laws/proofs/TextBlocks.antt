@@ -110,13 +110,8 @@ pub closing-before : (in_block : Bool) (words later : List (List ℕ)) → All (
 closing-before false words later all are = refl
 closing-before true [] later all are = are
 closing-before true (word ∷ words) later all are =
-    grind (
-      arith,
-      cases_Bool,
-      All-head,
-      All-tail,
-      closing-before true words later (All-tail (NoClose true) word words all) are,
-    )
+    let rest = closing-before true words later (All-tail (NoClose true) word words all) are in
+    grind (arith, cases_Bool, All-head, rest)
 
 masked-all : (in_block : Bool) (words : List SpacedText) → (in_block && closes_block words) ≡ false
     → All (NoClose in_block) (words_in words)

@@ -92,7 +92,9 @@ block-back : (lines : List LineText) (line : LineText) (bs : List (List LineText
     → blocks (flat bs) ≡ bs → blocks (line ∷ (lines ++ flat bs)) ≡ (line ∷ lines) ∷ bs
 block-back [] line [] one stops are is = ap (with_line line) is
 block-back [] line ([] ∷ bs) one stops are is = absurd are
-block-back [] line ((next ∷ lines) ∷ bs) one stops are is = grind (arith, cases_Bool)
+block-back [] line ((next ∷ lines) ∷ bs) one stops are is =
+    ap (with_line line) is
+    ∙ ap (λ b. cond b ((line ∷ next ∷ lines) ∷ bs) ((line ∷ []) ∷ (next ∷ lines) ∷ bs)) stops
 block-back (next ∷ lines) line bs (goes, one) stops are is =
     ap (with_line line) (block-back lines next bs one stops are is)
     ∙ ap (λ b. cond b ((line ∷ next ∷ lines) ∷ bs) ((line ∷ []) ∷ (next ∷ lines) ∷ bs)) goes

@@ -4,7 +4,7 @@
 # proved and compiled with: rattle-kit-13f logic dac8208d650f15bf
 # proved for: aarch64-unknown-linux-gnu
 # crates: textwrap_text textwrap_base textwrap_words textwrap_layout textwrap_lines textwrap textwrap_unicode textwrap_styles textwrap_display textwrap_patterns textwrap_dictionaries textwrap_hyphens textwrap_marks textwrap_marked_lines textwrap_marked textwrap_plain textwrap_program unified_diff text_files text_filters filter_programs fill
-# sum of their sources: 8b2eeead9cd2e9577b646348c199ad89eec543ac4449c34611206dad90d85a38
+# sum of their sources: 705175584bd66fc3a4f832e35c0240eb1cbb53efb0e8fa00718d9fff3d69430c
 # sum of the lines below: ee40091649dc8cfdae45d7b02ca10ec57756502424181d9a79dc29204a0aa3d5
 	.section	".text.core::str::utf8::from_utf8","ax",@progbits
 	.p2align	2

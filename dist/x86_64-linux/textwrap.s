@@ -4,7 +4,7 @@
 # proved and compiled with: rattle-kit-13f logic dac8208d650f15bf
 # proved for: x86_64-unknown-linux-gnu
 # crates: textwrap_text textwrap_base textwrap_words textwrap_layout textwrap_lines textwrap textwrap_unicode textwrap_styles textwrap_display textwrap_patterns textwrap_dictionaries textwrap_hyphens textwrap_marks textwrap_marked_lines textwrap_marked textwrap_plain textwrap_program unified_diff text_files text_filters filter_programs fill
-# sum of their sources: 8b2eeead9cd2e9577b646348c199ad89eec543ac4449c34611206dad90d85a38
+# sum of their sources: 705175584bd66fc3a4f832e35c0240eb1cbb53efb0e8fa00718d9fff3d69430c
 # sum of the lines below: 57971a44638ac312f33a913d327bd19e85c7eb6ac1228fd8f701a46e76fd5a9e
 	.section	.rodata.cst16,"aM",@progbits,16
 	.p2align	4, 0x0

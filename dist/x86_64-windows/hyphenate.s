@@ -4,7 +4,7 @@
 # proved and compiled with: rattle-kit-13f logic dac8208d650f15bf
 # made, unproved for its own target, of the module that was proved for: x86_64-unknown-linux-gnu
 # crates: textwrap_text textwrap_base textwrap_words textwrap_layout textwrap_lines textwrap textwrap_unicode textwrap_styles textwrap_display textwrap_patterns textwrap_dictionaries textwrap_hyphens textwrap_marks textwrap_marked_lines textwrap_marked textwrap_plain textwrap_program unified_diff text_files text_filters filter_programs hyphenate
-# sum of their sources: cbb7db2f4de4ee53fdd0b10b713152055838e9ae9391b82473fdc29606dd3f98
+# sum of their sources: 723eab5aee3909778f3afaa19045a24c87cadaef0ce063ab794939430e413b2a
 # sum of the lines below: bdd5ba706140f098d9e645fa500593cb57e8aa8b3a4b6f4412c20f25c098c7e2
 	.def	proved.1.hyphenate_main_start;
 	.scl	3;

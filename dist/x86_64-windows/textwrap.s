@@ -4,7 +4,7 @@
 # proved and compiled with: rattle-kit-13f logic dac8208d650f15bf
 # made, unproved for its own target, of the module that was proved for: x86_64-unknown-linux-gnu
 # crates: textwrap_text textwrap_base textwrap_words textwrap_layout textwrap_lines textwrap textwrap_unicode textwrap_styles textwrap_display textwrap_patterns textwrap_dictionaries textwrap_hyphens textwrap_marks textwrap_marked_lines textwrap_marked textwrap_plain textwrap_program unified_diff text_files text_filters filter_programs fill
-# sum of their sources: 8b2eeead9cd2e9577b646348c199ad89eec543ac4449c34611206dad90d85a38
+# sum of their sources: 705175584bd66fc3a4f832e35c0240eb1cbb53efb0e8fa00718d9fff3d69430c
 # sum of the lines below: 612e3256b65ac5c64d5a82ef8d758b8438b29f4aeeedc3b21dc8bf1447780ced
 	.def	proved.1.fill_main_start;
 	.scl	3;

@@ -1,9 +1,9 @@
 //! What changes from one text to another.
 ghost use Rattle.std.specs.Prelude.{IfOk};
-ghost use Rattle.unified_diff.specs.Differences.{IsDiffText};
+ghost use Rattle.text_files.specs.Differences.{IsDiffText};
 
 use std::alloc::{AllocError, Global};
-use unified_diff::differences::diff_text;
+use text_files::differences::diff_text;
 
 /// As `diff_text`.
 pub fn diff_of_texts(

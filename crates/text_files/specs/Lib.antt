@@ -1,2 +1,5 @@
 pub mod Rights
 pub mod Files
+pub mod Differences
+pub mod Laws
+pub mod Reading

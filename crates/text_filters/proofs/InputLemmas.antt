@@ -8,7 +8,7 @@ use Rattle.text_filters.specs.declared.faults.Reason.{Reason}
 use Rattle.textwrap_program.specs.{Filling.{ReadsAll, WritesPrefix}, Program.TriesLine}
 use Rattle.textwrap_text.proofs.Common.{◌≡◌, ◌≢◌, ◌∙◌, sym, subst, true, false, ℕ, List, Bool, Option}
 use Rattle.textwrap_text.proofs.Common.{Err, false≢true}
-use Rattle.unified_diff.specs.Differences.{IsDiffText}
+use Rattle.text_files.specs.Differences.{IsDiffText}
 
 -- ---- two texts that were compared
 

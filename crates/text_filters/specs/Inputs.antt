@@ -10,7 +10,7 @@ use Rattle.text_filters.specs.declared.{filter.Made.Made, inputs.Filtered.Filter
 use Rattle.text_filters.specs.declared.inputs.Treated.{Treated}
 use Rattle.textwrap_program.specs.Filling.{ReadsAll, WritesPrefix}
 use Rattle.textwrap_program.specs.Program.{TriesLine, line_feed}
-use Rattle.unified_diff.specs.Differences.{IsDiffText}
+use Rattle.text_files.specs.Differences.{IsDiffText}
 
 -- this is no text, and so many bytes before the first that is none are one
 abbrev pub IsNoText : List ℕ → ℕ → Type 0

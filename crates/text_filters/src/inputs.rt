@@ -15,7 +15,7 @@ use crate::streams::{ReadWhole, WriteWhole};
 use simdutf8::compat::from_utf8;
 use std::alloc::Global;
 use text_files::files::Files;
-use unified_diff::differences::diff_text;
+use text_files::differences::diff_text;
 
 /// What became of an input.
 #[derive(Clone, Copy, PartialEq, Eq)]

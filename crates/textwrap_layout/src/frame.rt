@@ -2,7 +2,7 @@
 ghost use Rattle.std.specs.Prelude.{◌≡◌, [], if◌then◌else◌, false, true};
 ghost use Rattle.textwrap_layout.specs.Layout.{break_limit, front_of};
 ghost use Rattle.textwrap_layout.specs.Options.{layout_view};
-ghost use Rattle.textwrap_layout.specs.Paragraph.{first_width, indent_of, later_width, width_after};
+ghost use Rattle.textwrap_layout.specs.Paragraph.{first_width, indent_of, later_width};
 ghost use Rattle.textwrap_words.specs.Pieces.{empty_front};
 
 use crate::layout::Layout;
@@ -40,12 +40,13 @@ impl<'a> Frame<'a> {
         ensures layout { result.layout ≡ layout.entry }
         ensures first { result.is_later ≡ false }
     {
-        let later_columns = remaining_columns(&layout, layout.subsequent_indent);
+        let width = layout.width;
+        let later_columns = width.saturating_sub(display_width(layout.subsequent_indent));
         Frame {
             layout,
             is_later: false,
             indent: layout.initial_indent,
-            first_columns: remaining_columns(&layout, layout.initial_indent),
+            first_columns: width.saturating_sub(display_width(layout.initial_indent)),
             later_columns,
             // No text has as many columns as the greatest number, so words stay whole.
             limit: if layout.break_words {
@@ -86,22 +87,4 @@ impl<'a> Frame<'a> {
             has_front: self.has_front,
         }
     }
-
-    /// This one, or the later one where `is_later` says so.
-    pub fn choose<'f>(&'f self, later: &'f Frame<'a>, is_later: bool) -> &'f Frame<'a>
-        requires first { self.now.is_later ≡ false }
-        requires later { later.now.is_later ≡ true }
-        requires layout { later.now.layout ≡ self.now.layout }
-        ensures layout { result.now.layout ≡ self.now.layout }
-        ensures later { result.now.is_later ≡ is_later }
-    {
-        if is_later { later } else { self }
-    }
-}
-
-/// The columns that an indent leaves of a line.
-fn remaining_columns(layout: &Layout<'_>, indent: &str) -> usize
-    ensures { result ≡ width_after (layout_view layout.now) indent.now }
-{
-    layout.width.saturating_sub(display_width(indent))
 }

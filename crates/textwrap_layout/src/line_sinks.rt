@@ -202,20 +202,6 @@ impl<'t, 'l, 'r, A: Allocator> LineSink<'t, A> for LentLines<'l, 'r> {
         slice: &'t str,
         penalty: &str,
     ) -> Result<(), AllocError> {
-        self.add_line(indent, slice, penalty);
-        Ok(())
-    }
-}
-
-impl LentLines<'_, '_> {
-    ghost use Rattle.std.specs.Prelude.{◌++◌};
-    ghost use Rattle.textwrap_layout.specs.LineSinks.{LentOneMore};
-
-    /// Writes a line, and the ending before it where one stands there.
-    fn add_line(&mut self, indent: &str, slice: &str, penalty: &str)
-        ensures same { self.new.text.ghost_name ≡ self.old.text.ghost_name }
-        ensures more { LentOneMore self.old self.new (indent.now ++ slice.now ++ penalty.now) }
-    {
         if self.has_lines {
             match self.line_ending {
                 LineEnding::LF => self.text.push_byte(b'\n'),
@@ -225,11 +211,13 @@ impl LentLines<'_, '_> {
         self.has_lines = true;
         // Most lines are the slice alone.
         if indent.is_empty() && penalty.is_empty() {
-            return self.text.push(slice.as_bytes());
+            self.text.push(slice.as_bytes());
+            return Ok(());
         }
         self.text.push(indent.as_bytes());
         self.text.push(slice.as_bytes());
         self.text.push(penalty.as_bytes());
+        Ok(())
     }
 }
 

@@ -50,7 +50,9 @@ pub(crate) fn push_by_first_fit<'t, A: Allocator + Copy, S: LineSink<'t, A>, P: 
         (pieces_of_words (frame_settings frame.now) (as_splitter splitter) words) division
         × Pushed S.holds lines.old lines.new (frame_lines frame.now division)) }
 {
-    let jumps = can_jump(paragraph, frame);
+    let jumps = frame.later_columns > 0
+        && !paragraph.is_empty()
+        && is_printable(paragraph.as_bytes());
     if jumps && frame.first_columns == frame.later_columns {
         if let Some(cuts) = parts.printable_cuts() {
             return push_printable_lines(alloc, paragraph, 0, frame, &cuts, splitter, lines);
@@ -65,16 +67,6 @@ pub(crate) fn push_by_first_fit<'t, A: Allocator + Copy, S: LineSink<'t, A>, P: 
         return push_after_first(alloc, paragraph, frame, splitter, lines);
     }
     push_lines_by_pieces(alloc, paragraph, frame, &cuts, lines)
-}
-
-/// Whether the lines of a paragraph are found from their starts by their widths: if it is printable
-/// ASCII, not empty, and its later lines have room beside their indent.
-fn can_jump(paragraph: &str, frame: &Frame<'_>) -> bool
-    ensures printable { IsTrue result → IsPrintable paragraph.now }
-    ensures some { IsTrue result → 0 < length paragraph.now }
-    ensures room { IsTrue result → 0 < later_width (frame_settings frame.now) }
-{
-    frame.later_columns > 0 && !paragraph.is_empty() && is_printable(paragraph.as_bytes())
 }
 
 /// Pushes the lines of a printable paragraph by first fit, with words between blanks, which are split

@@ -56,7 +56,12 @@ pub(crate) fn push_printable_lines<'t, A: Allocator + Copy, C: PrintableCuts, S:
         let (next, goes_on) = line_end(text, at, width, cuts, splitter, layout.break_words);
         let bounds = LineBounds {
             start: at,
-            word_end: word_end(text, at, next, goes_on),
+            // The blanks at a line's end are no part of its last word, unless that goes on.
+            word_end: if goes_on {
+                next
+            } else {
+                at + trimmed_len(&text[at..next])
+            },
             end: next,
         };
         push_between(alloc, paragraph, bounds, layout, indent, "", lines)?;
@@ -64,21 +69,6 @@ pub(crate) fn push_printable_lines<'t, A: Allocator + Copy, C: PrintableCuts, S:
         indent = layout.subsequent_indent;
     }
     Ok(())
-}
-
-/// Where the last word ends of a line that goes from the one place to the other: there if a word goes
-/// on after it, and else before the blanks at its end.
-fn word_end(text: &[u8], at: usize, next: usize, goes_on: bool) -> usize
-    requires order { at ≤ next }
-    requires inside { next ≤ length text.now }
-    ensures slice { slice_range text.now at result ≡ line_slice text.now at next goes_on }
-    ensures from { at ≤ result }
-    ensures within { result ≤ next }
-{
-    if goes_on {
-        return next;
-    }
-    at + trimmed_len(&text[at..next])
 }
 
 /// Where the line ends of a printable text that begins at a place, and whether a word goes on there;

@@ -185,14 +185,14 @@ pub(crate) fn push_text<'t, A: Allocator + Copy, S: LineSink<'t, A>, P: Parts<A>
         → OnlyMemoryRunsOut result }
 {
     let line_ending = layout.line_ending;
-    let first = Frame::of(layout);
-    let later = first.later();
+    let first = &Frame::of(layout);
+    let later = &first.later();
     let mut start = 0;
     let mut rest = Some(text);
     while let Some(text) = rest {
         let (paragraph, after) = split_paragraph(text, line_ending);
         lines.begin_paragraph(start);
-        let frame = first.choose(&later, lines.has_line());
+        let frame = if lines.has_line() { later } else { first };
         push_paragraph(alloc, paragraph, parts, frame, &built_in, lines)?;
         start += paragraph.len() + line_ending.as_str().len();
         rest = after;
@@ -366,32 +366,18 @@ pub fn wrap_single_line<'t, A: Allocator + Copy>(
         (nat_lt 0 (length lines.old.items)) line.now parts
         × Adds lines.old.items lines.new.items parts) }
 {
-    wrap_paragraph(alloc, line, Layout::of(options), options, lines)
-}
-
-/// The same by this layout and any parts.
-///
-/// # Errors
-/// Those of [`wrap_single_line`].
-pub(crate) fn wrap_paragraph<'t, A: Allocator + Copy, P: Parts<A>>(
-    alloc: A,
-    paragraph: &'t str,
-    layout: Layout<'_>,
-    parts: &P,
-    lines: &mut Vec<CowStr<'t, A>, A>,
-) -> Result<(), WrapError>
-    ensures appended { AppendsLines (P.may_overflow parts.now)
-        (AreParagraphParts (layout_view layout.entry)
-        (DividesWith (P.may parts.now) (layout_view layout.entry))
-        (nat_lt 0 (length lines.old.items)) paragraph.now) lines.old.items lines.new.items result }
-    ensures no_overflow { ¬ MayPass64BitsWith (P.may parts.now) (layout_view layout.entry)
-        paragraph.now → OnlyMemoryRunsOut result }
-{
     // A list of its own, so that an error leaves the other as it was.
     let mut own = Vec::new(alloc);
     let mut found = ListedLines { lines: &mut own };
     let is_later = !lines.is_empty();
-    push_paragraph_by(alloc, paragraph, layout, parts, is_later, &mut found)?;
+    push_paragraph_by(
+        alloc,
+        line,
+        Layout::of(options),
+        options,
+        is_later,
+        &mut found,
+    )?;
     Ok(lines.append(&mut own)?)
 }
 

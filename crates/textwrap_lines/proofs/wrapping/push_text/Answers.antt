@@ -1,4 +1,5 @@
 use Rattle.textwrap_lines.proofs.wrapping.push_text.Goals as goal
+use Rattle.textwrap_lines.proofs.wrapping.push_text.Goals.{else-has_line, then-has_line}
 use Rattle.textwrap_lines.proofs.Common.{AreParagraphParts, frame_settings, length}
 use Rattle.textwrap_layout.specs.Direct.{AreParts}
 use Rattle.textwrap_layout.specs.Paragraph.{MayPass64BitsBy}
@@ -24,12 +25,16 @@ loop-rest-init g c =
 pub push_paragraph-requires : goal.push_paragraph-requires
 push_paragraph-requires g c =
     let parts = c.args.parts.now in
+    let framed : frame_settings c.if-has_line.frame.now ≡ layout_view c.args.layout =
+    elim c.if-has_line.branch [
+      then-has_line w ↦ rw w.frame-is (ap layout_view (c.later.ensures.layout ∙ c.of.ensures.layout))
+    | else-has_line w ↦ rw w.frame-is (ap layout_view c.of.ensures.layout)
+    ] in
     λ k. (
       (refl, tt),
       subst (λ s. IfSome c.args.built_in (AreParts s (g.P.Parts.may parts).Words
           (DividesWith (g.P.Parts.may parts) s)))
-          (sym (ap layout_view (c.choose-frame.ensures.layout ∙ c.of-first.ensures.layout)))
-          c.requires.built_in,
+          (sym framed) c.requires.built_in,
     )
 
 pub loop-rest-preserved : goal.loop-rest-preserved
@@ -38,8 +43,16 @@ loop-rest-preserved g c =
     let paragraph = c.split_paragraph.result.0.now in
     let after = c.split_paragraph.result.1 in
     let settings = layout_view c.args.layout in
-    let framed : frame_settings c.choose-frame.result.now ≡ settings =
-    ap layout_view (c.choose-frame.ensures.layout ∙ c.of-first.ensures.layout) in
+    let framed : frame_settings c.if-has_line.frame.now ≡ layout_view c.args.layout =
+    elim c.if-has_line.branch [
+      then-has_line w ↦ rw w.frame-is (ap layout_view (c.later.ensures.layout ∙ c.of.ensures.layout))
+    | else-has_line w ↦ rw w.frame-is (ap layout_view c.of.ensures.layout)
+    ] in
+    let later : c.if-has_line.frame.now.is_later ≡ c.has_line.result =
+    elim c.if-has_line.branch [
+      then-has_line w ↦ rw (w.frame-is, w.if-has_line.true) c.later.ensures.later
+    | else-has_line w ↦ rw (w.frame-is, w.if-has_line.false) c.of.ensures.first
+    ] in
     let Divides = DividesWith (g.P.Parts.may parts) in
     let (own, are, took) = c.in_ok-push_paragraph.ensures.taken in
     record {
@@ -55,8 +68,7 @@ loop-rest-preserved g c =
           c.begin_paragraph.ensures.held c.has_line.ensures (
             own,
             subst (λ later. AreParagraphParts settings (Divides settings) later paragraph own)
-                c.choose-frame.ensures.later
-                (subst (λ s. AreParagraphParts s (Divides s) c.choose-frame.result.now.is_later
+                later (subst (λ s. AreParagraphParts s (Divides s) c.if-has_line.frame.now.is_later
                 paragraph own) framed are),
             took,
           );
@@ -68,7 +80,11 @@ pub returns-in_err-push_paragraph-clause-no_overflow : goal.returns-in_err-push_
 returns-in_err-push_paragraph-clause-no_overflow g c = λ never.
     let parts = c.args.parts.now in
     let ending = c.args.layout.line_ending in
-    let framed = ap layout_view (c.choose-frame.ensures.layout ∙ c.of-first.ensures.layout) in
+    let framed : frame_settings c.if-has_line.frame.now ≡ layout_view c.args.layout =
+    elim c.if-has_line.branch [
+      then-has_line w ↦ rw w.frame-is (ap layout_view (c.later.ensures.layout ∙ c.of.ensures.layout))
+    | else-has_line w ↦ rw w.frame-is (ap layout_view c.of.ensures.layout)
+    ] in
     let left = ap (paragraphs_left ending) c.in-Some.is
     ∙ paragraphs_left-split ending c.in-Some.text.now c.split_paragraph.result.1
     c.split_paragraph.result.0.now c.split_paragraph.ensures.paragraphs in

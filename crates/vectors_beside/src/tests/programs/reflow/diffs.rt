@@ -11,7 +11,7 @@ use std::process::Abort;
 use textwrap_program::filling::{RunError, read_to_end};
 use textwrap_vectors::heap::Heap;
 use textwrap_vectors::streams::{Feed, FeedFault, SinkFault};
-use unified_diff::differences::diff_text;
+use text_files::differences::diff_text;
 
 /// A rule, the standard input, and the diff at ten columns.
 #[rattlefmt::skip]

@@ -1,6 +1,0 @@
-pub mod DiffHunks
-pub mod DiffLaws
-pub mod DiffLines
-pub mod DiffNearest
-pub mod DiffReading
-pub mod DiffRuns

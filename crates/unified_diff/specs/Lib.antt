@@ -1,3 +1,0 @@
-pub mod Differences
-pub mod Laws
-pub mod Reading

@@ -19,21 +19,21 @@ returns-in-Some-clause-pushed g c =
     let text = c.args.paragraph.now in
     let (printable, goes_on) : IsPrintable text × (c.if-frame-gt0.value ≡ true) =
     elim c.if-not-is_empty.branch [
-      then-not-is_empty w ↦ (
+      | then-not-is_empty w ↦ (
         (rw w.as_bytes.ensures.value at w.is_printable-jumps.ensures.0)
             (sym w.jumps-is ∙ c.if-jumps.true),
         w.if-not-is_empty.true,
       )
-    | else-not-is_empty w ↦
-        absurd (false≢true (sym w.if-not-is_empty.false ∙ sym w.jumps-is ∙ c.if-jumps.true))
+      | else-not-is_empty w ↦
+          absurd (false≢true (sym w.if-not-is_empty.false ∙ sym w.jumps-is ∙ c.if-jumps.true))
     ] in
     let (some, room) : (0 < length text) × (0 < later_width settings) =
     elim c.if-frame-gt0.branch [
-      then-frame-gt0 w ↦ (
+      | then-frame-gt0 w ↦ (
         grind (arith, common_steps, w.is_empty.ensures, w.value-is, goes_on),
         rw frame.later at w.if-frame-gt0.true,
       )
-    | else-frame-gt0 w ↦ absurd (grind (arith, common_steps, w.if-frame-gt0.false, w.value-is, goes_on))
+      | else-frame-gt0 w ↦ absurd (grind (arith, common_steps, w.if-frame-gt0.false, w.value-is, goes_on))
     ] in
     let cuts = g.P.Words.PrintableCuts.cuts c.in-Some.cuts text in
     let words = map word_of (parts_by cuts 0 text) in

@@ -28,18 +28,18 @@ loop-at-preserved g c =
     rw (bytes, c.args.frame.now.later) at c.line_end-next.ensures.line in
     let word_end = c.if-goes_on.bounds in
     let ends : (slice_range text at word_end ≡ line_slice text at next goes_on)
-        × (at ≤ word_end) × (word_end ≤ next) =
+    × (at ≤ word_end) × (word_end ≤ next) =
     elim c.if-goes_on.branch [
-      then-goes_on w ↦ rw (w.bounds-is, w.if-goes_on.true) (refl, omega (arith, c.line_end-next.ensures.some), omega arith)
-    | else-goes_on w ↦
-        let value = rw bytes at w.trimmed_len.ensures.value in
-        let inside = rw bytes at w.trimmed_len.ensures.within in
-        let len = length-slice text at next (omega (arith, within)) in
-        rw (w.bounds-is, w.if-goes_on.false) (
-          grind (arith, common_steps, value, inside, len),
-          omega arith,
-          omega (arith, inside, len, c.line_end-next.ensures.some),
-        )
+      | then-goes_on w ↦ rw (w.bounds-is, w.if-goes_on.true) (refl, omega (arith, c.line_end-next.ensures.some), omega arith)
+      | else-goes_on w ↦
+          let value = rw bytes at w.trimmed_len.ensures.value in
+          let inside = rw bytes at w.trimmed_len.ensures.within in
+          let len = length-slice text at next (omega (arith, within)) in
+          rw (w.bounds-is, w.if-goes_on.false) (
+            grind (arith, common_steps, value, inside, len),
+            omega arith,
+            omega (arith, inside, len, c.line_end-next.ensures.some),
+          )
     ] in
     let (slice, from, before) = ends in
     let (is_later, indented, taken) = so_far.taken in

@@ -27,8 +27,8 @@ push_paragraph-requires g c =
     let parts = c.args.parts.now in
     let framed : frame_settings c.if-has_line.frame.now ≡ layout_view c.args.layout =
     elim c.if-has_line.branch [
-      then-has_line w ↦ rw w.frame-is (ap layout_view (c.later.ensures.layout ∙ c.of.ensures.layout))
-    | else-has_line w ↦ rw w.frame-is (ap layout_view c.of.ensures.layout)
+      | then-has_line w ↦ rw w.frame-is (ap layout_view (c.later.ensures.layout ∙ c.of.ensures.layout))
+      | else-has_line w ↦ rw w.frame-is (ap layout_view c.of.ensures.layout)
     ] in
     λ k. (
       (refl, tt),
@@ -45,13 +45,13 @@ loop-rest-preserved g c =
     let settings = layout_view c.args.layout in
     let framed : frame_settings c.if-has_line.frame.now ≡ layout_view c.args.layout =
     elim c.if-has_line.branch [
-      then-has_line w ↦ rw w.frame-is (ap layout_view (c.later.ensures.layout ∙ c.of.ensures.layout))
-    | else-has_line w ↦ rw w.frame-is (ap layout_view c.of.ensures.layout)
+      | then-has_line w ↦ rw w.frame-is (ap layout_view (c.later.ensures.layout ∙ c.of.ensures.layout))
+      | else-has_line w ↦ rw w.frame-is (ap layout_view c.of.ensures.layout)
     ] in
     let later : c.if-has_line.frame.now.is_later ≡ c.has_line.result =
     elim c.if-has_line.branch [
-      then-has_line w ↦ rw (w.frame-is, w.if-has_line.true) c.later.ensures.later
-    | else-has_line w ↦ rw (w.frame-is, w.if-has_line.false) c.of.ensures.first
+      | then-has_line w ↦ rw (w.frame-is, w.if-has_line.true) c.later.ensures.later
+      | else-has_line w ↦ rw (w.frame-is, w.if-has_line.false) c.of.ensures.first
     ] in
     let Divides = DividesWith (g.P.Parts.may parts) in
     let (own, are, took) = c.in_ok-push_paragraph.ensures.taken in
@@ -82,8 +82,8 @@ returns-in_err-push_paragraph-clause-no_overflow g c = λ never.
     let ending = c.args.layout.line_ending in
     let framed : frame_settings c.if-has_line.frame.now ≡ layout_view c.args.layout =
     elim c.if-has_line.branch [
-      then-has_line w ↦ rw w.frame-is (ap layout_view (c.later.ensures.layout ∙ c.of.ensures.layout))
-    | else-has_line w ↦ rw w.frame-is (ap layout_view c.of.ensures.layout)
+      | then-has_line w ↦ rw w.frame-is (ap layout_view (c.later.ensures.layout ∙ c.of.ensures.layout))
+      | else-has_line w ↦ rw w.frame-is (ap layout_view c.of.ensures.layout)
     ] in
     let left = ap (paragraphs_left ending) c.in-Some.is
     ∙ paragraphs_left-split ending c.in-Some.text.now c.split_paragraph.result.1

@@ -1,7 +1,7 @@
 //! How a text is wrapped, by built-in parts alone.
-ghost use Rattle.std.specs.Prelude.{◌≡◌, ◌↔◌, IsTrue, Some};
+ghost use Rattle.std.specs.Prelude.{◌≡◌, Some};
 ghost use Rattle.textwrap.specs.WrapAlgorithms.{algorithm_view};
-ghost use Rattle.textwrap_plain.specs.Options.{plain_algorithm, AreDefaults, AreDirect};
+ghost use Rattle.textwrap_plain.specs.Options.{plain_algorithm, AreDefaults};
 
 use textwrap::WrapAlgorithm;
 use textwrap::wrap_algorithms::Penalties;
@@ -65,18 +65,6 @@ impl PlainOptions<'static> {
 }
 
 impl<'a> PlainOptions<'a> {
-    /// Whether words stand between blanks, no dictionary splits them, and each line takes as many of
-    /// their pieces as fit. Then a text is filled without a list.
-    pub(crate) fn are_direct(&self) -> bool
-        ensures { IsTrue result ↔ AreDirect self.now }
-    {
-        match (self.word_separator, self.word_splitter, self.wrap_algorithm) {
-            (PlainSeparator::AtBlanks, PlainSplitter::BuiltIn(_), BuiltInAlgorithm::FirstFit) =>
-                true,
-            _ => false,
-        }
-    }
-
     /// The algorithm as one of the public ones.
     pub fn algorithm(&self) -> WrapAlgorithm
         ensures { algorithm_view result ≡ Some (plain_algorithm self.now) }

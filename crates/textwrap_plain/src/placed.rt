@@ -44,12 +44,12 @@ pub fn place_into(
     ensures only_memory { OnlyMemoryRunsOut result }
 {
     let layout = options.layout();
-    if options.are_direct() {
+    if let Some(parts) = options.direct_parts() {
         let mut placed = LentPlaces::new(lines, room);
         let mut sink = LentLinePlaces {
             placed: &mut placed,
         };
-        fill_to(alloc, text, layout, &options.direct_parts(), &mut sink)?;
+        fill_to(alloc, text, layout, &parts, &mut sink)?;
         return Ok(placed.counts());
     }
     let mut placed = PlacedLines::new(alloc);

@@ -1,7 +1,7 @@
 //! Options without functions as `textwrap_lines` takes them: a layout, and parts by which texts are cut
 //! into words, split and divided.
-ghost use Rattle.std.specs.Prelude.{◌≡◌};
-ghost use Rattle.textwrap_plain.specs.Options.{plain_layout};
+ghost use Rattle.std.specs.Prelude.{◌≡◌, MatchOption};
+ghost use Rattle.textwrap_plain.specs.Options.{AreDirect, plain_layout};
 
 use crate::options::{PlainOptions, PlainSeparator, PlainSplitter};
 use crate::parts::PlainParts;
@@ -99,15 +99,22 @@ impl<'a> PlainOptions<'a> {
         }
     }
 
-    /// First fit, of words between blanks. Loops over these ask of no byte which separator it is.
-    pub fn direct_parts(&self) -> PlainParts<'a, BlankCuts>
-        ensures splitter { result.splitter ≡ self.now.word_splitter }
-        ensures first_fit { result.algorithm ≡ BuiltInAlgorithm.FirstFit }
+    /// The same, if they are first fit of words between blanks that no dictionary splits. Then a text is
+    /// filled without a list, and its loops ask of no byte which separator it is.
+    pub(crate) fn direct_parts(&self) -> Option<PlainParts<'a, BlankCuts>>
+        ensures { MatchOption result (¬ AreDirect self.now) (λ parts. AreDirect self.now
+            × (parts.splitter ≡ self.now.word_splitter)
+            × (parts.algorithm ≡ BuiltInAlgorithm.FirstFit)) }
     {
-        PlainParts {
-            words: BlankCuts {},
-            splitter: self.word_splitter,
-            algorithm: BuiltInAlgorithm::FirstFit,
+        match (self.word_separator, self.word_splitter, self.wrap_algorithm) {
+            (PlainSeparator::AtBlanks, PlainSplitter::BuiltIn(_), BuiltInAlgorithm::FirstFit) => {
+                Some(PlainParts {
+                    words: BlankCuts {},
+                    splitter: self.word_splitter,
+                    algorithm: BuiltInAlgorithm::FirstFit,
+                })
+            }
+            _ => None,
         }
     }
 }

@@ -97,20 +97,14 @@ pub fn fill_into(
     ensures kept { IfErr result (λ _. room.new ≡ room.old) }
     ensures only_memory { OnlyMemoryRunsOut result }
 {
-    if options.are_direct() {
+    if let Some(parts) = options.direct_parts() {
         let mut filled = LentText::new(room);
         let mut lines = LentLines {
             text: &mut filled,
             line_ending: options.layout.line_ending,
             has_lines: false,
         };
-        fill_to(
-            alloc,
-            text,
-            options.layout(),
-            &options.direct_parts(),
-            &mut lines,
-        )?;
+        fill_to(alloc, text, options.layout(), &parts, &mut lines)?;
         return Ok(filled.len());
     }
     let filled = fill(alloc, text, options)?;

@@ -3,12 +3,11 @@ use Rattle.textwrap_lines.proofs.Common.{ap, lines_of, map, places_of, rules, â—
 use Rattle.textwrap_text.specs.LentText.{written_over}
 use Rattle.textwrap_plain.proofs.placed.place_into.Goals as goal
 
-pub returns-then-are_direct-clause-lines : goal.returns-then-are_direct-clause-lines
-returns-then-are_direct-clause-lines c =
-    let direct = c.are_direct.ensures.0 c.if-are_direct.true in
-    let parts = c.direct_parts.ensures in
+pub returns-in-Some-clause-lines : goal.returns-in-Some-clause-lines
+returns-in-Some-clause-lines c =
+    let (direct, splitter, first_fit) = c.in-Some.ensures in
     let (taken, found, end, holds) = c.in_ok-fill_to.ensures.lines in
-    let are = rw (c.layout-layout.ensures, parts.splitter, parts.first_fit) at found in
+    let are = rw (c.layout-layout.ensures, splitter, first_fit) at found in
     let places = places_of 0 taken in
     let built = built_text (lines_of taken) in
     let none = c.new-placed.ensures.none in

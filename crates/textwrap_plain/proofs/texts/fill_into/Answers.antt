@@ -4,12 +4,11 @@ use Rattle.textwrap_lines.proofs.Common.{arith, ending_bytes, join_with, line_by
 use Rattle.textwrap_lines.proofs.Common.{refl}
 use Rattle.textwrap_text.specs.LentText.{written_over}
 
-pub returns-then-are_direct-clause-filled : goal.returns-then-are_direct-clause-filled
-returns-then-are_direct-clause-filled c =
-    let direct = c.are_direct.ensures.0 c.if-are_direct.true in
-    let parts = c.direct_parts.ensures in
+pub returns-in-Some-clause-filled : goal.returns-in-Some-clause-filled
+returns-in-Some-clause-filled c =
+    let (direct, splitter, first_fit) = c.in-Some.ensures in
     let (taken, found, end, holds) = c.in_ok-fill_to.ensures.lines in
-    let are = rw (c.layout.ensures, parts.splitter, parts.first_fit) at found in
+    let are = rw (c.layout.ensures, splitter, first_fit) at found in
     let filled = join_with (ending_bytes c.args.options.now.layout.line_ending)
     (map line_bytes (lines_of taken)) in
     rw (direct.separator, direct.algorithm) (

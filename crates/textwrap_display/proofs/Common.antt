@@ -5,19 +5,17 @@ pub use Rattle.std.proofs.lemmas.Str.{IsCharBoundary-start, encode_ascii}
 pub use Rattle.std.specs.{Cow.cow_str_bytes, List.AllZip, List.concat, List.slice_index}
 pub use Rattle.std.specs.Prelude.{String, encode_utf8, ◌%◌}
 pub use Rattle.std.specs.{Str.Iter.char_indices_rest, declared.borrow.CowStr.CowStr}
-pub use Rattle.textwrap.specs.Columns.{blanks}
-pub use Rattle.textwrap_display.specs.{JustifiedText.IsJustifiedText, Justifying.gaps}
-pub use Rattle.textwrap_display.specs.Justifying.{indent_len, justified, line_words, widened_words}
+pub use Rattle.{textwrap.specs.Columns.blanks, textwrap_display.specs.JustifiedText.IsJustifiedText}
+pub use Rattle.textwrap_display.specs.Justifying.{gaps, indent_len, justified, line_words, widened_words}
 pub use Rattle.textwrap_display.specs.Laws.{JustifiedLineKeepsWords, word_texts}
 pub use Rattle.textwrap_display.specs.Shortening.{AreShortened, CanCut, CanEnd, IsCut}
 pub use Rattle.textwrap_display.specs.Shortening.{IsKeptBeginning, IsShortened, can_end, word_width}
-pub use Rattle.textwrap_layout.proofs.{Common.layout_view, Text.Lines.bytes_left}
-pub use Rattle.textwrap_layout.proofs.Text.Lines.{line_bytes-line_view, paragraphs_left}
+pub use Rattle.textwrap_layout.proofs.Common.{layout_view}
+pub use Rattle.textwrap_layout.proofs.Text.Lines.{bytes_left, line_bytes-line_view, paragraphs_left}
 pub use Rattle.textwrap_layout.proofs.Text.Paragraphs.{text_width-append, units-append}
 pub use Rattle.textwrap_layout.specs.Paragraph.{Built, Line, Slice, line_bytes, line_view}
-pub use Rattle.textwrap_lines.proofs.Paragraph.KeepsTo.{passed-on}
-pub use Rattle.textwrap_styles.specs.{Styled.IsWholeText, Styles.closing, Styles.sequence_of}
-pub use Rattle.textwrap_styles.specs.Styles.{sequences, texts_of}
+pub use Rattle.{textwrap_lines.proofs.Paragraph.KeepsTo.passed-on, textwrap_styles.specs.Styled.IsWholeText}
+pub use Rattle.textwrap_styles.specs.Styles.{closing, sequence_of, sequences, texts_of}
 pub use Rattle.textwrap_text.proofs.{Lists.Parts.flat, Units.Chunks.chunks-from}
 pub use Rattle.textwrap_text.proofs.Units.Reading.{IsRead, added, read-all, read-next, read-start}
 pub use Rattle.textwrap_text.specs.Blanks.{BlanksBetween, blank, final_blanks, is_blank}

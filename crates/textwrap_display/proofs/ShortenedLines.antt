@@ -2,30 +2,27 @@
 -- room; what closes that, what the lines show, and their widths. Only one number of bytes may be kept.
 use Rattle.std.proofs.lemmas.{List.Sums.prefix_len-le-length, Str.IsCharBoundary-from_rest}
 use Rattle.std.specs.Prelude.{chars}
-use Rattle.textwrap_display.proofs.Common.{CanCut, IsCut, IsKeptBeginning, IsShortened, IsWhole}
-use Rattle.textwrap_display.proofs.Common.{IsWholeText, Line, closing, concat, indent_len, is_blank}
-use Rattle.textwrap_display.proofs.Common.{line_bytes, sequences, text_width-append, text_width-nil}
-use Rattle.textwrap_display.proofs.{Common.units, Common.word_width, KeptLines.none-kept}
-use Rattle.textwrap_display.proofs.{KeptWords.may_end-boundary, Widths.indent-blanks}
+use Rattle.textwrap_display.proofs.Common.{CanCut, IsCut, IsKeptBeginning, IsShortened, IsWhole, IsWholeText}
+use Rattle.textwrap_display.proofs.Common.{Line, closing, concat, indent_len, is_blank, line_bytes}
+use Rattle.textwrap_display.proofs.Common.{sequences, text_width-append, text_width-nil, units, word_width}
+use Rattle.textwrap_display.proofs.{KeptLines.none-kept, KeptWords.may_end-boundary, Widths.indent-blanks}
 use Rattle.textwrap_display.specs.Shortening.{IsKeptLength, LeavesRoom, is_too_wide}
 use Rattle.textwrap_layout.{proofs.Paragraph.LeftOff.blanks-utf8, specs.Text.HasWholeSequences}
-use Rattle.textwrap_lines.proofs.Text.Printed.{blanks-whole}
-use Rattle.textwrap_styles.proofs.{PenStyles.ended, SequenceTexts.IsSequence}
-use Rattle.textwrap_styles.proofs.SequenceTexts.{closing-is, closing-sequences, closing_sequences}
-use Rattle.textwrap_styles.proofs.SequenceTexts.{concat-units, concat-whole, none-visible}
+use Rattle.{textwrap_lines.proofs.Text.Printed.blanks-whole, textwrap_styles.proofs.PenStyles.ended}
+use Rattle.textwrap_styles.proofs.SequenceTexts.{IsSequence, closing-is, closing-sequences}
+use Rattle.textwrap_styles.proofs.SequenceTexts.{closing_sequences, concat-units, concat-whole, none-visible}
 use Rattle.textwrap_styles.proofs.SequenceTexts.{penned-append, sequence_units, sequences-show}
 use Rattle.textwrap_styles.proofs.SequenceTexts.{text_units-append, units-again, whole_text-append}
 use Rattle.textwrap_styles.specs.Penned.{penned_text, penned_units, plain_rendition, rendition_of}
 use Rattle.textwrap_styles.specs.Styled.{EndsPlain}
-use Rattle.textwrap_text.proofs.Common.{All, All-append, Bool, IsCharBoundary}
-use Rattle.textwrap_text.proofs.Common.{IsCharBoundary-from_drop, IsCharBoundary-from_take, IsUtf8}
-use Rattle.textwrap_text.proofs.Common.{IsUtf8-drop, IsUtf8-take, List, [], and_parts, ap}
-use Rattle.textwrap_text.proofs.Common.{append-nil, arith, cases_lt, drop, drop-drop}
-use Rattle.textwrap_text.proofs.Common.{flat_map-append, inl, inr, length, length-drop}
-use Rattle.textwrap_text.proofs.Common.{length-prefix_len, ltb-false, ltb-true, refl, rules, subst}
-use Rattle.textwrap_text.proofs.Common.{sym, take, take-add, take-append-drop, take_at, text_width}
-use Rattle.textwrap_text.proofs.Common.{true, units_width, ℕ, ◌&&◌, ◌++◌, ◌+◌, ◌-◌, ◌<◌, ◌∙◌, ◌≡◌}
-use Rattle.textwrap_text.proofs.{Common.◌≢◌, Common.◌≤◌, Common.◌⊎◌, Lists.Parts.all-right}
+use Rattle.textwrap_text.proofs.Common.{All, All-append, Bool, IsCharBoundary, IsCharBoundary-from_drop}
+use Rattle.textwrap_text.proofs.Common.{IsCharBoundary-from_take, IsUtf8, IsUtf8-drop, IsUtf8-take}
+use Rattle.textwrap_text.proofs.Common.{List, [], and_parts, ap, append-nil, arith, cases_lt, drop}
+use Rattle.textwrap_text.proofs.Common.{drop-drop, flat_map-append, inl, inr, length, length-drop}
+use Rattle.textwrap_text.proofs.Common.{length-prefix_len, ltb-false, ltb-true, refl, rules, subst, sym}
+use Rattle.textwrap_text.proofs.Common.{take, take-add, take-append-drop, take_at, text_width, true}
+use Rattle.textwrap_text.proofs.Common.{units_width, ℕ, ◌&&◌, ◌++◌, ◌+◌, ◌-◌, ◌<◌, ◌∙◌, ◌≡◌, ◌≢◌, ◌≤◌, ◌⊎◌}
+use Rattle.textwrap_text.proofs.Lists.Parts.{all-right}
 
 -- ---- a word in a line, as a text by itself
 
@@ -41,53 +38,37 @@ module _ {width : ℕ} {placeholder line : List ℕ} (utf8 : IsUtf8 line) {words
   abbrev gap : List ℕ
   gap = take (indent_len (drop words line)) (drop words line)
 
-  front-is : front ≡ take words line ++ gap
-  front-is = ap (λ n. take n line) next ∙ take-add words (indent_len (drop words line)) line
-
   words-whole : IsWholeText (take words line)
-  words-whole = (
-    IsUtf8-take line words utf8 (may_end-boundary line words utf8 kept.ends.0),
-    kept.ends.1,
-  )
+  words-whole = (IsUtf8-take line words utf8 (may_end-boundary line words utf8 kept.ends.0), kept.ends.1)
 
   gap-whole : IsWholeText gap
   gap-whole =
       let blanks = indent-blanks (drop words line) in (blanks-utf8 gap blanks, blanks-whole gap blanks)
 
   front-whole : IsWholeText front
-  front-whole = subst IsWholeText (sym front-is) (whole_text-append (take words line) gap words-whole
-      gap-whole)
+  front-whole = rw (next, take-add) (whole_text-append (take words line) gap words-whole gap-whole)
 
   pub start-within : start ≤ length line
   start-within =
-      let few = prefix_len-le-length is_blank (drop words line) in
-      omega (arith, next, few, kept.within, length-drop words line)
+      omega (arith, next, prefix_len-le-length is_blank (drop words line), kept.within, length-drop words line)
 
   pub start-boundary : IsCharBoundary line start
   start-boundary = IsCharBoundary-from_take line start utf8 start-within front-whole.0
 
-  longer : (k : ℕ) → take (start + k) line ≡ front ++ take k word
-  longer k = take-add start k line
-
-  longer-width : (k : ℕ) → text_width (take (start + k) line)
-      ≡ text_width front + text_width (take k word)
+  longer-width : (k : ℕ) → text_width (take (start + k) line) ≡ text_width front + text_width (take k word)
   longer-width k =
-      ap text_width (longer k) ∙ text_width-append front (take k word) front-whole.0 front-whole.1
+      ap text_width (take-add start k line) ∙ text_width-append front (take k word) front-whole.0 front-whole.1
 
   longer-units : (k : ℕ) → units (chars (take (start + k) line))
       ≡ units (chars front) ++ units (chars (take k word))
   longer-units k =
-      ap (λ l. units (chars l)) (longer k) ∙ text_units-append front (take k word) front-whole
+      ap (λ l. units (chars l)) (take-add start k line) ∙ text_units-append front (take k word) front-whole
 
-  longer-whole : (k : ℕ) → HasWholeSequences (take k word)
-      → HasWholeSequences (take (start + k) line)
-  longer-whole k whole = subst (All IsWhole) (sym (longer-units k))
-      (All-append IsWhole (units (chars front)) (units (chars (take k word))) front-whole.1 whole)
+  longer-whole : (k : ℕ) → HasWholeSequences (take k word) → HasWholeSequences (take (start + k) line)
+  longer-whole k whole = rw (longer-units k) (All-append IsWhole _ _ front-whole.1 whole)
 
-  longer-own : (k : ℕ) → HasWholeSequences (take (start + k) line)
-      → HasWholeSequences (take k word)
-  longer-own k whole = all-right IsWhole (units (chars front)) (units (chars (take k word)))
-      (subst (All IsWhole) (longer-units k) whole)
+  longer-own : (k : ℕ) → HasWholeSequences (take (start + k) line) → HasWholeSequences (take k word)
+  longer-own k whole = all-right IsWhole (units (chars front)) _ (rw (longer-units k) at whole)
 
   rest-of : (k : ℕ) → drop (start + k) line ≡ drop k word
   rest-of k = ap (λ n. drop n line) (omega arith) ∙ sym (drop-drop k start line)
@@ -97,16 +78,14 @@ module _ {width : ℕ} {placeholder line : List ℕ} (utf8 : IsUtf8 line) {words
       search (rules, arith, longer-width, IsCharBoundary-from_rest, start-within, rest-of, longer-whole)
 
   to-word : (k : ℕ) → CanCut line start (start + k) → CanCut word 0 k
-  to-word k may =
-      record {
-        after = omega arith;
-        behind = omega (arith, may.behind, longer-width k, text_width-nil);
-        place = IsCharBoundary-from_drop word k
-            (omega (arith, may.place.0, length-drop start line, start-within))
-            (subst IsUtf8 (rest-of k) (IsUtf8-drop line (start + k) utf8 may.place));
-        before = omega (arith, may.before, ap (λ l. units_width (take 1 (units (chars l)))) (rest-of k));
-        whole = longer-own k may.whole;
-      }
+  to-word k may = record {
+    after = omega arith;
+    behind = omega (arith, may.behind, longer-width k, text_width-nil);
+    place = IsCharBoundary-from_drop word k (omega (arith, may.place.0, length-drop start line, start-within))
+        (subst IsUtf8 (rest-of k) (IsUtf8-drop line (start + k) utf8 may.place));
+    before = omega (arith, may.before, ap (λ l. units_width (take 1 (units (chars l)))) (rest-of k));
+    whole = longer-own k may.whole;
+  }
 
   -- no place has room if the blanks before the word have none
   pub cut-none : width < text_width front + text_width placeholder
@@ -172,8 +151,7 @@ module _ {width : ℕ} {placeholder line : List ℕ} (utf8 : IsUtf8 line) {words
   found : room < word_width text → IsCut left [] (drop start line) 0 0 k
   found over = subst (λ l. IsCut left [] l 0 0 k) h.text_is (h.cut over)
 
-  wide : (breaks : Bool) → breaks && is_too_wide width placeholder line start ≡ true
-      → room < word_width text
+  wide : (breaks : Bool) → breaks && is_too_wide width placeholder line start ≡ true → room < word_width text
   wide breaks passes = search (rules, arith, and_parts, ltb-true, h.is, h.text_is)
 
   pub kept-uncut : {breaks : Bool} → k ≡ 0 → IsKeptLength breaks width placeholder line words
@@ -204,16 +182,9 @@ module _ {width : ℕ} {placeholder line : List ℕ} (utf8 : IsUtf8 line) {words
 -- nothing, where the placeholder alone is too wide
 pub kept-none : {breaks : Bool} {width : ℕ} {placeholder line : List ℕ}
     → width < text_width placeholder → IsKeptLength breaks width placeholder line 0
-kept-none {line = line} over =
-    kept-words (record {
-      within = omega arith;
-      ends = none-kept line;
-      room = inl refl;
-      longest = λ m may room. absurd (omega (arith, room, over));
-    }) refl (λ is. record {
-      cut = inl refl;
-      latest = λ m may room. absurd (omega (arith, room, over));
-    })
+kept-none {line = line} over = kept-words
+    (record { within = omega arith; ends = none-kept line; room = inl refl; longest = λ m may fit. omega arith })
+    refl (λ is. record { cut = inl refl; latest = λ m may fit. omega arith })
 
 module _ {breaks : Bool} {width : ℕ} {placeholder line : List ℕ} {n : ℕ}
     (h : IsKeptLength breaks width placeholder line n) where
@@ -223,8 +194,7 @@ module _ {breaks : Bool} {width : ℕ} {placeholder line : List ℕ} {n : ℕ}
   kept-by P words cut = search (rules, arith)
 
   pub kept-boundary : IsUtf8 line → IsCharBoundary line n
-  kept-boundary utf8 =
-      kept-by (IsCharBoundary line) (may_end-boundary line h.words utf8 h.kept.ends.0)
+  kept-boundary utf8 = kept-by (IsCharBoundary line) (may_end-boundary line h.words utf8 h.kept.ends.0)
       (λ may room. may.place)
 
   pub kept-whole : IsUtf8 line → IsWholeText (take n line)
@@ -234,9 +204,7 @@ module _ {breaks : Bool} {width : ℕ} {placeholder line : List ℕ} {n : ℕ}
   )
 
   pub kept-room : (n ≡ 0) ⊎ LeavesRoom width placeholder line n
-  kept-room =
-      kept-by (λ k. (k ≡ 0) ⊎ LeavesRoom width placeholder line k) h.kept.room
-      (λ may room. inr room)
+  kept-room = kept-by (λ k. (k ≡ 0) ⊎ LeavesRoom width placeholder line k) h.kept.room (λ may room. inr room)
 
 -- ---- a text of whole sequences, and what closes it
 
@@ -254,12 +222,10 @@ module _ (kept : List ℕ) (whole : IsWholeText kept) where
   closed-is = ap (λ l. kept ++ l) (closing-is (sequences kept))
 
   closed-units : units (chars closed) ≡ units (chars kept) ++ sequence_units ends
-  closed-units =
-      cc (closed-is, text_units-append kept (concat ends) whole, concat-units ends are-ends)
+  closed-units = cc (closed-is, text_units-append kept (concat ends) whole, concat-units ends are-ends)
 
   closed-whole : IsWholeText closed
-  closed-whole =
-      subst IsWholeText (sym closed-is) (whole_text-append kept (concat ends) whole
+  closed-whole = subst IsWholeText (sym closed-is) (whole_text-append kept (concat ends) whole
       (concat-whole ends are-ends))
 
   pub closed-plain : EndsPlain closed
@@ -274,8 +240,7 @@ module _ (kept : List ℕ) (whole : IsWholeText kept) where
   -- with a placeholder behind it
   module _ (placeholder : List ℕ) where
     pub followed-width : text_width (closed ++ placeholder) ≡ text_width kept + text_width placeholder
-    followed-width =
-        cc (text_width-append closed placeholder closed-whole.0 closed-whole.1, closed-width)
+    followed-width = cc (text_width-append closed placeholder closed-whole.0 closed-whole.1, closed-width)
 
     pub followed-pens : penned_text plain_rendition (closed ++ placeholder)
         ≡ penned_text plain_rendition kept ++ penned_text plain_rendition placeholder
@@ -293,9 +258,6 @@ module _ (breaks : Bool) (width : ℕ) (placeholder line : List ℕ) (short : Li
   whole : IsWholeText kept
   whole = kept-whole is.kept utf8
 
-  bytes : line_bytes short ≡ kept ++ closing (sequences kept) ++ placeholder
-  bytes = ap line_bytes is.is
-
   pub shortened-closed : EndsPlain (kept ++ closing (sequences kept))
   shortened-closed = closed-plain kept whole
 
@@ -304,23 +266,17 @@ module _ (breaks : Bool) (width : ℕ) (placeholder line : List ℕ) (short : Li
       × (penned_text plain_rendition (line_bytes short)
       ≡ penned_text plain_rendition kept ++ penned_text plain_rendition placeholder)
   shortened-pens =
-      let rest = units (chars (drop is.len line)) in
       let parts : penned_text plain_rendition line ≡ penned_text plain_rendition kept
-      ++ penned_units (rendition_of (sequences kept)) rest =
+      ++ penned_units (rendition_of (sequences kept)) (units (chars (drop is.len line))) =
       grind (arith, take-append-drop, text_units-append kept (drop is.len line) whole, penned-append) in (
         grind (arith, parts, take_at),
-        ap (penned_text plain_rendition) bytes ∙ followed-pens kept whole placeholder,
+        ap (λ l. penned_text plain_rendition (line_bytes l)) is.is ∙ followed-pens kept whole placeholder,
       )
 
   pub shortened-width : text_width placeholder ≤ width → text_width (line_bytes short) ≤ width
   shortened-width room =
-      let sum = ap text_width bytes ∙ followed-width kept whole placeholder in
-      elim (kept-room is.kept) [
-        | inl none ↦
-            let nothing = ap (λ n. text_width (take n line)) none in
-            omega (arith, sum, room, nothing, text_width-nil)
-        | inr has ↦ omega (arith, sum, has)
-      ]
+      let sum = ap (λ l. text_width (line_bytes l)) is.is ∙ followed-width kept whole placeholder in
+      grind (arith, sum, kept-room is.kept, text_width-nil)
 
 -- ---- only one number of bytes may be kept
 
@@ -329,8 +285,7 @@ words-le : {width : ℕ} {placeholder line : List ℕ} {m n : ℕ}
 words-le first second = search (rules, arith)
 
 cut-le : {width : ℕ} {placeholder line : List ℕ} {words start m n : ℕ} → words ≤ start
-    → IsCut width placeholder line words start m → IsCut width placeholder line words start n
-    → m ≤ n
+    → IsCut width placeholder line words start m → IsCut width placeholder line words start n → m ≤ n
 cut-le before first second = search (rules, arith)
 
 pub kept-unique : (breaks : Bool) (width : ℕ) (placeholder line : List ℕ) (m n : ℕ)

@@ -1,11 +1,9 @@
 use Rattle.textwrap_display.proofs.filling.fill_justified.Goals as goal
 use Rattle.textwrap_display.proofs.Common.{line_bytes, paragraphs_left, passed-on}
-use Rattle.textwrap_display.proofs.JustifiedLines.{justified-none, paragraph-written, so_far-end}
-use Rattle.textwrap_display.proofs.JustifiedLines.{so_far-more, so_far-start}
-use Rattle.textwrap_display.specs.JustifiedSinks.{HoldsJustified}
-use Rattle.textwrap_layout.proofs.Common.{cut_lines, line_from}
-use Rattle.textwrap_layout.proofs.Text.{Lines.paragraphs_left-split, Sinks.lines_of-cut_lines}
-use Rattle.textwrap_layout.proofs.Text.Sinks.{lines_of-more}
+use Rattle.textwrap_display.proofs.JustifiedLines.{justified-none, paragraph-written, so_far-end, so_far-more}
+use Rattle.textwrap_display.{proofs.JustifiedLines.so_far-start, specs.JustifiedSinks.HoldsJustified}
+use Rattle.textwrap_layout.proofs.{Common.cut_lines, Common.line_from, Text.Lines.paragraphs_left-split}
+use Rattle.textwrap_layout.proofs.Text.Sinks.{lines_of-cut_lines, lines_of-more}
 use Rattle.textwrap_text.proofs.Common.{[], ap, length-map, map, refl, subst, ◌++◌, ◌∙◌}
 
 pub loop-rest-init : goal.loop-rest-init

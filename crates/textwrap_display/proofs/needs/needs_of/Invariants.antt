@@ -4,6 +4,5 @@ use Rattle.textwrap_display.specs.{Needs.column_texts, Needs.need_of, Tables.tex
 use Rattle.textwrap_text.proofs.Common.{map, ◌≡◌}
 
 abbrev pub invariant-loop-column : goal.invariant-loop-column
-invariant-loop-column g l =
-    l.needs.items ≡ map (λ at. need_of (column_texts l.columns (texts_in l.cells) at))
+invariant-loop-column g l = l.needs.items ≡ map (λ at. need_of (column_texts l.columns (texts_in l.cells) at))
     (range_with_len 0 l.column)

@@ -1,9 +1,8 @@
 use Rattle.textwrap_display.proofs.shortening.broken_len.Goals as goal
-use Rattle.textwrap_display.proofs.{Common.encode_utf8, KeptLines.IsFoundCut, KeptLines.IsReadWord}
-use Rattle.textwrap_display.proofs.KeptLines.{cut-here, cut-past, read_word-start, turn-end}
-use Rattle.textwrap_display.proofs.KeptLines.{turn-full, turn-hidden, turn-le, turn-wide, turn-word}
-use Rattle.textwrap_display.proofs.{KeptLines.word-all, shortening.broken_len.Goals.In-Some}
-use Rattle.textwrap_display.proofs.shortening.broken_len.Goals.{Joined-taken-gt0}
+use Rattle.textwrap_display.proofs.{Common.encode_utf8, KeptLines.IsFoundCut}
+use Rattle.textwrap_display.proofs.KeptLines.{IsReadWord, cut-here, cut-past, read_word-start, turn-end}
+use Rattle.textwrap_display.proofs.KeptLines.{turn-full, turn-hidden, turn-le, turn-wide, turn-word, word-all}
+use Rattle.textwrap_display.proofs.shortening.broken_len.Goals.{In-Some, Joined-taken-gt0}
 use Rattle.textwrap_text.proofs.Common.{arith, characters_left, length, ◌+◌, ◌∷◌}
 
 pub loop-character-init : goal.loop-character-init
@@ -52,8 +51,7 @@ found c =
                 absurd (omega (arith, columns, w'.if-width-gt0.false, wide))
             | goal.else-taken-gt0-via-then-taken-gt0+else-taken-left w' ↦
                 absurd (omega (arith, room, w'.if-taken-left.false))
-            | goal.else-taken-gt0-via-else-taken-gt0 w' ↦
-                absurd (omega (arith, some, w'.if-taken-gt0.false))
+            | goal.else-taken-gt0-via-else-taken-gt0 w' ↦ absurd (omega (arith, some, w'.if-taken-gt0.false))
           ]))
     ]
 

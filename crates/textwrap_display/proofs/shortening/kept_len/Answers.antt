@@ -1,10 +1,8 @@
 use Rattle.textwrap_display.proofs.shortening.kept_len.Goals as goal
 use Rattle.textwrap_display.proofs.Common.{IsKeptBeginning, indent_len}
-use Rattle.textwrap_display.proofs.ShortenedLines.{IsFoundWord, cut-none, kept-cut, kept-none}
-use Rattle.textwrap_display.proofs.ShortenedLines.{kept-uncut, kept-within, kept-words}
-use Rattle.textwrap_display.proofs.ShortenedLines.{start-boundary, start-is, word-is}
-use Rattle.textwrap_display.proofs.shortening.kept_len.Goals.{After-broken_len-broken}
-use Rattle.textwrap_display.proofs.shortening.kept_len.Goals.{After-split_indent}
+use Rattle.textwrap_display.proofs.ShortenedLines.{IsFoundWord, cut-none, kept-cut, kept-none, kept-uncut}
+use Rattle.textwrap_display.proofs.ShortenedLines.{kept-within, kept-words, start-boundary, start-is, word-is}
+use Rattle.textwrap_display.proofs.shortening.kept_len.Goals.{After-broken_len-broken, After-split_indent}
 use Rattle.textwrap_text.proofs.Common.{ap, arith, drop, length, text_width, ◌+◌, ◌∙◌, ◌≡◌}
 use Rattle.textwrap_text.proofs.Lists.Parts.{from_start}
 
@@ -20,8 +18,7 @@ kept c = c.words_len-words.ensures _ _
 
 start : (c : After-split_indent) → c.words_len-words.result + length c.split_indent.result.0.now
     ≡ c.words_len-words.result + indent_len (drop c.words_len-words.result c.args.line.now)
-start c =
-    start-is c.args.line.now c.words_len-words.result c.range_from.ensures.value
+start c = start-is c.args.line.now c.words_len-words.result c.range_from.ensures.value
     c.split_indent.ensures.indent
 
 pub range-requires-clause-end_boundary : goal.range-requires-clause-end_boundary
@@ -51,8 +48,7 @@ found : (c : After-broken_len-broken) → IsFoundWord c.args.shortening.now.widt
 found c =
     let line = c.args.line.now in
     let words = c.words_len-words.result in
-    let is : c.in-Some.room + text_width c.args.shortening.now.placeholder.now
-    ≡ c.args.shortening.now.width =
+    let is : c.in-Some.room + text_width c.args.shortening.now.placeholder.now ≡ c.args.shortening.now.width =
     omega (arith, c.in-Some.ensures, c.display_width-placeholder.ensures.width) in
     let next = start-is line words c.range_from.ensures.value c.split_indent.ensures.indent in
     let front = ap text_width (c.range.ensures.value ∙ from_start line _) in

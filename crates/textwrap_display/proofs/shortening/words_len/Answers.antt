@@ -21,14 +21,12 @@ returns-then-taken-room c = λ width placeholder is.
     let h = c.loop-at.invariant in
     found-kept is (found-past c.utf8.line h.read h.found c.if-taken-room.true)
 
-read : (c : Joined-is_visible)
-    → IsReadTo c.args.line.now (char_indices_offset c.next.new.self)
+read : (c : Joined-is_visible) → IsReadTo c.args.line.now (char_indices_offset c.next.new.self)
     (char_indices_rest c.next.new.self) c.step-next.result.0
     (c.loop-at.taken + c.if-is_visible.taken) (eqb c.in-Some.ch 32)
 read c =
     let s = c.in-Some.ensures.steps in
-    let more : added c.loop-at.state c.in-Some.ch ≡ c.if-is_visible.taken =
-    elim c.if-is_visible.branch [
+    let more : added c.loop-at.state c.in-Some.ch ≡ c.if-is_visible.taken = elim c.if-is_visible.branch [
       | goal.then-is_visible w ↦ rw (rw c.step-next.ensures at w.if-is_visible.true)
           (sym (w.taken-is ∙ w.columns.ensures))
       | goal.else-is_visible w ↦ rw (rw c.step-next.ensures at w.if-is_visible.false) (sym w.taken-is)
@@ -77,8 +75,7 @@ returns-then-not-outside c =
       | inl past ↦ found-past c.utf8.line h.read h.found past
       | inr within ↦ found-rest c.utf8.line h.read h.found ended (λ some outside. elim within [
         | inl (_, blank) ↦ absurd (false≢true (sym some ∙ blank))
-        | inr (_, _, inside) ↦
-            absurd (false≢true (sym inside ∙ c.is_outside-outside-2.ensures.1 outside))
+        | inr (_, _, inside) ↦ absurd (false≢true (sym inside ∙ c.is_outside-outside-2.ensures.1 outside))
       ])
     ])
 

@@ -1,10 +1,8 @@
 use Rattle.textwrap_display.proofs.tables.table_of_lines.Goals as goal
-use Rattle.std.specs.Slice.Iter.{chunks_rest}
-use Rattle.textwrap_display.proofs.{Common.texts_of, TableGroups.cells-rows-more}
-use Rattle.textwrap_display.proofs.TableGroups.{cells-rows-none, first-group}
+use Rattle.{std.specs.Slice.Iter.chunks_rest, textwrap_display.proofs.Common.texts_of}
+use Rattle.textwrap_display.proofs.TableGroups.{cells-rows-more, cells-rows-none, first-group}
 use Rattle.textwrap_display.specs.Tables.{cell_texts, gaps_view, shape_of}
-use Rattle.textwrap_text.proofs.Common.{append-nil, append_assoc, arith, length-map, map, rules}
-use Rattle.textwrap_text.proofs.Common.{sym, ◌∙◌}
+use Rattle.textwrap_text.proofs.Common.{append-nil, append_assoc, arith, length-map, map, rules, sym, ◌∙◌}
 
 pub loop-group-init : goal.loop-group-init
 loop-group-init g c = search (rules, arith)

@@ -5,8 +5,7 @@ use Rattle.textwrap_text.proofs.Common.{length, map, string_bytes, ◌++◌, ◌
 
 -- with the rows of the cells that are left, the rows so far are those of all
 abbrev pub invariant-loop-group : goal.invariant-loop-group
-invariant-loop-group g l =
-    (chunks_size l.group-iterator ≡ length l.columns)
+invariant-loop-group g l = (chunks_size l.group-iterator ≡ length l.columns)
     × (map string_bytes l.rows.items ++ rows_of_cells (gaps_view l.gaps) (map shape_of l.columns)
     (cell_texts (chunks_rest l.group-iterator))
     ≡ rows_of_cells (gaps_view l.gaps) (map shape_of l.columns) (cell_texts l.cells))

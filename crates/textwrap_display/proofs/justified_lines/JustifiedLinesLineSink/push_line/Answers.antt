@@ -3,8 +3,7 @@ use Rattle.textwrap_display.proofs.{Common.line_bytes, JustifiedLines.justified-
 use Rattle.textwrap_display.specs.JustifiedSinks.{HoldsJustified}
 use Rattle.textwrap_layout.proofs.Common.{assembled_line, cut_line, lines_of}
 use Rattle.textwrap_layout.proofs.Text.Sinks.{assembled-bytes, lines_of-more}
-use Rattle.textwrap_text.proofs.Common.{[], ap, map, map-append, on_ok_weaker, subst, sym, ◌++◌}
-use Rattle.textwrap_text.proofs.Common.{◌∙◌, ◌∷◌}
+use Rattle.textwrap_text.proofs.Common.{[], ap, map, map-append, on_ok_weaker, subst, sym, ◌++◌, ◌∙◌, ◌∷◌}
 
 pub returns-clause-pushed : goal.returns-clause-pushed
 returns-clause-pushed g c =

@@ -10,7 +10,7 @@ use Rattle.textwrap_display.specs.Fitting.{fitting_widths, lacking, rounded_up, 
 use Rattle.textwrap_display.specs.{Fitting.widest_word, Needs.column_texts, Needs.widest}
 use Rattle.textwrap_display.specs.Sharing.{Shares, rounded_down, sure, weight}
 use Rattle.textwrap_display.specs.declared.{fitting.Sharing.Sharing, needs.Need.Need}
-use Rattle.textwrap_text.proofs.Common.{List, [], ap, arith, cases_lt, get_or, inl, inr, length}
+use Rattle.textwrap_text.proofs.Common.{List, [], ap, arith, cases_lt, get_or, length}
 use Rattle.textwrap_text.proofs.Common.{map, max, min, refl, rules, sum_by, sum_by-cons, ℕ, ◌*◌}
 use Rattle.textwrap_text.proofs.Common.{◌++◌, ◌+◌, ◌-◌, ◌/◌, ◌<◌, ◌∙◌, ◌∷◌, ◌≡◌, ◌≤◌}
 
@@ -62,12 +62,7 @@ module _ (weight : Need → ℕ) (left weights : ℕ) (some : 0 < weights) where
 
   -- a share is what it is in full, but for less than one
   pub share-close : (need : Need) → left * weight need ≤ weights * share need + (weights - 1) * one need
-  share-close need = elim (cases_lt (weight need) 1) [
-    | inl none ↦ let is : weight need ≡ 0 = omega arith in rw is (omega arith)
-    | inr more ↦
-        let close = lt-div-mul-add {a = left * weight need} some in
-        omega (arith, close, times-one (weights - 1) (weight need) more, mul_comm weights (share need))
-  ]
+  share-close need = grind (arith, cases_lt, lt-div-mul-add {a = left * weight need} some, times-one, mul_comm)
 
   pub shares-few : (needs : List Need) → weights * sum_by share needs ≤ left * sum_by weight needs
   shares-few [] = omega arith
@@ -192,9 +187,7 @@ module _ (sure weight : Need → ℕ) (total : ℕ) (needs : List Need) where
       let all : sum_by width needs ≡ sum_by sure needs + sum_by share needs = sum_by-add sure share needs in
       rounded-all width weight IsShare (total - sum_by width needs) needs (λ need one over at. record {
         least = omega arith;
-        exact = λ few.
-            let none : left ≡ 0 = omega arith in
-            let no : share need ≡ 0 = rw none (omega (arith, zero-div weights)) in omega arith;
+        exact = λ few. grind (arith, zero-div);
         most = λ less. omega (arith, share-less left (weight need) weights one less at);
       })
 

@@ -172,13 +172,9 @@ module _ {Z : Type 0} where
       let last : waiting new ≡ line ∷ [] = rw takes.waits (ap (λ b. b ∷ []) takes.line_is) in
       let some : nat_lt 0 (length (held ++ line ∷ [])) ≡ true = search (rules, arith, lt-ltb, length_push) in
       record {
-        text = λ more. cc (
-          last,
-          given.text (line ∷ more),
-          append_assoc held (line ∷ []) more,
-          one-written
-              (layout_view old.layout) old.has_lines old.waits (string_bytes old.text) (string_bytes old.line) line more,
-        );
+        text = λ more. let written = one-written (layout_view old.layout) old.has_lines old.waits
+            (string_bytes old.text) (string_bytes old.line) line more in
+            cc (last, written, given.text (line ∷ more), append_assoc held (line ∷ []) more);
         waits = takes.waits ∙ sym some;
         some = rw takes.waits (or-true new.has_lines ∙ sym (or-true first.has_lines));
         layout_is = takes.writes.layout_is ∙ given.layout_is;
@@ -189,12 +185,8 @@ module _ {Z : Type 0} where
       (joined_on (ending_bytes then.layout.line_ending) then.has_lines (waiting then))
       → new.waits ≡ false → WritesParagraph first new lines
   paragraph-written {first = first} {then = then} {lines = lines} given writes waits = record {
-    text = cc (
-      writes.text,
-      given.text [],
-      append-nil lines,
-      last-written (layout_view then.layout) then.has_lines then.waits (string_bytes then.line),
-    );
+    text = let last = last-written (layout_view then.layout) then.has_lines then.waits
+        (string_bytes then.line) in cc (writes.text, last, given.text [], append-nil lines);
     has_lines = writes.has_lines ∙ given.some ∙ ap (λ b. first.has_lines || b) given.waits;
     waits = waits;
     layout_is = writes.layout_is ∙ given.layout_is;

@@ -12,7 +12,7 @@ use Rattle.textwrap_display.proofs.KeptWords.{read-le, read-whole, read-width, r
 use Rattle.{textwrap_display.proofs.KeptWords.whole-read, textwrap_styles.proofs.SequenceTexts.nil-whole}
 use Rattle.textwrap_text.proofs.Common.{Bool, IsCharBoundary, IsUtf8, List, [], ap, arith, cases_Bool}
 use Rattle.textwrap_text.proofs.Common.{columns, drop, drop_more, encode_utf8_all, encodes-chars}
-use Rattle.textwrap_text.proofs.Common.{eqb, eqb-true, false, false≢true, get_or, inl, inr, length}
+use Rattle.textwrap_text.proofs.Common.{eqb, eqb-true, false, false≢true, get_or, inl, length}
 use Rattle.textwrap_text.proofs.Common.{length-map, length-take-le, map, map-append, ne_eqb, next_of}
 use Rattle.textwrap_text.proofs.Common.{not, refl, rules, shows, subst, sum_by, sum_by-cons, sym}
 use Rattle.textwrap_text.proofs.Common.{take, take-append-drop, take_while, text_width, true}
@@ -42,16 +42,12 @@ module _ {room : ℕ} {line : List ℕ} (utf8 : IsUtf8 line) {place : ℕ} {rest
   boundary m may = may_end-boundary line m utf8 may.0
 
   ends-here : after_blank ≡ false → state ≡ Text → BlankAhead line place → CanEnd line place
-  ends-here some outside ahead =
-      (may_end-here line place (sym read.blank ∙ some) ahead, read-whole read outside)
+  ends-here some outside ahead = search (rules, arith, may_end-here, read-whole read, read.blank)
 
   ends-other : (BlankAhead line place → after_blank ≡ false → state ≢ Text) → CanEnd line place → place ≤ kept
   ends-other other may =
-      omega (
-        arith,
-        may_end-other line place may.0 (λ ahead.
-            grind (arith, cases_Bool, other ahead, whole-read read may.1)),
-      )
+      let start = may_end-other line place may.0 (λ ahead.
+      grind (arith, cases_Bool, other ahead, whole-read read may.1)) in omega (arith, start)
 
   -- past the room nothing has room
   pub found-past : room < taken → IsFound room line (length line + 1) kept
@@ -162,10 +158,7 @@ read_word-start left text utf8 = record {
 -- what is found at the end
 cut-whole : (left : ℕ) (text : List ℕ) (n : ℕ) → IsFoundCut left text (length text + 1) n
     → IsCut left [] text 0 0 n
-cut-whole left text n h = record {
-  cut = elim h.fits [ inl none ↦ inl none | inr (may, room) ↦ inr (may, omega (arith, room, text_width-nil)) ];
-  latest = λ m may room. h.latest m (omega (arith, may.place.0)) may (omega (arith, room));
-}
+cut-whole left text n h = search (rules, arith, text_width-nil, h.latest)
 
 -- it stands before the next of them
 record IsTurn (left : ℕ) (text : List ℕ) (c : Character) (ahead : List Character)
@@ -275,18 +268,14 @@ module _ {left : ℕ} {text : List ℕ} (utf8 : IsUtf8 text) {c : Character} {ah
   -- ---- one turn: over a character that is not visible, over one of the word, or to its end
 
   pub turn-hidden : c.is_visible ≡ false → IsReadWord left text ahead taken cut
-  turn-hidden is =
-      read_word-next taken cut (rw (sym t.shown ∙ is) (omega arith)) (rw is at h.word)
+  turn-hidden is = read_word-next taken cut (rw (sym t.shown ∙ is) (omega arith)) (rw is at h.word)
       (cut-past (λ visible wide some room. absurd (false≢true (sym is ∙ visible))))
 
   word-more : c.is_visible ≡ true → c.ch ≢ 32
       → word_width text ≡ taken + columns c.ch + word_columns (shown ahead)
   word-more is other =
-      omega (
-        arith,
-        rw (is, take_while-cons, ne_eqb c.ch 32 other) at h.word,
-        sum_by-cons columns c.ch (take_while (λ d. not (is_blank d)) (shown ahead)),
-      )
+      let rest = sum_by-cons columns c.ch (take_while (λ d. not (is_blank d)) (shown ahead)) in
+      omega (arith, rw (is, take_while-cons, ne_eqb c.ch 32 other) at h.word, rest)
 
   pub turn-word : (more new : ℕ) → c.is_visible ≡ true → c.ch ≢ 32 → more ≡ taken + columns c.ch
       → IsFoundCut left text end_of new → IsReadWord left text ahead more new
@@ -299,9 +288,8 @@ module _ {left : ℕ} {text : List ℕ} (utf8 : IsUtf8 text) {c : Character} {ah
 
   pub turn-full : (new : ℕ) → c.is_visible ≡ true → left < taken + columns c.ch
       → IsFoundCut left text end_of new → IsCut left [] text 0 0 new
-  turn-full new is over found =
-      cut-whole left text new (latest-past utf8 past found (length text + 1) (λ m may. may.place)
-      (omega (arith, over, adds is)))
+  turn-full new is over found = cut-whole left text new
+      (latest-past utf8 past found (length text + 1) (λ m may. may.place) (omega (arith, over, adds is)))
 
   pub turn-end : c.is_visible ≡ true → c.ch ≡ 32 → word_width text ≡ taken
   turn-end is blank = omega (arith, rw (is, take_while-cons, ap (λ x. eqb x 32) blank) at h.word)

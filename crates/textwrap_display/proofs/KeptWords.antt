@@ -148,8 +148,7 @@ pub word_texts-take : (line : List ℕ) (n : ℕ) → can_end line n ≡ true
 word_texts-take line n may = elim (may_end-cases line n may) [
   | inl none ↦ rw none refl
   | inr (plain, past) ↦
-      let first = get_or-drop n line 0 0 ∙ ap (λ k. get_or line k 0) (add-zero n) in
-      let follows : BlankFollows (drop n line) = search (rules, arith, past, drop_all, first) in
+      let follows : BlankFollows (drop n line) = search (rules, arith, drop_all, get_or-drop n line 0 0, add-zero) in
       rw take-append-drop at (word_texts-front (take n line) (drop n line) follows)
 ]
 
@@ -175,8 +174,7 @@ module _ {line : List ℕ} (utf8 : IsUtf8 line) {place : ℕ} {rest : List ℕ} 
       let next = read-next h.read c after is end past in
       let whole = h.read.place ∙ is in
       let front = take place line in
-      let bytes : take end line ≡ front ++ encode_utf8 c =
-      rw (past, take-add, whole) (ap (λ l. front ++ l) (take_at (encode_utf8 c) after _ refl)) in
+      let bytes : take end line ≡ front ++ encode_utf8 c = grind (arith, take-add, whole, take_at) in
       let more = ap chars bytes ∙ chars-push front c (IsUtf8-take line place utf8 h.read.boundary)
       (subst IsUtf8 bytes (IsUtf8-take line end utf8 next.boundary)) in
       record {
@@ -227,16 +225,12 @@ module _ {May : ℕ → Type 0} {room : ℕ} {line : List ℕ} (utf8 : IsUtf8 li
   -- where no place between may be one
   module _ (within : (m : ℕ) → m < end → May m → m ≤ place) where
     pub latest-here : taken ≤ room → May place → IsLatest May room line end place
-    latest-here has may = record {
-      fits = inr (may, omega (arith, has, read-width utf8 read));
-      latest = λ m before own room. within m before own;
-    }
+    latest-here has may = search (rules, arith, within, read-width utf8 read)
 
     pub latest-on : (taken ≤ room → May place → place ≤ kept) → IsLatest May room line end kept
     latest-on none = latest-until (λ m later before may has.
         let here : m ≡ place = omega (arith, later, within m before may) in
-        let wide = ap (λ n. text_width (take n line)) here in
-        omega (arith, here, none (omega (arith, has, wide, read-width utf8 read)) (subst May here may)))
+        grind (arith, here, none, read-width utf8 read))
 
 -- ---- units of which the last has no end
 
@@ -281,14 +275,7 @@ longer-unit body c opens =
     λ k within. ap ends (take-append-le k body (c ∷ []) within) ∙ opens k within in
     elim (cases_Bool (ends more)) [
       | inl ended ↦ inl (more, refl, ended, λ k below. earlier k (omega (arith, below, len)))
-      | inr on ↦ inr (
-        more,
-        refl,
-        λ k within. elim (cases_lt (length body) k) [
-          | inl past ↦ ap ends (take_all k more (omega (arith, past, len))) ∙ on
-          | inr up ↦ earlier k up
-        ],
-      )
+      | inr on ↦ inr (more, refl, λ k within. search (rules, arith, cases_lt (length body) k, earlier, take_all, len))
     ]
 
 open-takes : (cs : List ℕ) (c : ℕ) → EndsOpen (units cs) → visible (cs ++ c ∷ []) ≡ visible cs

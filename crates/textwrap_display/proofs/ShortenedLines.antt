@@ -21,7 +21,7 @@ use Rattle.textwrap_text.proofs.Common.{List, [], and_parts, ap, append-nil, ari
 use Rattle.textwrap_text.proofs.Common.{drop-drop, flat_map-append, inl, inr, length, length-drop}
 use Rattle.textwrap_text.proofs.Common.{length-prefix_len, ltb-false, ltb-true, refl, rules, subst, sym}
 use Rattle.textwrap_text.proofs.Common.{take, take-add, take-append-drop, take_at, text_width, true}
-use Rattle.textwrap_text.proofs.Common.{units_width, ℕ, ◌&&◌, ◌++◌, ◌+◌, ◌-◌, ◌<◌, ◌∙◌, ◌≡◌, ◌≢◌, ◌≤◌, ◌⊎◌}
+use Rattle.textwrap_text.proofs.Common.{ℕ, ◌&&◌, ◌++◌, ◌+◌, ◌-◌, ◌<◌, ◌∙◌, ◌≡◌, ◌≢◌, ◌≤◌, ◌⊎◌}
 use Rattle.textwrap_text.proofs.Lists.Parts.{all-right}
 
 -- ---- a word in a line, as a text by itself
@@ -42,8 +42,7 @@ module _ {width : ℕ} {placeholder line : List ℕ} (utf8 : IsUtf8 line) {words
   words-whole = (IsUtf8-take line words utf8 (may_end-boundary line words utf8 kept.ends.0), kept.ends.1)
 
   gap-whole : IsWholeText gap
-  gap-whole =
-      let blanks = indent-blanks (drop words line) in (blanks-utf8 gap blanks, blanks-whole gap blanks)
+  gap-whole = search (rules, arith, blanks-utf8, blanks-whole, indent-blanks)
 
   front-whole : IsWholeText front
   front-whole = rw (next, take-add) (whole_text-append (take words line) gap words-whole gap-whole)
@@ -78,14 +77,11 @@ module _ {width : ℕ} {placeholder line : List ℕ} (utf8 : IsUtf8 line) {words
       search (rules, arith, longer-width, IsCharBoundary-from_rest, start-within, rest-of, longer-whole)
 
   to-word : (k : ℕ) → CanCut line start (start + k) → CanCut word 0 k
-  to-word k may = record {
-    after = omega arith;
-    behind = omega (arith, may.behind, longer-width k, text_width-nil);
-    place = IsCharBoundary-from_drop word k (omega (arith, may.place.0, length-drop start line, start-within))
-        (subst IsUtf8 (rest-of k) (IsUtf8-drop line (start + k) utf8 may.place));
-    before = omega (arith, may.before, ap (λ l. units_width (take 1 (units (chars l)))) (rest-of k));
-    whole = longer-own k may.whole;
-  }
+  to-word k may =
+      let own : IsUtf8 (drop k word) = rw (rest-of k) at (IsUtf8-drop line (start + k) utf8 may.place) in
+      let before = rw (rest-of k) at may.before in
+      let fits = length-drop start line in
+      search (rules, arith, longer-width k, text_width-nil, IsCharBoundary-from_drop, start-within, longer-own)
 
   -- no place has room if the blanks before the word have none
   pub cut-none : width < text_width front + text_width placeholder
@@ -165,17 +161,13 @@ module _ {width : ℕ} {placeholder line : List ℕ} (utf8 : IsUtf8 line) {words
     start = start;
     kept = h.kept;
     next = h.next;
-    whole = λ stays.
-        let few = ltb-false (width - text_width placeholder) (word_width (drop start line))
-        (rw breaking at stays) in
-        absurd (some (h.whole (omega (arith, h.is, ap word_width h.text_is, few))));
+    whole = λ stays. search (rules, arith, ltb-false, h.whole, h.text_is, h.is);
     cut = λ passes. cut-some utf8 h.kept h.next sum (found (wide breaks passes)) some;
   }
 
   pub kept-within : k ≢ 0 → start + k ≤ length line
   kept-within some =
-      let inside : room < word_width text → k ≤ length (drop start line) =
-      λ over. cut-within utf8 h.kept h.next sum (found over) in
+      let inside = λ (over : room < word_width text). cut-within utf8 h.kept h.next sum (found over) in
       let start = start-within utf8 h.kept h.next in
       search (rules, arith, cases_lt room (word_width text), inside, length-drop, start, h.whole)
 
@@ -188,23 +180,14 @@ kept-none {line = line} over = kept-words
 
 module _ {breaks : Bool} {width : ℕ} {placeholder line : List ℕ} {n : ℕ}
     (h : IsKeptLength breaks width placeholder line n) where
-  -- what holds where words end, and where one may be cut
-  kept-by : (P : ℕ → Type 0) → P h.words
-      → (CanCut line h.start n → LeavesRoom width placeholder line n → P n) → P n
-  kept-by P words cut = search (rules, arith)
-
   pub kept-boundary : IsUtf8 line → IsCharBoundary line n
-  kept-boundary utf8 = kept-by (IsCharBoundary line) (may_end-boundary line h.words utf8 h.kept.ends.0)
-      (λ may room. may.place)
+  kept-boundary utf8 = search (rules, arith, may_end-boundary)
 
   pub kept-whole : IsUtf8 line → IsWholeText (take n line)
-  kept-whole utf8 = (
-    IsUtf8-take line n utf8 (kept-boundary utf8),
-    kept-by (λ k. HasWholeSequences (take k line)) h.kept.ends.1 (λ may room. may.whole),
-  )
+  kept-whole utf8 = (IsUtf8-take line n utf8 (kept-boundary utf8), search (rules, arith))
 
   pub kept-room : (n ≡ 0) ⊎ LeavesRoom width placeholder line n
-  kept-room = kept-by (λ k. (k ≡ 0) ⊎ LeavesRoom width placeholder line k) h.kept.room (λ may room. inr room)
+  kept-room = search (rules, arith)
 
 -- ---- a text of whole sequences, and what closes it
 
@@ -218,21 +201,17 @@ module _ (kept : List ℕ) (whole : IsWholeText kept) where
   are-ends : All IsSequence ends
   are-ends = closing-sequences (sequences kept)
 
-  closed-is : closed ≡ kept ++ concat ends
-  closed-is = ap (λ l. kept ++ l) (closing-is (sequences kept))
-
   closed-units : units (chars closed) ≡ units (chars kept) ++ sequence_units ends
-  closed-units = cc (closed-is, text_units-append kept (concat ends) whole, concat-units ends are-ends)
+  closed-units =
+      cc (closing-is (sequences kept), text_units-append kept (concat ends) whole, concat-units ends are-ends)
 
   closed-whole : IsWholeText closed
-  closed-whole = subst IsWholeText (sym closed-is) (whole_text-append kept (concat ends) whole
+  closed-whole = rw (closing-is (sequences kept)) (whole_text-append kept (concat ends) whole
       (concat-whole ends are-ends))
 
   pub closed-plain : EndsPlain closed
   closed-plain =
-      let all : sequences closed ≡ sequences kept ++ ends =
-      grind (arith, closed-units, flat_map-append, units-again ends are-ends) in
-      ap rendition_of all ∙ ended (sequences kept)
+      grind (arith, closed-units, flat_map-append, units-again ends are-ends, ended (sequences kept))
 
   closed-width : text_width closed ≡ text_width kept
   closed-width = grind (arith, closed-units, flat_map-append, none-visible, append-nil)
@@ -268,15 +247,12 @@ module _ (breaks : Bool) (width : ℕ) (placeholder line : List ℕ) (short : Li
   shortened-pens =
       let parts : penned_text plain_rendition line ≡ penned_text plain_rendition kept
       ++ penned_units (rendition_of (sequences kept)) (units (chars (drop is.len line))) =
-      grind (arith, take-append-drop, text_units-append kept (drop is.len line) whole, penned-append) in (
-        grind (arith, parts, take_at),
-        ap (λ l. penned_text plain_rendition (line_bytes l)) is.is ∙ followed-pens kept whole placeholder,
-      )
+      grind (arith, take-append-drop, text_units-append kept (drop is.len line) whole, penned-append) in
+      (grind (arith, parts, take_at), rw is.is (followed-pens kept whole placeholder))
 
   pub shortened-width : text_width placeholder ≤ width → text_width (line_bytes short) ≤ width
   shortened-width room =
-      let sum = ap (λ l. text_width (line_bytes l)) is.is ∙ followed-width kept whole placeholder in
-      grind (arith, sum, kept-room is.kept, text_width-nil)
+      rw is.is (grind (arith, followed-width kept whole placeholder, kept-room is.kept, text_width-nil))
 
 -- ---- only one number of bytes may be kept
 

@@ -30,9 +30,8 @@ last_line-append : (text more : List ℕ) → last_line (text ++ more)
     ≡ cond (list_any is_feed more) (last_line more) (last_line text ++ more)
 last_line-append text [] = ap last_line (append-nil text) ∙ sym (append-nil (last_line text))
 last_line-append text (c ∷ cs) =
-    let own = last_line-append (c ∷ []) cs in
     ap last_line (sym (append_assoc text (c ∷ []) cs)) ∙ last_line-append (text ++ c ∷ []) cs
-    ∙ rw (after_last-push is_feed text c, own, after_last-push is_feed [] c)
+    ∙ rw (after_last-push is_feed text c, last_line-append (c ∷ []) cs, after_last-push is_feed [] c)
     (by (is_feed c) (list_any is_feed cs))
   where
     by : (feed later : Bool) → cond later (last_line cs) (cond feed [] (last_line text ++ c ∷ []) ++ cs)
@@ -198,10 +197,8 @@ IsMultiple stop n = (k : ℕ) × (n ≡ k * stop)
 
 filled-columns : (stop columns more : ℕ) → stop ≢ 0 → IsMultiple stop more
     → IsMultiple stop (columns + (tab_blanks stop columns + more))
-filled-columns stop columns more some (k, is) = (
-  suc (columns / stop + k),
-  search (rules, arith, ne_eqb, mod_below, div-add-mod', suc-mul, add-mul),
-)
+filled-columns stop columns more some (k, is) =
+    (suc (columns / stop + k), search (rules, arith, ne_eqb, mod_below, div-add-mod', suc-mul, add-mul))
 
 -- no escape sequence of the line goes on over the end of the part
 abbrev EndsWhole : List ℕ → Type 0

@@ -304,8 +304,7 @@ rows-even gaps columns cells left middle keep =
     even r =
         let padded = cells ++ replicate (length columns) [] in
         let ps = zip columns padded in
-        let count : length ps ≡ length columns =
-        sym (length-map ps (λ p. shown_cell p.0 p.1 r)) ∙ length-shown columns cells r in
+        let count = length-zipped columns cells in
         let split = text_width-append gaps.left (joined gaps.middle middle r ps ++ gaps.right) left.0 left.1 in
         let keeps = padded-keep columns cells (length columns) keep in
         let joins = joined-before gaps.middle middle r ps keeps gaps.right in

@@ -84,20 +84,16 @@ pub rows-apart : (gaps : RowGaps) (texts : List (List ℕ)) → StandsAlone gaps
 rows-apart gaps texts left middle all = search (rules, arith, append_assoc, apart, joined-apart)
 
 pub alone-append : (xs ys : List ℕ) → StandsAlone xs → StandsAlone ys → StandsAlone (xs ++ ys)
-alone-append xs ys (first, first_plain) (second, second_plain) = (
-  whole_text-append xs ys first second,
-  grind (arith, text_units-append xs ys first, flat_map-append, fold-append, first_plain, second_plain),
-)
+alone-append xs ys (first, first_plain) (second, second_plain) =
+    (whole_text-append xs ys first second, grind (arith, text_units-append, flat_map-append, fold-append))
 
 blank-units : units (chars (blank ∷ [])) ≡ Visible blank ∷ []
 unfolding chars encode
 blank-units = refl
 
 blank-alone : StandsAlone (blank ∷ [])
-blank-alone = (
-  (blanks-utf8 (blank ∷ []) (blanks-are 1), blanks-whole (blank ∷ []) (blanks-are 1)),
-  ap (λ us. rendition_of (flat_map sequence_of us)) blank-units,
-)
+blank-alone =
+    ((blanks-utf8 (blank ∷ []) (blanks-are 1), blanks-whole (blank ∷ []) (blanks-are 1)), rw blank-units refl)
 
 pub nil-alone : StandsAlone []
 nil-alone = (nil-whole, ap (λ cs. rendition_of (flat_map sequence_of (units cs))) chars-nil)
@@ -145,14 +141,8 @@ widened-width each extra [] sound = omega arith
 widened-width each extra (w ∷ []) sound = omega arith
 widened-width each extra (w ∷ v ∷ ws) sound =
     let here = All-head IsSound w (v ∷ ws) sound in
-    let many : length (w ∷ v ∷ ws) - 1 ≡ suc (length ws) = omega arith in
-    let fewer : length (v ∷ ws) - 1 ≡ length ws = omega arith in
     let others = widened-width each (extra - 1) (v ∷ ws) (All-tail IsSound w (v ∷ ws) sound) in
-    let rest = tiled (widened_words each (extra - 1) (v ∷ ws)) in
-    let new = word-before w (blanks (each + min extra 1) ++ rest) here in
-    let gap = more-blanks (each + min extra 1) rest in
-    rw (widened-first each extra w v ws, many)
-    (omega (arith, new, gap, word-before w (tiled (v ∷ ws)) here, rw fewer at others, suc-mul (length ws) each))
+    search (rules, arith, widened-first, word-before, here, others, more-blanks, suc-mul)
 
 -- ---- what words with wider gaps show
 
@@ -180,13 +170,9 @@ widened-shown each extra [] now sound = refl
 widened-shown each extra (w ∷ []) now sound = refl
 widened-shown each extra (w ∷ v ∷ ws) now sound =
     let here = All-head IsSound w (v ∷ ws) sound in
-    let more = blanks (each + min extra 1) in
-    let rest = tiled (widened_words each (extra - 1) (v ∷ ws)) in
     let later = fold with_sequence now (sequences w.word) in
-    let others = hidden later more rest (blanks-are (each + min extra 1))
-    ∙ widened-shown each (extra - 1) (v ∷ ws) later (All-tail IsSound w (v ∷ ws) sound) in
-    rw (widened-first each extra w v ws, word-shown now w (more ++ rest) here, others)
-    (sym (word-shown now w (tiled (v ∷ ws)) here))
+    let others = widened-shown each (extra - 1) (v ∷ ws) later (All-tail IsSound w (v ∷ ws) sound) in
+    search (rules, arith, widened-first, word-shown, here, hidden, blanks-are, others)
 
 -- ---- a line that is justified
 

@@ -25,9 +25,8 @@ loop-character-preserved c = record {
 
 pub returns-then-character-eq32-clause-cut : goal.returns-then-character-eq32-clause-cut
 returns-then-character-eq32-clause-cut c = λ wide.
-    let all = turn-end c.utf8.text
-    (before (goal.at.returns-then-character-eq32-clause-cut c).In-Some) c.if-character.true
-    c.if-character-eq32.true in
+    let all = turn-end c.utf8.text (before (goal.at.returns-then-character-eq32-clause-cut c).In-Some)
+    c.if-character.true c.if-character-eq32.true in
     absurd (omega (arith, wide, all, c.loop-character.invariant.room))
 
 pub overflow_add-taken : goal.overflow_add-taken
@@ -57,15 +56,13 @@ found c =
 
 pub returns-then-taken-room-clause-whole : goal.returns-then-taken-room-clause-whole
 returns-then-taken-room-clause-whole c = λ fits.
-    let wide = turn-wide c.utf8.text
-    (before (goal.at.returns-then-taken-room-clause-whole c).In-Some) c.if-character.true
-    c.if-character-eq32.false in
+    let wide = turn-wide c.utf8.text (before (goal.at.returns-then-taken-room-clause-whole c).In-Some)
+    c.if-character.true c.if-character-eq32.false in
     absurd (omega (arith, fits, wide, c.if-taken-room.true, c.columns-width.ensures))
 
 pub returns-then-taken-room-clause-cut : goal.returns-then-taken-room-clause-cut
-returns-then-taken-room-clause-cut c = λ wide.
-    turn-full c.utf8.text (before (goal.at.returns-then-taken-room-clause-cut c).In-Some)
-    c.if-taken-gt0.cut c.if-character.true
+returns-then-taken-room-clause-cut c = λ wide. turn-full c.utf8.text
+    (before (goal.at.returns-then-taken-room-clause-cut c).In-Some) c.if-taken-gt0.cut c.if-character.true
     (omega (arith, c.requires, c.if-taken-room.true, c.columns-width.ensures))
     (found (goal.at.returns-then-taken-room-clause-cut c).Joined-taken-gt0)
 

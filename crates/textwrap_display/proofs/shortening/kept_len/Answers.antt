@@ -68,9 +68,8 @@ overflow_add-result c =
     omega (arith, kept-within c.utf8.line h c.if-broken-eq0.false)
 
 pub returns-then-broken-eq0 : goal.returns-then-broken-eq0
-returns-then-broken-eq0 c =
-    kept-uncut c.utf8.line (found (goal.at.returns-then-broken-eq0 c).After-broken_len-broken)
-    c.if-broken-eq0.true
+returns-then-broken-eq0 c = kept-uncut c.utf8.line
+    (found (goal.at.returns-then-broken-eq0 c).After-broken_len-broken) c.if-broken-eq0.true
 
 pub returns-else-broken-eq0 : goal.returns-else-broken-eq0
 returns-else-broken-eq0 c =

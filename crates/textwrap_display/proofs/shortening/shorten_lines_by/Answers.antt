@@ -21,7 +21,6 @@ returns-clause-cut g c = λ some fewer. elim c.if-lines-most.branch [
       subst (AreShortened breaks c.args.most width placeholder (texts_of lines)) (sym are)
       (cut-lines breaks c.args.most width placeholder lines w.in-Some.whole
       w.index-lines-whole.result last number (omega (arith, number)) w.index-lines-whole.is
-      (subst (λ l. IsShortened breaks width placeholder l last) w.deref.ensures.value
-      w.in_ok-last.ensures))
+      (subst (λ l. IsShortened breaks width placeholder l last) w.deref.ensures.value w.in_ok-last.ensures))
   | goal.else-lines-most+in_default w ↦ absurd (omega arith)
 ]

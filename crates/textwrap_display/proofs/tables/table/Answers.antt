@@ -13,8 +13,7 @@ first_group : (g : _) (c : In-Some g) → IsFirstGroup (length c.args.columns.no
     (texts_in (chunks_rest c.loop-texts.texts-iterator)) (texts_in c.in-Some.texts.now)
     (texts_in (chunks_rest c.next.new.self))
 first_group g c = first-group (λ text. text.now) (chunks_rest c.loop-texts.texts-iterator) c.in-Some.texts.now
-    (chunks_rest c.next.new.self) c.loop-texts.iterator.0 c.loop-texts.invariant.0
-    c.in-Some.ensures.steps.1
+    (chunks_rest c.next.new.self) c.loop-texts.iterator.0 c.loop-texts.invariant.0 c.in-Some.ensures.steps.1
 
 pub loop-texts-preserved : goal.loop-texts-preserved
 loop-texts-preserved g c =

@@ -1,18 +1,17 @@
 -- What columns need: the widest of some texts, part by part; and widths that fit: shares in
 -- proportion, what rounding leaves over, and that they add up.
-use Rattle.std.proofs.{Common.sum, Math.Nat.div-lt_iff_lt-mul, Math.Nat.le_of_mul-le-mul_left}
-use Rattle.std.proofs.Math.Nat.{lt-div-mul-add, mul-add, mul-div-le, mul-le-mul_right}
-use Rattle.std.proofs.Math.Nat.{mul-lt-mul_of_pos_left, mul_comm, zero-div}
-use Rattle.std.{proofs.lemmas.List.Sums.fold-append, specs.List.flat_map, specs.List.fold}
-use Rattle.textwrap_display.proofs.{Common.AllZip, Common.text_width, TableGroups.AllZip-weaker}
-use Rattle.textwrap_display.proofs.TableGroups.{IsFirstGroup, groups-more}
+use Rattle.std.proofs.{Common.sum, Math.Nat.div-lt_iff_lt-mul}
+use Rattle.std.proofs.Math.Nat.{le_of_mul-le-mul_left, lt-div-mul-add, mul-add, mul-div-le}
+use Rattle.std.proofs.Math.Nat.{mul-le-mul_right, mul-lt-mul_of_pos_left, mul_comm, zero-div}
+use Rattle.std.{proofs.lemmas.List.Sums.fold-append, proofs.lemmas.List.Sums.sum_by-le, specs.List.fold}
+use Rattle.textwrap_display.proofs.Common.{AllZip, column_texts, flat_map, sure, text_width, widest}
+use Rattle.textwrap_display.proofs.TableGroups.{AllZip-weaker, IsFirstGroup, groups-more}
 use Rattle.textwrap_display.specs.Fitting.{fitting_widths, lacking, rounded_up, shared, widest_line}
-use Rattle.textwrap_display.specs.{Fitting.widest_word, Needs.column_texts, Needs.widest}
-use Rattle.textwrap_display.specs.Sharing.{Shares, rounded_down, sure, weight}
+use Rattle.textwrap_display.specs.{Fitting.widest_word, Sharing.Shares, Sharing.rounded_down, Sharing.weight}
 use Rattle.textwrap_display.specs.declared.{fitting.Sharing.Sharing, needs.Need.Need}
-use Rattle.textwrap_text.proofs.Common.{List, [], ap, arith, cases_lt, get_or, length}
-use Rattle.textwrap_text.proofs.Common.{map, max, min, refl, rules, sum_by, sum_by-cons, ℕ, ◌*◌}
-use Rattle.textwrap_text.proofs.Common.{◌++◌, ◌+◌, ◌-◌, ◌/◌, ◌<◌, ◌∙◌, ◌∷◌, ◌≡◌, ◌≤◌}
+use Rattle.textwrap_text.proofs.Common.{List, [], ap, arith, cases_lt, get_or, length, map}
+use Rattle.textwrap_text.proofs.Common.{max, min, refl, rules, sum_by, sum_by-cons, ℕ}
+use Rattle.textwrap_text.proofs.Common.{◌*◌, ◌++◌, ◌+◌, ◌-◌, ◌/◌, ◌<◌, ◌∙◌, ◌∷◌, ◌≡◌, ◌≤◌}
 
 -- what is wider already stays
 widest-from : {X : Type 0} (f : X → ℕ) (most : ℕ) (xs : List X)
@@ -62,7 +61,7 @@ module _ (weight : Need → ℕ) (left weights : ℕ) (some : 0 < weights) where
 
   -- a share is what it is in full, but for less than one
   pub share-close : (need : Need) → left * weight need ≤ weights * share need + (weights - 1) * one need
-  share-close need = grind (arith, cases_lt, lt-div-mul-add {a = left * weight need} some, times-one, mul_comm)
+  share-close need = grind (arith, lt-div-mul-add {a = left * weight need} some, times-one, mul_comm)
 
   pub shares-few : (needs : List Need) → weights * sum_by share needs ≤ left * sum_by weight needs
   shares-few [] = omega arith
@@ -130,8 +129,7 @@ module _ (total : ℕ) (needs : List Need) (P : List ℕ → Type 0) where
 
 -- what the columns have in all is what they have one by one
 pub sum_by-none : (needs : List Need) → sum_by (λ need. 0) needs ≡ 0
-sum_by-none [] = refl
-sum_by-none (need ∷ needs) = rw sum_by-cons (omega (arith, sum_by-none needs))
+sum_by-none needs = omega (arith, sum_by-le (λ (need : Need). 0) 0 needs (λ k d within. omega arith))
 
 pub sum_by-one : (needs : List Need) → sum_by (λ need. 1) needs ≡ length needs
 sum_by-one [] = refl

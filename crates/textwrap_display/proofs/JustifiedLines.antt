@@ -1,8 +1,8 @@
 -- A text that is filled with its lines justified, one paragraph after another, and what justifies
 -- lines as they are found.
-use Rattle.std.proofs.Math.Bool.{or-true}
+use Rattle.{std.proofs.Math.Bool.or-true, textwrap_display.proofs.Common.HoldsJustified}
 use Rattle.textwrap_display.proofs.Common.{IsJustifiedText, WordText, justified, layout_view, line_bytes}
-use Rattle.textwrap_display.specs.JustifiedSinks.{HoldsJustified, TakesLine, Writes, WritesParagraph, waiting}
+use Rattle.textwrap_display.specs.JustifiedSinks.{TakesLine, Writes, WritesParagraph, waiting}
 use Rattle.textwrap_display.specs.JustifiedText.{added_lines, all_but_last, joined_on, justified_after}
 use Rattle.textwrap_display.specs.JustifiedText.{justified_after_indents, justified_line, justified_lines}
 use Rattle.textwrap_display.specs.declared.justified_lines.JustifiedLines.{JustifiedLines}
@@ -12,8 +12,8 @@ use Rattle.textwrap_layout.proofs.{Common.settings_view, Paragraph.Pieces.divide
 use Rattle.textwrap_layout.specs.declared.options.Options.{Options}
 use Rattle.textwrap_text.proofs.Common.{Bool, List, [], ap, append-nil, append_assoc, arith, cases_Bool}
 use Rattle.textwrap_text.proofs.Common.{cond, drop_all, drop_at, ending_bytes, false, flat_map, join_with}
-use Rattle.textwrap_text.proofs.Common.{length, length_push, lt-ltb, map, nat_lt, paragraphs_of, refl}
-use Rattle.textwrap_text.proofs.Common.{rules, string_bytes, subst, suc, sym, take_all, take_at}
+use Rattle.textwrap_text.proofs.Common.{length, length_push, lt-ltb, map, nat_lt, paragraphs_of}
+use Rattle.textwrap_text.proofs.Common.{refl, rules, string_bytes, subst, suc, sym, take_all, take_at}
 use Rattle.textwrap_text.proofs.Common.{text_width, true, ℕ, ◌++◌, ◌+◌, ◌-◌, ◌||◌, ◌∙◌, ◌∷◌, ◌≡◌}
 use Rattle.textwrap_text.proofs.{Lists.Parts.starts_with-true, Numbers.or_false, Numbers.some_later}
 use Rattle.textwrap_words.proofs.Common.{Algorithm, Splitter}

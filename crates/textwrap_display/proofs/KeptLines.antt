@@ -1,22 +1,21 @@
 -- The longest beginning of a line that may be kept, words that are cut between their characters, and
 -- the first lines as they are.
-use Rattle.std.{proofs.lemmas.List.Sums.take_while-cons, specs.Prelude.chars}
+use Rattle.std.proofs.lemmas.List.Sums.{take_while-cons}
 use Rattle.textwrap_display.proofs.Common.{AreShortened, CanCut, CanEnd, CowStr, IsCut, IsKeptBeginning}
-use Rattle.textwrap_display.proofs.Common.{IsShortened, Line, Slice, State, Text, added, cow_str_bytes}
-use Rattle.textwrap_display.proofs.Common.{encode_utf8, is_blank, line_bytes, line_bytes-line_view}
-use Rattle.textwrap_display.proofs.Common.{line_view, read-all, text_width-nil, texts_of, units, word_width}
+use Rattle.textwrap_display.proofs.Common.{IsShortened, Line, Slice, State, Text, added, chars, cow_str_bytes}
+use Rattle.textwrap_display.proofs.Common.{encode_utf8, is_blank, line_bytes, line_bytes-line_view, line_view}
+use Rattle.textwrap_display.proofs.Common.{nil-whole, read-all, text_width-nil, texts_of, units, word_width}
 use Rattle.textwrap_display.proofs.KeptWords.{BlankAhead, IsLatest, IsReadTo, ahead-blank, before-character}
 use Rattle.textwrap_display.proofs.KeptWords.{blank-ahead, latest-here, latest-none, latest-on, latest-past}
 use Rattle.textwrap_display.proofs.KeptWords.{may_end-boundary, may_end-here, may_end-other, may_end-within}
 use Rattle.textwrap_display.proofs.KeptWords.{read-le, read-whole, read-width, read_to-start, read_to-step}
-use Rattle.{textwrap_display.proofs.KeptWords.whole-read, textwrap_styles.proofs.SequenceTexts.nil-whole}
-use Rattle.textwrap_text.proofs.Common.{Bool, IsCharBoundary, IsUtf8, List, [], ap, arith, cases_Bool}
-use Rattle.textwrap_text.proofs.Common.{columns, drop, drop_more, encode_utf8_all, encodes-chars}
-use Rattle.textwrap_text.proofs.Common.{eqb, eqb-true, false, false≢true, get_or, inl, length}
-use Rattle.textwrap_text.proofs.Common.{length-map, length-take-le, map, map-append, ne_eqb, next_of}
-use Rattle.textwrap_text.proofs.Common.{not, refl, rules, shows, subst, sum_by, sum_by-cons, sym}
-use Rattle.textwrap_text.proofs.Common.{take, take-append-drop, take_while, text_width, true}
-use Rattle.textwrap_text.proofs.Common.{units_width, ℕ, ◌++◌, ◌+◌, ◌<◌, ◌∙◌, ◌∷◌, ◌≡◌, ◌≢◌, ◌≤◌}
+use Rattle.{textwrap_display.proofs.KeptWords.whole-read, textwrap_text.proofs.Common.Bool}
+use Rattle.textwrap_text.proofs.Common.{IsCharBoundary, IsUtf8, List, [], ap, arith, cases_Bool, columns}
+use Rattle.textwrap_text.proofs.Common.{drop, drop_more, encode_utf8_all, encodes-chars, eqb, eqb-true, false}
+use Rattle.textwrap_text.proofs.Common.{false≢true, get_or, inl, length, length-map, length-take-le, map}
+use Rattle.textwrap_text.proofs.Common.{map-append, ne_eqb, next_of, not, refl, rules, shows, subst, sum_by}
+use Rattle.textwrap_text.proofs.Common.{sum_by-cons, sym, take, take-append-drop, take_while, text_width}
+use Rattle.textwrap_text.proofs.Common.{true, units_width, ℕ, ◌++◌, ◌+◌, ◌<◌, ◌∙◌, ◌∷◌, ◌≡◌, ◌≢◌, ◌≤◌}
 use Rattle.textwrap_text.proofs.Units.{Characters.shown-from, Reading.read-ahead}
 use Rattle.textwrap_text.specs.Characters.{characters_from, characters_of, shown}
 use Rattle.textwrap_text.specs.declared.characters.Character.{Character}
@@ -182,8 +181,7 @@ turn left text c ahead taken cut h = by (chars h.rest) refl h.are
     by [] none is = absurd (omega (arith, ap length is))
     by (d ∷ ds) some is =
         let after = encode_utf8_all ds in
-        let e : h.rest ≡ encode_utf8 d ++ after =
-        sym (encodes-chars h.rest h.read.read.utf8) ∙ ap encode_utf8_all some in
+        let e : h.rest ≡ encode_utf8 d ++ after = cc (encodes-chars h.rest h.read.read.utf8, some) in
         let more : ds ≡ chars after = ap (drop 1) (sym some ∙ read-ahead h.read.read d after e) in
         rw (ap (λ l. get_or l 0 c) is, ap (drop 1) is) (record {
           state = h.state;

@@ -1,8 +1,8 @@
 -- The beginning of a line that is kept: its words, where it may end, and the reader that finds it,
 -- which is outside of sequences where the beginning ends in none.
-use Rattle.std.{proofs.Math.Seq.take-add, proofs.lemmas.Str.IsCharBoundary-end, specs.Prelude.chars}
-use Rattle.textwrap_display.proofs.Common.{AreBlanks, IsCharBoundary-start, IsRead, IsWhole}
-use Rattle.textwrap_display.proofs.Common.{State, Text, added, can_end, chunks, chunks-from}
+use Rattle.std.proofs.{Math.Seq.take-add, lemmas.Str.IsCharBoundary-end}
+use Rattle.textwrap_display.proofs.Common.{AreBlanks, IsCharBoundary-start, IsRead, IsWhole, State}
+use Rattle.textwrap_display.proofs.Common.{Text, added, can_end, chars, chunks, chunks-from}
 use Rattle.textwrap_display.proofs.Common.{encode_ascii, encode_utf8, ends, is_blank, is_cut, map-map}
 use Rattle.textwrap_display.proofs.Common.{read-next, read-start, units, units-append, word_texts}
 use Rattle.textwrap_layout.specs.Text.{HasWholeSequences}
@@ -148,7 +148,7 @@ pub word_texts-take : (line : List ℕ) (n : ℕ) → can_end line n ≡ true
 word_texts-take line n may = elim (may_end-cases line n may) [
   | inl none ↦ rw none refl
   | inr (plain, past) ↦
-      let follows : BlankFollows (drop n line) = search (rules, arith, drop_all, get_or-drop n line 0 0, add-zero) in
+      let follows : BlankFollows (drop n line) = search (rules, arith, drop_all, get_or-drop, add-zero) in
       rw take-append-drop at (word_texts-front (take n line) (drop n line) follows)
 ]
 
@@ -275,7 +275,7 @@ longer-unit body c opens =
     λ k within. ap ends (take-append-le k body (c ∷ []) within) ∙ opens k within in
     elim (cases_Bool (ends more)) [
       | inl ended ↦ inl (more, refl, ended, λ k below. earlier k (omega (arith, below, len)))
-      | inr on ↦ inr (more, refl, λ k within. search (rules, arith, cases_lt (length body) k, earlier, take_all, len))
+      | inr on ↦ inr (more, refl, λ k within. search (rules, arith, cases_lt, earlier, take_all))
     ]
 
 open-takes : (cs : List ℕ) (c : ℕ) → EndsOpen (units cs) → visible (cs ++ c ∷ []) ≡ visible cs
@@ -307,10 +307,8 @@ module _ {line : List ℕ} {place : ℕ} {rest : List ℕ} {state : State} {take
       elim (whole-or-open (units cs) (IsInUnits-units cs).1) [
         | inl whole ↦ whole
         | inr opens ↦
-            let own = ap (columns_in Text) (append-nil cs) in
             let none = ap (sum_by columns) (open-takes cs 120 opens) in
-            let one = ap (λ s. columns_in s (120 ∷ [])) is in
-            absurd (omega (arith, h.columns (120 ∷ []), h.columns [], own, none, one, letter-outside))
+            absurd (grind (arith, h.columns (120 ∷ []), h.columns [], append-nil cs, none, is, letter-outside))
       ]
 
   pub whole-read : HasWholeSequences (take place line) → state ≡ Text

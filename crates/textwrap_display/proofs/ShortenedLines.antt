@@ -1,9 +1,8 @@
 -- Lines that are cut: whole words are kept, and of the next word, which is a text by itself, what has
 -- room; what closes that, what the lines show, and their widths. Only one number of bytes may be kept.
 use Rattle.std.proofs.lemmas.{List.Sums.prefix_len-le-length, Str.IsCharBoundary-from_rest}
-use Rattle.std.specs.Prelude.{chars}
 use Rattle.textwrap_display.proofs.Common.{CanCut, IsCut, IsKeptBeginning, IsShortened, IsWhole, IsWholeText}
-use Rattle.textwrap_display.proofs.Common.{Line, closing, concat, indent_len, is_blank, line_bytes}
+use Rattle.textwrap_display.proofs.Common.{Line, chars, closing, concat, indent_len, is_blank, line_bytes}
 use Rattle.textwrap_display.proofs.Common.{sequences, text_width-append, text_width-nil, units, word_width}
 use Rattle.textwrap_display.proofs.{KeptLines.none-kept, KeptWords.may_end-boundary, Widths.indent-blanks}
 use Rattle.textwrap_display.specs.Shortening.{IsKeptLength, LeavesRoom, is_too_wide}
@@ -19,9 +18,9 @@ use Rattle.textwrap_text.proofs.Common.{All, All-append, Bool, IsCharBoundary, I
 use Rattle.textwrap_text.proofs.Common.{IsCharBoundary-from_take, IsUtf8, IsUtf8-drop, IsUtf8-take}
 use Rattle.textwrap_text.proofs.Common.{List, [], and_parts, ap, append-nil, arith, cases_lt, drop}
 use Rattle.textwrap_text.proofs.Common.{drop-drop, flat_map-append, inl, inr, length, length-drop}
-use Rattle.textwrap_text.proofs.Common.{length-prefix_len, ltb-false, ltb-true, refl, rules, subst, sym}
-use Rattle.textwrap_text.proofs.Common.{take, take-add, take-append-drop, take_at, text_width, true}
-use Rattle.textwrap_text.proofs.Common.{ℕ, ◌&&◌, ◌++◌, ◌+◌, ◌-◌, ◌<◌, ◌∙◌, ◌≡◌, ◌≢◌, ◌≤◌, ◌⊎◌}
+use Rattle.textwrap_text.proofs.Common.{length-prefix_len, ltb-false, ltb-true, refl, rules, subst}
+use Rattle.textwrap_text.proofs.Common.{sym, take, take-add, take-append-drop, take_at, text_width}
+use Rattle.textwrap_text.proofs.Common.{true, ℕ, ◌&&◌, ◌++◌, ◌+◌, ◌-◌, ◌<◌, ◌∙◌, ◌≡◌, ◌≢◌, ◌≤◌, ◌⊎◌}
 use Rattle.textwrap_text.proofs.Lists.Parts.{all-right}
 
 -- ---- a word in a line, as a text by itself
@@ -49,19 +48,17 @@ module _ {width : ℕ} {placeholder line : List ℕ} (utf8 : IsUtf8 line) {words
 
   pub start-within : start ≤ length line
   start-within =
-      omega (arith, next, prefix_len-le-length is_blank (drop words line), kept.within, length-drop words line)
+      omega (arith, prefix_len-le-length is_blank (drop words line), kept.within, length-drop words line)
 
   pub start-boundary : IsCharBoundary line start
   start-boundary = IsCharBoundary-from_take line start utf8 start-within front-whole.0
 
   longer-width : (k : ℕ) → text_width (take (start + k) line) ≡ text_width front + text_width (take k word)
-  longer-width k =
-      ap text_width (take-add start k line) ∙ text_width-append front (take k word) front-whole.0 front-whole.1
+  longer-width k = rw take-add (text_width-append front (take k word) front-whole.0 front-whole.1)
 
   longer-units : (k : ℕ) → units (chars (take (start + k) line))
       ≡ units (chars front) ++ units (chars (take k word))
-  longer-units k =
-      ap (λ l. units (chars l)) (take-add start k line) ∙ text_units-append front (take k word) front-whole
+  longer-units k = rw take-add (text_units-append front (take k word) front-whole)
 
   longer-whole : (k : ℕ) → HasWholeSequences (take k word) → HasWholeSequences (take (start + k) line)
   longer-whole k whole = rw (longer-units k) (All-append IsWhole _ _ front-whole.1 whole)
@@ -81,7 +78,7 @@ module _ {width : ℕ} {placeholder line : List ℕ} (utf8 : IsUtf8 line) {words
       let own : IsUtf8 (drop k word) = rw (rest-of k) at (IsUtf8-drop line (start + k) utf8 may.place) in
       let before = rw (rest-of k) at may.before in
       let fits = length-drop start line in
-      search (rules, arith, longer-width k, text_width-nil, IsCharBoundary-from_drop, start-within, longer-own)
+      search (rules, arith, longer-width, text_width-nil, IsCharBoundary-from_drop, start-within, longer-own)
 
   -- no place has room if the blanks before the word have none
   pub cut-none : width < text_width front + text_width placeholder
@@ -96,8 +93,7 @@ module _ {width : ℕ} {placeholder line : List ℕ} (utf8 : IsUtf8 line) {words
         let at : m ≡ start + (m - start) = omega (arith, may.after) in
         let own = to-word (m - start) (subst (CanCut line start) at may) in
         let wide = ap (λ n. text_width (take n line)) at ∙ longer-width (m - start) in
-        let up = h.latest (m - start) own (omega (arith, room, wide, fits, text_width-nil)) in
-        omega (arith, up, may.after)
+        omega (arith, h.latest (m - start) own (omega (arith, wide, text_width-nil)), may.after)
 
     pub cut-no : k ≡ 0 → IsCut width placeholder line words start words
     cut-no none = search (rules, arith, cut-latest)
@@ -174,9 +170,8 @@ module _ {width : ℕ} {placeholder line : List ℕ} (utf8 : IsUtf8 line) {words
 -- nothing, where the placeholder alone is too wide
 pub kept-none : {breaks : Bool} {width : ℕ} {placeholder line : List ℕ}
     → width < text_width placeholder → IsKeptLength breaks width placeholder line 0
-kept-none {line = line} over = kept-words
-    (record { within = omega arith; ends = none-kept line; room = inl refl; longest = λ m may fit. omega arith })
-    refl (λ is. record { cut = inl refl; latest = λ m may fit. omega arith })
+kept-none {line = line} over =
+    kept-words (search (rules, arith, none-kept line)) refl (λ is. search (rules, arith))
 
 module _ {breaks : Bool} {width : ℕ} {placeholder line : List ℕ} {n : ℕ}
     (h : IsKeptLength breaks width placeholder line n) where
@@ -256,10 +251,6 @@ module _ (breaks : Bool) (width : ℕ) (placeholder line : List ℕ) (short : Li
 
 -- ---- only one number of bytes may be kept
 
-words-le : {width : ℕ} {placeholder line : List ℕ} {m n : ℕ}
-    → IsKeptBeginning width placeholder line m → IsKeptBeginning width placeholder line n → m ≤ n
-words-le first second = search (rules, arith)
-
 cut-le : {width : ℕ} {placeholder line : List ℕ} {words start m n : ℕ} → words ≤ start
     → IsCut width placeholder line words start m → IsCut width placeholder line words start n → m ≤ n
 cut-le before first second = search (rules, arith)
@@ -267,7 +258,5 @@ cut-le before first second = search (rules, arith)
 pub kept-unique : (breaks : Bool) (width : ℕ) (placeholder line : List ℕ) (m n : ℕ)
     → IsKeptLength breaks width placeholder line m → IsKeptLength breaks width placeholder line n → m ≡ n
 kept-unique breaks width placeholder line m n first second =
-    let words : first.words ≡ second.words =
-    omega (arith, words-le first.kept second.kept, words-le second.kept first.kept) in
-    let start : first.start ≡ second.start = grind (arith, first.next, second.next, words) in
-    search (rules, arith, words, start, cut-le, first.cut, second.cut, first.whole, second.whole)
+    let words : first.words ≡ second.words = search (rules, arith, first.kept, second.kept) in
+    search (rules, arith, words, cut-le, first.cut, second.cut, first.whole, second.whole)

@@ -1,15 +1,15 @@
 -- Texts with blanks in the place of their tabs: what stands behind the last line feed, one part
 -- after another, and the laws of them.
-use Rattle.std.proofs.{Common.◌%◌, Math.Nat.add-mul, Math.Nat.suc-mul}
-use Rattle.std.proofs.lemmas.List.{get_or_default, Elements.All-replicate, Folds.list_any-append}
-use Rattle.std.proofs.lemmas.List.{Folds.list_any_none, Splits.length-slice_split}
-use Rattle.std.proofs.lemmas.List.Splits.{slice_split_at, slice_split_first, slice_split_none}
-use Rattle.std.proofs.lemmas.{List.Sums.prefix_len_passes, Nat.div-add-mod', Nat.mod_below}
-use Rattle.std.proofs.lemmas.Str.Pattern.{NoCharPasses-char, contains_char, drop_at_char}
-use Rattle.std.specs.List.{after_first, before_first, list_any, position_or_len}
-use Rattle.std.specs.{Prelude.MatchBool, Prelude.replicate, Str.NoCharPasses, Str.Pattern.FindsChar}
-use Rattle.{std.specs.Str.Pattern.HasCharAt, textwrap_display.proofs.Common.IsWholeText}
-use Rattle.textwrap_display.proofs.{Common.text_width-append, Common.text_width-nil, Widths.more-blanks}
+use Rattle.std.proofs.{Common.◌%◌, Math.Nat.add-mul, lemmas.List.get_or_default}
+use Rattle.std.proofs.lemmas.List.{Elements.All-replicate, Folds.list_any-append, Folds.list_any_none}
+use Rattle.std.proofs.lemmas.List.Splits.{length-slice_split, slice_split_at, slice_split_first}
+use Rattle.std.proofs.lemmas.{List.Splits.slice_split_none, List.Sums.prefix_len_passes, Nat.div-add-mod'}
+use Rattle.std.proofs.lemmas.{Nat.mod_below, Str.Pattern.NoCharPasses-char, Str.Pattern.contains_char}
+use Rattle.std.{proofs.lemmas.Str.Pattern.drop_at_char, specs.List.after_first, specs.List.before_first}
+use Rattle.std.specs.{List.list_any, List.position_or_len, Prelude.MatchBool, Prelude.replicate}
+use Rattle.std.specs.Str.{NoCharPasses, Pattern.FindsChar, Pattern.HasCharAt}
+use Rattle.textwrap_display.proofs.Common.{IsWholeText, suc-mul, text_width-append, text_width-nil}
+use Rattle.textwrap_display.proofs.Widths.{more-blanks}
 use Rattle.textwrap_display.specs.Tabs.{expanded_tabs, filled_parts, filled_up, last_line, tab, tab_blanks}
 use Rattle.textwrap_text.proofs.Common.{All, All-append, All-cons, All-head, All-nil, All-tail}
 use Rattle.textwrap_text.proofs.Common.{All-weaker, Bool, List, None, Some, [], ap, append-nil}
@@ -160,7 +160,7 @@ module _ (stop : ℕ) where
       ≡ expanded_tabs stop (text ++ 9 ∷ []) ++ expanded_tabs stop after)
       (λ part lacks. rw (expanded-tab part after lacks, expanded-tab part [] lacks, append-nil) refl)
       (λ part rest lacks is. let all = expanded-more part rest (9 ∷ after) lacks in
-      rw (all, expanded-more part rest (9 ∷ []) lacks, is) (sym (append_assoc (filled_up stop part) _ _))) before
+      rw (all, expanded-more part rest (9 ∷ []) lacks, is) (simp append_assoc)) before
 
   -- ---- each line is expanded by itself
 

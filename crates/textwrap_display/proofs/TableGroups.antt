@@ -1,13 +1,13 @@
 -- The groups of a table's texts, the cells of each, and the rows of these: their text, that they are
 -- even, and that they show each line once.
 use Rattle.std.proofs.{Common.replicate, Math.ListN.get_or-append}
-use Rattle.std.proofs.Math.{Nat.add-div_right, Nat.div-le_self, Nat.suc-mul, Seq.get_or-append_right}
-use Rattle.std.proofs.lemmas.List.{drop_min, get_or-replicate, length-replicate, take_min}
+use Rattle.std.proofs.Math.{Nat.add-div_right, Nat.div-le_self, Seq.get_or-append_right}
+use Rattle.std.proofs.lemmas.List.{drop_min, get_or-replicate, length-replicate, nil_from_length, take_min}
 use Rattle.std.proofs.lemmas.Slice.Zip.{AllZip-long, get_or-zip, length-zip}
 use Rattle.std.specs.{Fork.slice_chunk, Slice.Iter.chunk_count}
 use Rattle.textwrap.proofs.Text.Tables.{lines-kept}
-use Rattle.textwrap_display.proofs.Common.{AllZip, IsWholeText, map-map, text_width-append, text_width-nil}
-use Rattle.textwrap_display.proofs.Widths.{aligned-before}
+use Rattle.textwrap_display.proofs.Common.{AllZip, IsWholeText, map-map, nil-whole, suc-mul}
+use Rattle.textwrap_display.proofs.{Common.text_width-append, Common.text_width-nil, Widths.aligned-before}
 use Rattle.textwrap_display.specs.Laws.{KeepToColumns, ShowsEachLineOnce, cell_shown, row_of, row_width}
 use Rattle.textwrap_display.specs.Tables.{AreCells, AreTableRows, ColumnMakes, ColumnParts, HaveParts}
 use Rattle.textwrap_display.specs.Tables.{IsTableBy, IsTableOf, PartsMake, RowGaps, Shape, cell_line}
@@ -15,7 +15,6 @@ use Rattle.textwrap_display.specs.Tables.{group_rows, groups_of, height, rows_of
 use Rattle.textwrap_display.specs.Tables.{shape_of_parts, shown_cell, shown_cells, table_row, texts_in}
 use Rattle.textwrap_display.specs.declared.tables.Column.{Column}
 use Rattle.textwrap_layout.proofs.{Common.HasParts, Common.Line, Paragraph.Pieces.lines-as}
-use Rattle.textwrap_styles.proofs.SequenceTexts.{nil-whole}
 use Rattle.textwrap_text.proofs.Common.{All, All-cons, All-head, All-map, All-nil, All-tail, Bor, List}
 use Rattle.textwrap_text.proofs.Common.{[], ap, append_assoc, arith, cases_lt, drop, drop-drop, drop_at}
 use Rattle.textwrap_text.proofs.Common.{fold, get_or, get_or-map, get_or_past, inl, inr, join_with}
@@ -29,7 +28,8 @@ use Rattle.textwrap_text.specs.Units.{text_width}
 -- an empty cell after the others is as none
 padded-at : (cells : List (List (List ℕ))) (count at : ℕ)
     → get_or (cells ++ replicate count []) at [] ≡ get_or cells at []
-padded-at cells count at = grind (arith, cases_lt, get_or-append, get_or-append_right, get_or-replicate, get_or_past, length-replicate)
+padded-at cells count at =
+    grind (arith, get_or-append, get_or-append_right, get_or-replicate, get_or_past, length-replicate)
 
 module _ (columns : List Shape) (cells : List (List (List ℕ))) where
   -- the cells, with an empty one for each column after them
@@ -98,8 +98,7 @@ cell-at columns texts n column text first second column_is text_is =
 module _ {X : Type 0} (Makes : X → List ℕ → List Line → Type 0) where
   module _ (shape : X → Shape) (columns : List X) (gaps : RowGaps) where
     pub table-none : (texts : List (List ℕ)) → length texts ≡ 0 → IsTableBy Makes shape columns gaps texts []
-    table-none [] none = search (rules, arith)
-    table-none (text ∷ texts) none = absurd (omega (arith, none))
+    table-none texts none = rw (nil_from_length texts none) (search (rules, arith))
 
     -- the rows of the first group, and those of the others
     pub table-more : {texts front rest : List (List ℕ)} (cells : List (List (List ℕ)))
@@ -173,8 +172,7 @@ module _ {E C : Type 0} {e : _} {c : _} where
 module _ (gaps : RowGaps) (columns : List Shape) where
   pub cells-rows-none : (cells : List (List (List ℕ))) → length cells ≡ 0
       → rows_of_cells gaps columns cells ≡ []
-  cells-rows-none [] none = search (rules, arith)
-  cells-rows-none (cell ∷ cells) none = absurd (omega (arith, none))
+  cells-rows-none cells none = search (rules, arith, nil_from_length cells none)
 
   -- the rows of the first group, and those of the others
   pub cells-rows-more : (cells front rest : List (List (List ℕ)))
@@ -308,4 +306,4 @@ rows-even gaps columns cells left middle keep =
         let split = text_width-append gaps.left (joined gaps.middle middle r ps ++ gaps.right) left.0 left.1 in
         let keeps = padded-keep columns cells (length columns) keep in
         let joins = joined-before gaps.middle middle r ps keeps gaps.right in
-        grind (arith, append_assoc, count, split, joins, widths-zip columns padded (length-padded columns cells))
+        grind (arith, append_assoc, widths-zip columns padded (length-padded columns cells))

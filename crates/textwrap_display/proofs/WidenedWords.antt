@@ -177,7 +177,7 @@ widened-line each extra line new is =
     let text = flat (widened_chunks each extra (chunks rest)) in
     let kept = indent-kept line text (widened-plain each extra rest (after-plain line)) in
     let written = widened-text each extra (chunks rest) in
-    grind (arith, take_at, drop_at, length-prefix_len is_blank line, kept, written, widened-chunks, widened-words)
+    grind (arith, take_at, drop_at, length-prefix_len is_blank line, widened-chunks, widened-words)
 
 -- the words of a line that stays
 widened-stays : (spare : ℕ) (line : List ℕ) → (spare == 0) || (gaps line == 0) ≡ true

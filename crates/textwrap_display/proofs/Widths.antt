@@ -1,26 +1,24 @@
 -- Lines that are aligned or justified: how wide they are, and what they show, by the pen; and rows
 -- of texts that stand alone.
-use Rattle.std.proofs.{Math.Nat.div-add-mod, Math.Nat.suc-mul, lemmas.List.Elements.All-replicate}
-use Rattle.std.proofs.lemmas.List.{Elements.filter-append, Sums.fold-append, Sums.prefix_len_passes}
-use Rattle.std.{proofs.lemmas.List.length-replicate, specs.Str.chars}
-use Rattle.textwrap_display.proofs.Common.{AreBlanks, WordText, blank, blanks, chunks, gaps}
-use Rattle.textwrap_display.proofs.Common.{indent_len, is_blank, justified, line_bytes, line_words}
-use Rattle.textwrap_display.proofs.Common.{sequence_of, sequences, text_width, text_width-append}
+use Rattle.std.proofs.{Math.Nat.div-add-mod, lemmas.List.length-replicate}
+use Rattle.std.proofs.lemmas.List.{Elements.All-replicate, Elements.filter-append, Sums.fold-append}
+use Rattle.std.{proofs.lemmas.List.Sums.prefix_len_passes, specs.Str.chars}
+use Rattle.textwrap_display.proofs.Common.{AreBlanks, WordText, blank, blanks, chunks, gaps, indent_len}
+use Rattle.textwrap_display.proofs.Common.{is_blank, justified, line_bytes, line_words, nil-whole}
+use Rattle.textwrap_display.proofs.Common.{sequence_of, sequences, suc-mul, text_width, text_width-append}
 use Rattle.textwrap_display.proofs.Common.{text_width-nil, tiled, units, widened_words, ◌%◌}
 use Rattle.textwrap_display.specs.Alignment.{aligned, blanks_before, spread}
 use Rattle.textwrap_display.specs.Laws.{IsBeside, StandsAlone, row_of, shown_apart, without_blanks}
 use Rattle.textwrap_display.specs.{Tables.RowGaps, declared.alignment.Alignment.Alignment}
 use Rattle.textwrap_layout.{proofs.Paragraph.LeftOff.blanks-utf8, specs.Text.HasWholeSequences}
 use Rattle.textwrap_lines.proofs.Text.Printed.{blanks-printable, blanks-whole}
-use Rattle.textwrap_styles.proofs.SequenceTexts.{nil-whole, penned-append, text_units-append}
-use Rattle.textwrap_styles.{proofs.SequenceTexts.whole_text-append, specs.Penned.Rendition}
-use Rattle.textwrap_styles.specs.Penned.{penned_text, plain_rendition, rendition_of, with_sequence}
-use Rattle.textwrap_text.proofs.Common.{All, All-from_get_or, All-head, All-tail, All-weaker}
-use Rattle.textwrap_text.proofs.Common.{IsUtf8, List, [], ap, append-nil, append_assoc, arith}
-use Rattle.textwrap_text.proofs.Common.{chars-nil, drop, eqb-true, flat_map, flat_map-append, fold}
-use Rattle.textwrap_text.proofs.Common.{get_or-take, join_with, length, length-take, min, refl}
-use Rattle.textwrap_text.proofs.Common.{rules, subst, suc, sym, take, take-append-drop, true, zero}
-use Rattle.textwrap_text.proofs.Common.{ℕ, ◌*◌, ◌++◌, ◌+◌, ◌-◌, ◌/◌, ◌<◌, ◌∙◌, ◌∷◌, ◌≡◌, ◌≢◌, ◌≤◌}
+use Rattle.textwrap_styles.proofs.SequenceTexts.{penned-append, text_units-append, whole_text-append}
+use Rattle.textwrap_styles.specs.Penned.{Rendition, penned_text, plain_rendition, rendition_of, with_sequence}
+use Rattle.textwrap_text.proofs.Common.{All, All-from_get_or, All-head, All-tail, All-weaker, IsUtf8, List}
+use Rattle.textwrap_text.proofs.Common.{[], ap, append-nil, append_assoc, arith, chars-nil, drop, eqb-true}
+use Rattle.textwrap_text.proofs.Common.{flat_map, flat_map-append, fold, get_or-take, join_with, length}
+use Rattle.textwrap_text.proofs.Common.{length-take, min, refl, rules, suc, take, take-append-drop, true}
+use Rattle.textwrap_text.proofs.Common.{zero, ℕ, ◌*◌, ◌++◌, ◌+◌, ◌-◌, ◌/◌, ◌<◌, ◌∙◌, ◌∷◌, ◌≡◌, ◌≢◌, ◌≤◌}
 use Rattle.textwrap_text.proofs.{Texts.after_ascii, Units.Chunks.chunks-utf8}
 use Rattle.textwrap_text.{proofs.Units.Reading.printable-width, specs.Units.Visible}
 use Rattle.textwrap_words.proofs.Word.Words.{IsMeasured, tiled-words_of, words-measured}
@@ -110,7 +108,7 @@ module _ (alignment : Alignment) (width : ℕ) (line : List ℕ) (own : StandsAl
         alone = alone-append (blanks n ++ line) (blanks k) front (blanks-alone k);
         before = n;
         after = k;
-        shown = grind (arith, apart (blanks n ++ line) (blanks k) front, apart (blanks n) line (blanks-alone n));
+        shown = grind (arith, apart, front, blanks-alone n);
       }
 
   pub aligned-pens : IsBeside line (line_bytes (aligned alignment width line))
@@ -190,8 +188,7 @@ module _ (line : List ℕ) (utf8 : IsUtf8 line)
 
   rest-utf8 : IsUtf8 rest
   rest-utf8 = after_ascii front rest (All-weaker (λ c. is_blank c ≡ true) (λ c. c < 128)
-      (λ c is. omega (arith, eqb-true c 32 is)) front (indent-blanks line))
-      (subst IsUtf8 (sym (take-append-drop (indent_len line) line)) utf8)
+      (λ c is. omega (arith, eqb-true c 32 is)) front (indent-blanks line)) (rw take-append-drop utf8)
 
   sound : All IsSound (line_words line)
   sound i d within = (words-measured (chunks rest) (chunks-utf8 rest rest-utf8) i d within, whole i d within)
@@ -203,9 +200,7 @@ module _ (line : List ℕ) (utf8 : IsUtf8 line)
       let ws = line_words line in
       let each = spare / gaps line in
       let extra = spare % gaps line in
-      let own : text_width line ≡ length front + text_width rest =
-      sym (ap text_width (take-append-drop (indent_len line) line))
-      ∙ blanks-before front rest (indent-blanks line) in
+      let own = rw take-append-drop at (blanks-before front rest (indent-blanks line)) in
       let new = blanks-before front (tiled (widened_words each extra ws)) (indent-blanks line) in
       let words = ap text_width (tiled-words_of rest) in
       omega (arith, new, widened-width each extra ws sound, own, words, some, div-add-mod spare (gaps line))

@@ -1,6 +1,6 @@
 use Rattle.textwrap_display.proofs.needs.column_need.Goals as goal
-use Rattle.{std.specs.Slice.Iter.chunks_rest, textwrap_display.proofs.FittingWidths.widest-more}
-use Rattle.textwrap_display.{proofs.TableGroups.first-group, specs.Needs.lines_in, specs.Needs.words_in}
+use Rattle.textwrap_display.proofs.{Common.chunks_rest, FittingWidths.widest-more, TableGroups.first-group}
+use Rattle.textwrap_display.specs.Needs.{lines_in, words_in}
 use Rattle.textwrap_text.proofs.Common.{arith, ◌∙◌}
 
 pub loop-row-preserved : goal.loop-row-preserved

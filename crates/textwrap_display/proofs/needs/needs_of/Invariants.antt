@@ -1,6 +1,6 @@
 use Rattle.textwrap_display.proofs.needs.needs_of.Given as goal
 use Rattle.std.specs.List.{range_with_len}
-use Rattle.textwrap_display.specs.{Needs.column_texts, Needs.need_of, Tables.texts_in}
+use Rattle.textwrap_display.{proofs.Common.column_texts, specs.Needs.need_of, specs.Tables.texts_in}
 use Rattle.textwrap_text.proofs.Common.{map, ◌≡◌}
 
 abbrev pub invariant-loop-column : goal.invariant-loop-column

@@ -1,8 +1,8 @@
 use Rattle.textwrap_display.proofs.needs.widest_word.Goals as goal
 use Rattle.std.proofs.{Common.lit<, Common.tests, lemmas.Iterator.Consumers.fold_from_yields_List}
 use Rattle.std.{proofs.lemmas.Iterator.Splits.YieldsList-from_str_split, specs.List.slice_split}
-use Rattle.textwrap_display.proofs.{Common.is_blank, FittingWidths.widest-parts}
-use Rattle.textwrap_display.specs.Needs.{lines_in, widest}
+use Rattle.textwrap_display.proofs.Common.{is_blank, widest}
+use Rattle.textwrap_display.{proofs.FittingWidths.widest-parts, specs.Needs.lines_in}
 use Rattle.textwrap_text.proofs.Common.{max, rules, ◌∙◌}
 
 pub returns : goal.returns

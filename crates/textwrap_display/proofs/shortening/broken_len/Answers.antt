@@ -7,10 +7,8 @@ use Rattle.textwrap_text.proofs.Common.{arith, characters_left, length, ◌+◌,
 
 pub loop-character-init : goal.loop-character-init
 loop-character-init c =
-    rw (c.into_iter-character-iterator.ensures.into_iter_gives, c.of-character-items.ensures) (record {
-      read = read_word-start c.args.left c.args.text.now c.utf8.text;
-      room = omega arith;
-    })
+    rw (c.into_iter-character-iterator.ensures.into_iter_gives, c.of-character-items.ensures)
+    (record { read = read_word-start c.args.left c.args.text.now c.utf8.text; room = omega arith })
 
 -- the reader before the character
 before : (c : In-Some) → IsReadWord c.args.left c.args.text.now
@@ -31,8 +29,7 @@ returns-then-character-eq32-clause-cut c = λ wide.
 
 pub overflow_add-taken : goal.overflow_add-taken
 overflow_add-taken c =
-    let t = before (goal.at.overflow_add-taken c).In-Some in
-    omega (arith, turn-le c.utf8.text t c.if-character.true, c.columns-width.ensures)
+    omega (arith, turn-le c.utf8.text (before (goal.at.overflow_add-taken c).In-Some) c.if-character.true)
 
 found : (c : Joined-taken-gt0) → IsFoundCut c.args.left c.args.text.now
     (c.in-Some.character.at + length (encode_utf8 c.in-Some.character.ch)) c.if-taken-gt0.cut

@@ -31,14 +31,9 @@ returns-in_default-checked_sub c =
     let at = goal.at.returns-in_default-checked_sub c in
     let words = kept at.After-split_indent in
     let next = start at.After-split_indent in
-    kept-words words next (λ passes. cut-none c.utf8.line words next (omega (
-      arith,
-      c.in-Some.ensures,
-      c.display_width-placeholder.ensures.width,
-      c.in_default-checked_sub.ensures,
-      c.display_width.ensures.width,
-      ap text_width (c.range.ensures.value ∙ from_start c.args.line.now _),
-    )))
+    let front = ap text_width (c.range.ensures.value ∙ from_start c.args.line.now _) in
+    kept-words words next (λ passes. cut-none c.utf8.line words next
+    (omega (arith, c.in-Some.ensures, c.in_default-checked_sub.ensures, front)))
 
 -- what is found of that word
 found : (c : After-broken_len-broken) → IsFoundWord c.args.shortening.now.width

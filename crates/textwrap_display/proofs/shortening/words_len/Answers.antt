@@ -11,15 +11,12 @@ pub loop-at-init : goal.loop-at-init
 loop-at-init c =
     let items = c.char_indices-at-items.ensures in
     let line = c.args.line.now in
-    rw (c.into_iter-at-iterator.ensures.into_iter_gives, items.offset, items.rest) (record {
-      read = read_to-start line c.utf8.line;
-      found = latest-none (CanEnd line) c.args.room line;
-    })
+    rw (c.into_iter-at-iterator.ensures.into_iter_gives, items.offset, items.rest)
+    (record { read = read_to-start line c.utf8.line; found = latest-none (CanEnd line) c.args.room line })
 
 pub returns-then-taken-room : goal.returns-then-taken-room
 returns-then-taken-room c = λ width placeholder is.
-    let h = c.loop-at.invariant in
-    found-kept is (found-past c.utf8.line h.read h.found c.if-taken-room.true)
+    let h = c.loop-at.invariant in found-kept is (found-past c.utf8.line h.read h.found c.if-taken-room.true)
 
 read : (c : Joined-is_visible) → IsReadTo c.args.line.now (char_indices_offset c.next.new.self)
     (char_indices_rest c.next.new.self) c.step-next.result.0
@@ -36,8 +33,7 @@ read c =
 
 pub overflow_add-taken : goal.overflow_add-taken
 overflow_add-taken c =
-    let past = read (goal.at.overflow_add-taken c).Joined-is_visible in
-    omega (arith, read-le c.utf8.line past)
+    omega (arith, read-le c.utf8.line (read (goal.at.overflow_add-taken c).Joined-is_visible))
 
 found : (c : Joined-ch-eq32)
     → IsFound c.args.room c.args.line.now (char_indices_offset c.next.new.self) c.if-ch-eq32.kept
@@ -62,10 +58,9 @@ found c =
     ]
 
 pub loop-at-preserved : goal.loop-at-preserved
-loop-at-preserved c = record {
-  read = read (goal.at.loop-at-preserved c).Joined-is_visible;
-  found = found (goal.at.loop-at-preserved c).Joined-ch-eq32;
-}
+loop-at-preserved c =
+    let at = goal.at.loop-at-preserved c in
+    record { read = read at.Joined-is_visible; found = found at.Joined-ch-eq32 }
 
 pub returns-then-not-outside : goal.returns-then-not-outside
 returns-then-not-outside c =

@@ -1,5 +1,5 @@
 use Rattle.textwrap_display.proofs.tables.table.Goals as goal
-use Rattle.{std.specs.Slice.Iter.chunks_rest, textwrap_display.proofs.Common.passed-on}
+use Rattle.textwrap_display.proofs.Common.{chunks_rest, passed-on}
 use Rattle.textwrap_display.proofs.TableGroups.{IsFirstGroup, first-group, groups-more, table-more}
 use Rattle.textwrap_display.proofs.{TableGroups.table-none, tables.table.Goals.In-Some}
 use Rattle.textwrap_display.specs.Tables.{NonePasses, cell_texts, gaps_view, group_rows, texts_in}

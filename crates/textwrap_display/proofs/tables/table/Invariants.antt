@@ -1,5 +1,5 @@
 use Rattle.textwrap_display.proofs.tables.table.Given as goal
-use Rattle.std.specs.Slice.Iter.{chunks_rest, chunks_size}
+use Rattle.textwrap_display.proofs.Common.{chunks_rest, chunks_size}
 use Rattle.textwrap_display.specs.Tables.{IsTableBy, NonePasses, gaps_view, groups_of, texts_in}
 use Rattle.textwrap_text.proofs.Common.{All, List, length, map, string_bytes, ℕ, ◌++◌, ◌≡◌}
 

@@ -1,5 +1,5 @@
 use Rattle.textwrap_display.proofs.tables.table_of_lines.Given as goal
-use Rattle.std.specs.Slice.Iter.{chunks_rest, chunks_size}
+use Rattle.textwrap_display.proofs.Common.{chunks_rest, chunks_size}
 use Rattle.textwrap_display.specs.Tables.{cell_texts, gaps_view, rows_of_cells, shape_of}
 use Rattle.textwrap_text.proofs.Common.{length, map, string_bytes, ◌++◌, ◌≡◌}
 

@@ -64,6 +64,5 @@ returns-clause-cells g c =
     let ended = zip_end texts columns c.loop-text.yielded _ _ c.next.new.self _ first second
     c.loop-text.yielded_by c.in-None.is c.next.ensures.steps in
     let some = length-map texts (λ t. t.now) in
-    let all = take_all n (zip columns (texts_in texts))
-    (omega (arith, ended, length-zip columns (texts_in texts), some)) in
-    rw all at c.loop-text.invariant
+    rw (take_all n (zip columns (texts_in texts)) (omega (arith, length-zip columns (texts_in texts))))
+    at c.loop-text.invariant

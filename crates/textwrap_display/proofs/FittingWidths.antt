@@ -1,45 +1,36 @@
 -- What columns need: the widest of some texts, part by part; and widths that fit: shares in
 -- proportion, what rounding leaves over, and that they add up.
-use Rattle.std.proofs.{Common.sum, Math.Nat.div-lt_iff_lt-mul, Math.Nat.le_of_mul-le-mul_left}
-use Rattle.std.proofs.Math.Nat.{lt-div-mul-add, mul-add, mul-div-le, mul-le-mul_right}
-use Rattle.std.proofs.Math.Nat.{mul-lt-mul_of_pos_left, mul_comm, zero-div}
-use Rattle.std.{proofs.lemmas.List.Sums.fold-append, specs.List.flat_map, specs.List.fold}
-use Rattle.textwrap_display.proofs.{Common.AllZip, Common.text_width, TableGroups.AllZip-weaker}
-use Rattle.textwrap_display.proofs.TableGroups.{IsFirstGroup, groups-more}
+use Rattle.std.proofs.{Common.sum, Math.Nat.div-lt_iff_lt-mul}
+use Rattle.std.proofs.Math.Nat.{le_of_mul-le-mul_left, lt-div-mul-add, mul-add, mul-div-le}
+use Rattle.std.proofs.Math.Nat.{mul-le-mul_right, mul-lt-mul_of_pos_left, mul_comm, zero-div}
+use Rattle.std.{proofs.lemmas.List.Sums.fold-append, proofs.lemmas.List.Sums.sum_by-le, specs.List.fold}
+use Rattle.textwrap_display.proofs.Common.{AllZip, column_texts, flat_map, sure, text_width, widest}
+use Rattle.textwrap_display.proofs.TableGroups.{AllZip-weaker, IsFirstGroup, groups-more}
 use Rattle.textwrap_display.specs.Fitting.{fitting_widths, lacking, rounded_up, shared, widest_line}
-use Rattle.textwrap_display.specs.{Fitting.widest_word, Needs.column_texts, Needs.widest}
-use Rattle.textwrap_display.specs.Sharing.{Shares, rounded_down, sure, weight}
+use Rattle.textwrap_display.specs.{Fitting.widest_word, Sharing.Shares, Sharing.rounded_down, Sharing.weight}
 use Rattle.textwrap_display.specs.declared.{fitting.Sharing.Sharing, needs.Need.Need}
-use Rattle.textwrap_text.proofs.Common.{List, [], ap, arith, cases_lt, get_or, inl, inr, length}
-use Rattle.textwrap_text.proofs.Common.{map, max, min, refl, rules, sum_by, sum_by-cons, ℕ, ◌*◌}
-use Rattle.textwrap_text.proofs.Common.{◌++◌, ◌+◌, ◌-◌, ◌/◌, ◌<◌, ◌∙◌, ◌∷◌, ◌≡◌, ◌≤◌}
+use Rattle.textwrap_text.proofs.Common.{List, [], ap, arith, cases_lt, get_or, length, map}
+use Rattle.textwrap_text.proofs.Common.{max, min, refl, rules, sum_by, sum_by-cons, ℕ}
+use Rattle.textwrap_text.proofs.Common.{◌*◌, ◌++◌, ◌+◌, ◌-◌, ◌/◌, ◌<◌, ◌∙◌, ◌∷◌, ◌≡◌, ◌≤◌}
 
 -- what is wider already stays
-widest-from : (most : ℕ) (texts : List (List ℕ))
-    → fold (λ most text. max most (text_width text)) most texts ≡ max most (widest texts)
-widest-from most [] = omega arith
-widest-from most (text ∷ texts) =
-    let more = widest-from (max most (text_width text)) texts in
-    omega (arith, more, widest-from (max 0 (text_width text)) texts)
+widest-from : {X : Type 0} (f : X → ℕ) (most : ℕ) (xs : List X)
+    → fold (λ most x. max most (f x)) most xs ≡ max most (fold (λ most x. max most (f x)) 0 xs)
+widest-from f most [] = omega arith
+widest-from f most (x ∷ xs) = omega (arith, widest-from f (max most (f x)) xs, widest-from f (max 0 (f x)) xs)
 
 pub widest-append : (first second : List (List ℕ))
     → widest (first ++ second) ≡ max (widest first) (widest second)
-widest-append first second =
-    fold-append (λ most text. max most (text_width text)) 0 first second
-    ∙ widest-from (widest first) second
+widest-append first second = fold-append (λ most text. max most (text_width text)) 0 first second
+    ∙ widest-from text_width (widest first) second
 
-module _ {X : Type 0} (parts : X → List (List ℕ)) where
-  widest-parts_from : (most : ℕ) (xs : List X)
-      → fold (λ most x. max most (widest (parts x))) most xs ≡ max most (widest (flat_map parts xs))
-  widest-parts_from most [] = omega arith
-  widest-parts_from most (x ∷ xs) =
-      let more = widest-parts_from (max most (widest (parts x))) xs in
-      omega (arith, more, widest-append (parts x) (flat_map parts xs))
-
-  -- the widest part of all is the widest of the widest parts of each
-  pub widest-parts : (xs : List X)
-      → fold (λ most x. max most (widest (parts x))) 0 xs ≡ widest (flat_map parts xs)
-  widest-parts xs = omega (arith, widest-parts_from 0 xs)
+-- the widest part of all is the widest of the widest parts of each
+pub widest-parts : {X : Type 0} (parts : X → List (List ℕ)) (xs : List X)
+    → fold (λ most x. max most (widest (parts x))) 0 xs ≡ widest (flat_map parts xs)
+widest-parts parts [] = refl
+widest-parts parts (x ∷ xs) =
+    let more = widest-from (λ x. widest (parts x)) (max 0 (widest (parts x))) xs in
+    omega (arith, more, widest-parts parts xs, widest-append (parts x) (flat_map parts xs))
 
 -- with one row more
 pub column_texts-more : (columns at : ℕ) (cells row rest : List (List ℕ))
@@ -69,21 +60,12 @@ module _ (weight : Need → ℕ) (left weights : ℕ) (some : 0 < weights) where
   one need = min (weight need) 1
 
   -- a share is what it is in full, but for less than one
-  pub share-close : (need : Need)
-      → left * weight need ≤ weights * share need + (weights - 1) * one need
-  share-close need =
-      elim (cases_lt (weight need) 1) [
-        | inl none ↦ let is : weight need ≡ 0 = omega arith in rw is (omega arith)
-        | inr more ↦
-            let close = lt-div-mul-add {a = left * weight need} some in
-            omega (arith, close, times-one (weights - 1) (weight need) more, mul_comm weights (share need))
-      ]
+  pub share-close : (need : Need) → left * weight need ≤ weights * share need + (weights - 1) * one need
+  share-close need = grind (arith, lt-div-mul-add {a = left * weight need} some, times-one, mul_comm)
 
-  pub shares-few : (needs : List Need)
-      → weights * sum_by share needs ≤ left * sum_by weight needs
+  pub shares-few : (needs : List Need) → weights * sum_by share needs ≤ left * sum_by weight needs
   shares-few [] = omega arith
-  shares-few (need ∷ needs) =
-      simp (sum_by-cons, mul-add)
+  shares-few (need ∷ needs) = simp (sum_by-cons, mul-add)
       (omega (arith, shares-few needs, mul-div-le (left * weight need) weights))
 
   pub shares-close : (needs : List Need)
@@ -111,13 +93,12 @@ shares-within weight left needs some =
 
 -- ---- what rounding leaves over
 
-module _ (width weight : Need → ℕ) where
-  pub rounded-sum : (over : ℕ) (needs : List Need) → sum (rounded_up width weight over needs)
-      ≡ sum_by width needs + min over (sum_by (λ need. min (weight need) 1) needs)
-  rounded-sum over [] = omega arith
-  rounded-sum over (need ∷ needs) =
-      simp sum_by-cons
-      (omega (arith, rounded-sum (over - min over (min (weight need) 1)) needs))
+pub rounded-sum : (width weight : Need → ℕ) (over : ℕ) (needs : List Need)
+    → sum (rounded_up width weight over needs)
+    ≡ sum_by width needs + min over (sum_by (λ need. min (weight need) 1) needs)
+rounded-sum width weight over [] = omega arith
+rounded-sum width weight over (need ∷ needs) =
+    simp sum_by-cons (omega (arith, rounded-sum width weight (over - min over (min (weight need) 1)) needs))
 
 -- ---- all of the total
 
@@ -126,16 +107,13 @@ pub sum_by-add : (f g : Need → ℕ) (needs : List Need)
 sum_by-add f g [] = refl
 sum_by-add f g (need ∷ needs) = simp sum_by-cons (omega (arith, sum_by-add f g needs))
 
-pub shared-sum : (sure weight : Need → ℕ) (total : ℕ) (needs : List Need)
-    → sum_by sure needs ≤ total → 0 < sum_by weight needs
-    → sum (shared sure weight total needs) ≡ total
+pub shared-sum : (sure weight : Need → ℕ) (total : ℕ) (needs : List Need) → sum_by sure needs ≤ total
+    → 0 < sum_by weight needs → sum (shared sure weight total needs) ≡ total
 shared-sum sure weight total needs room some =
     let left : ℕ = total - sum_by sure needs in
     let share : Need → ℕ = λ (need : Need). left * weight need / sum_by weight needs in
-    let near = shares-within weight left needs some in
-    let all = sum_by-add sure share needs in
     rw (rounded-sum (λ (need : Need). sure need + share need) weight)
-    (omega (arith, near.0, near.1, all))
+    (omega (arith, shares-within weight left needs some, sum_by-add sure share needs))
 
 -- ---- which needs have room
 
@@ -145,16 +123,13 @@ module _ (total : ℕ) (needs : List Need) (P : List ℕ → Type 0) where
       → (sum_by widest_line needs ≤ total → 0 < sum_by widest_line needs
       → P (shared widest_line widest_line total needs))
       → (total < sum_by widest_line needs → sum_by widest_word needs ≤ total
-      → P (shared widest_word lacking total needs))
-      → (total < sum_by widest_word needs
-      → P (shared (λ need. 0) widest_word total needs))
-      → P (fitting_widths total needs)
+      → P (shared widest_word lacking total needs)) → (total < sum_by widest_word needs
+      → P (shared (λ need. 0) widest_word total needs)) → P (fitting_widths total needs)
   fitting-cases even lines words none = search (rules, arith)
 
 -- what the columns have in all is what they have one by one
 pub sum_by-none : (needs : List Need) → sum_by (λ need. 0) needs ≡ 0
-sum_by-none [] = refl
-sum_by-none (need ∷ needs) = rw sum_by-cons (omega (arith, sum_by-none needs))
+sum_by-none needs = omega (arith, sum_by-le (λ (need : Need). 0) 0 needs (λ k d within. omega arith))
 
 pub sum_by-one : (needs : List Need) → sum_by (λ need. 1) needs ≡ length needs
 sum_by-one [] = refl
@@ -173,19 +148,16 @@ fitting-sum total needs some =
     let none = sum_by-none needs in
     let all = sum_by-wanted needs in
     fitting-cases total needs (λ widths. sum widths ≡ total)
-    (λ room empty. shared-sum widest_line (λ need. 1) total needs room
-    (omega (arith, sum_by-one needs)))
-    (λ room text. shared-sum widest_line widest_line total needs room text)
-    (λ scarce room. shared-sum widest_word lacking total needs
-    room (omega arith))
+    (λ room empty. shared-sum widest_line (λ need. 1) total needs room (omega (arith, sum_by-one needs)))
+    (shared-sum widest_line widest_line total needs)
+    (λ scarce room. shared-sum widest_word lacking total needs room (omega arith))
     (λ scarce. shared-sum (λ need. 0) widest_word total needs (omega arith) (omega arith))
 
 -- ---- no column is narrower than what is sure, nor wider than its weight lets it
 
 module _ (width weight : Need → ℕ) (R : Need → ℕ → Type 0) where
   pub rounded-all : (over : ℕ) (needs : List Need)
-      → ((need : Need) (one : ℕ) → one ≤ over → one ≤ min (weight need) 1
-      → R need (width need + one))
+      → ((need : Need) (one : ℕ) → one ≤ over → one ≤ min (weight need) 1 → R need (width need + one))
       → AllZip R needs (rounded_up width weight over needs)
   rounded-all over [] each = tt
   rounded-all over (need ∷ needs) each =
@@ -210,14 +182,10 @@ module _ (sure weight : Need → ℕ) (total : ℕ) (needs : List Need) where
       let weights : ℕ = sum_by weight needs in
       let share : Need → ℕ = λ (need : Need). left * weight need / weights in
       let width : Need → ℕ = λ (need : Need). sure need + share need in
-      let all : sum_by width needs ≡ sum_by sure needs + sum_by share needs =
-      sum_by-add sure share needs in
-      rounded-all width weight IsShare (total - sum_by width needs) needs
-      (λ need one over at. record {
+      let all : sum_by width needs ≡ sum_by sure needs + sum_by share needs = sum_by-add sure share needs in
+      rounded-all width weight IsShare (total - sum_by width needs) needs (λ need one over at. record {
         least = omega arith;
-        exact = λ few.
-            let none : left ≡ 0 = omega arith in
-            let no : share need ≡ 0 = rw none (omega (arith, zero-div weights)) in omega arith;
+        exact = λ few. grind (arith, zero-div);
         most = λ less. omega (arith, share-less left (weight need) weights one less at);
       })
 
@@ -265,8 +233,7 @@ pub shared-with : (sharing : Sharing) (total : ℕ) (needs : List Need) → Shar
     (total - sum_by (rounded_down sharing) needs) needs
     ≡ shared (sure sharing.basis) (weight sharing.basis) total needs
 shared-with sharing total needs shares =
-    let left : sharing.left ≡ total - sum_by (sure sharing.basis) needs =
-    omega (arith, shares.left) in
+    let left : sharing.left ≡ total - sum_by (sure sharing.basis) needs = omega (arith, shares.left) in
     rw (left, shares.weights) refl
 
 pub ruleset shares_known = (shared-with)

@@ -1,24 +1,20 @@
 -- A text that is filled with its lines justified, one paragraph after another, and what justifies
 -- lines as they are found.
-use Rattle.std.proofs.Math.Bool.{or-true}
-use Rattle.textwrap_display.proofs.Common.{IsJustifiedText, WordText, justified, layout_view}
-use Rattle.textwrap_display.{proofs.Common.line_bytes, specs.JustifiedSinks.HoldsJustified}
+use Rattle.{std.proofs.Math.Bool.or-true, textwrap_display.proofs.Common.HoldsJustified}
+use Rattle.textwrap_display.proofs.Common.{IsJustifiedText, WordText, justified, layout_view, line_bytes}
 use Rattle.textwrap_display.specs.JustifiedSinks.{TakesLine, Writes, WritesParagraph, waiting}
-use Rattle.textwrap_display.specs.JustifiedText.{added_lines, all_but_last, joined_on}
-use Rattle.textwrap_display.specs.JustifiedText.{justified_after, justified_after_indents}
-use Rattle.textwrap_display.specs.JustifiedText.{justified_line, justified_lines}
+use Rattle.textwrap_display.specs.JustifiedText.{added_lines, all_but_last, joined_on, justified_after}
+use Rattle.textwrap_display.specs.JustifiedText.{justified_after_indents, justified_line, justified_lines}
 use Rattle.textwrap_display.specs.declared.justified_lines.JustifiedLines.{JustifiedLines}
-use Rattle.textwrap_layout.proofs.Common.{AreGroups, AreParagraphParts, DividesAs, DividesBy}
-use Rattle.textwrap_layout.proofs.Common.{HasParts, LineParts, Settings, indent_of, line_from}
-use Rattle.textwrap_layout.proofs.Common.{parts_from, parts_of, settings_view}
-use Rattle.textwrap_layout.proofs.{Paragraph.Pieces.divides, Text.Sinks.assembled-bytes}
+use Rattle.textwrap_layout.proofs.Common.{AreGroups, AreParagraphParts, DividesAs, DividesBy, HasParts}
+use Rattle.textwrap_layout.proofs.Common.{LineParts, Settings, indent_of, line_from, parts_from, parts_of}
+use Rattle.textwrap_layout.proofs.{Common.settings_view, Paragraph.Pieces.divides, Text.Sinks.assembled-bytes}
 use Rattle.textwrap_layout.specs.declared.options.Options.{Options}
-use Rattle.textwrap_text.proofs.Common.{Bool, List, [], ap, append-nil, append_assoc, arith}
-use Rattle.textwrap_text.proofs.Common.{cases_Bool, cond, drop_all, drop_at, ending_bytes, false}
-use Rattle.textwrap_text.proofs.Common.{flat_map, join_with, length, length_push, lt-ltb, map}
-use Rattle.textwrap_text.proofs.Common.{nat_lt, paragraphs_of, refl, rules, string_bytes, subst}
-use Rattle.textwrap_text.proofs.Common.{suc, sym, take_all, take_at, text_width, true, ℕ, ◌++◌, ◌+◌}
-use Rattle.textwrap_text.proofs.Common.{◌-◌, ◌||◌, ◌∙◌, ◌∷◌, ◌≡◌}
+use Rattle.textwrap_text.proofs.Common.{Bool, List, [], ap, append-nil, append_assoc, arith, cases_Bool}
+use Rattle.textwrap_text.proofs.Common.{cond, drop_all, drop_at, ending_bytes, false, flat_map, join_with}
+use Rattle.textwrap_text.proofs.Common.{length, length_push, lt-ltb, map, nat_lt, paragraphs_of}
+use Rattle.textwrap_text.proofs.Common.{refl, rules, string_bytes, subst, suc, sym, take_all, take_at}
+use Rattle.textwrap_text.proofs.Common.{text_width, true, ℕ, ◌++◌, ◌+◌, ◌-◌, ◌||◌, ◌∙◌, ◌∷◌, ◌≡◌}
 use Rattle.textwrap_text.proofs.{Lists.Parts.starts_with-true, Numbers.or_false, Numbers.some_later}
 use Rattle.textwrap_words.proofs.Common.{Algorithm, Splitter}
 
@@ -35,8 +31,7 @@ rows-changed = (refl, refl, refl, refl)
 
 -- a line of its indent and what follows
 after-front : (width : ℕ) (indent line rest : List ℕ) → line ≡ indent ++ rest
-    → justified_after width indent line
-    ≡ indent ++ line_bytes (justified (width - text_width indent) rest)
+    → justified_after width indent line ≡ indent ++ line_bytes (justified (width - text_width indent) rest)
 after-front width indent line rest is = search (rules, arith, starts_with-true, take_at, drop_at)
 
 -- an empty line stays empty
@@ -91,14 +86,12 @@ joined_on-append ending is_later (x ∷ xs) ys =
 module _ (settings : Settings) where
   -- the lines of groups in a row
   abbrev pub rows : Bool → List (List LineParts) → List ℕ
-  rows is_later groups =
-      joined_on (ending_bytes settings.line_ending) is_later
+  rows is_later groups = joined_on (ending_bytes settings.line_ending) is_later
       (flat_map (justified_lines settings.width) groups)
 
   -- those of one more group
   pub rows-more : (filled new : List ℕ) (is_later then_later : Bool) (division : List (List WordText))
-      (groups : List (List LineParts))
-      → new ≡ filled ++ added_lines settings is_later
+      (groups : List (List LineParts)) → new ≡ filled ++ added_lines settings is_later
       (map line_bytes (map line_from (parts_from settings is_later division)))
       → then_later ≡ is_later || nat_lt 0 (length (parts_from settings is_later division))
       → filled ++ rows is_later (parts_from settings is_later division ∷ groups)
@@ -138,24 +131,20 @@ module _ {settings : Settings} {Divides : Bool → List ℕ → List (List WordT
         whole = λ groups rest.
             subst (IsJustifiedText settings Divides text)
             (rw are (rows-more settings filled new is_later then_later division groups (rw are at is)
-            (rw are at then)))
-            (so_far.whole (parts ∷ groups) ((division, laid_out, are), rw then at rest));
+            (rw are at then))) (so_far.whole (parts ∷ groups) ((division, laid_out, are), rw then at rest));
       }
 
   pub so_far-end : {text filled : List ℕ} {is_later : Bool}
       → IsJustifiedSoFar settings Divides text filled is_later []
       → IsJustifiedText settings Divides text filled
-  so_far-end {text = text} {filled = filled} so_far =
-      subst (IsJustifiedText settings Divides text) (append-nil filled) (so_far.whole [] refl)
+  so_far-end so_far = rw append-nil at (so_far.whole [] refl)
 
 -- the same text, where all parts are built in and can be named
 pub justified-as : {E C : Type 0} {e : _} {c : _} (options : Options E C e c) (settings : Settings)
-    (splitter : Splitter) (algorithm : Algorithm)
-    → HasParts options settings splitter algorithm → (text filled : List ℕ)
-    → IsJustifiedText (settings_view options) (DividesBy options) text filled
+    (splitter : Splitter) (algorithm : Algorithm) → HasParts options settings splitter algorithm
+    → (text filled : List ℕ) → IsJustifiedText (settings_view options) (DividesBy options) text filled
     → IsJustifiedText settings (DividesAs splitter algorithm settings) text filled
-justified-as options settings splitter algorithm parts text filled is =
-    search (rules, arith, divides)
+justified-as options settings splitter algorithm parts text filled is = search (rules, arith, divides)
 
 module _ (settings : Settings) where
   -- a line that waited and is not the last, before those that come
@@ -164,34 +153,26 @@ module _ (settings : Settings) where
       ++ justified_after settings.width (indent_of settings has_lines) line) [])
       ++ added_lines settings (has_lines || waits) (next ∷ more)
       ≡ text ++ added_lines settings has_lines (cond waits (line ∷ []) [] ++ next ∷ more)
-  one-written true true text line next more = simp append_assoc
-  one-written false true text line next more = simp append_assoc
-  one-written true false text line next more = simp append-nil
-  one-written false false text line next more = simp append-nil
+  one-written has_lines waits text line next more = grind (arith, cases_Bool, append_assoc, append-nil)
 
   -- one that is the last
   last-written : (has_lines waits : Bool) (line : List ℕ)
       → joined_on (ending_bytes settings.line_ending) has_lines (cond waits (line ∷ []) [])
       ≡ added_lines settings has_lines (cond waits (line ∷ []) [] ++ [])
-  last-written has_lines true line = refl
-  last-written has_lines false line = refl
+  last-written has_lines waits line = grind (arith, cases_Bool)
 
 module _ {Z : Type 0} where
-  pub justified-none : (first : JustifiedLines Z) → first.waits ≡ false
-      → HoldsJustified first first []
+  pub justified-none : (first : JustifiedLines Z) → first.waits ≡ false → HoldsJustified first first []
   justified-none first waits =
       record { text = λ more. rw waits; waits = waits; some = refl; layout_is = refl }
 
   pub justified-one : {first old new : JustifiedLines Z} {held : List (List ℕ)} {line : List ℕ}
-      → HoldsJustified first old held → TakesLine old new line
-      → HoldsJustified first new (held ++ line ∷ [])
+      → HoldsJustified first old held → TakesLine old new line → HoldsJustified first new (held ++ line ∷ [])
   justified-one {first = first} {old = old} {new = new} {held = held} {line = line} given takes =
       let last : waiting new ≡ line ∷ [] = rw takes.waits (ap (λ b. b ∷ []) takes.line_is) in
-      let some : nat_lt 0 (length (held ++ line ∷ [])) ≡ true =
-      search (rules, arith, lt-ltb, length_push) in
+      let some : nat_lt 0 (length (held ++ line ∷ [])) ≡ true = search (rules, arith, lt-ltb, length_push) in
       record {
-        text = λ more.
-            let written = one-written (layout_view old.layout) old.has_lines old.waits
+        text = λ more. let written = one-written (layout_view old.layout) old.has_lines old.waits
             (string_bytes old.text) (string_bytes old.line) line more in
             cc (last, written, given.text (line ∷ more), append_assoc held (line ∷ []) more);
         waits = takes.waits ∙ sym some;
@@ -204,10 +185,8 @@ module _ {Z : Type 0} where
       (joined_on (ending_bytes then.layout.line_ending) then.has_lines (waiting then))
       → new.waits ≡ false → WritesParagraph first new lines
   paragraph-written {first = first} {then = then} {lines = lines} given writes waits = record {
-    text =
-        let last = last-written (layout_view then.layout) then.has_lines then.waits
-        (string_bytes then.line) in
-        cc (writes.text, last, given.text [], append-nil lines);
+    text = let last = last-written (layout_view then.layout) then.has_lines then.waits
+        (string_bytes then.line) in cc (writes.text, last, given.text [], append-nil lines);
     has_lines = writes.has_lines ∙ given.some ∙ ap (λ b. first.has_lines || b) given.waits;
     waits = waits;
     layout_is = writes.layout_is ∙ given.layout_is;

@@ -1,26 +1,21 @@
 -- The longest beginning of a line that may be kept, words that are cut between their characters, and
 -- the first lines as they are.
-use Rattle.std.{proofs.lemmas.List.Sums.take_while-cons, specs.Prelude.chars}
-use Rattle.textwrap_display.proofs.Common.{AreShortened, CanCut, CanEnd, CowStr, IsCut}
-use Rattle.textwrap_display.proofs.Common.{IsKeptBeginning, IsShortened, Line, Slice, State, Text}
-use Rattle.textwrap_display.proofs.Common.{added, cow_str_bytes, encode_utf8, is_blank, line_bytes}
-use Rattle.textwrap_display.proofs.Common.{line_bytes-line_view, line_view, read-all}
-use Rattle.textwrap_display.proofs.Common.{text_width-nil, texts_of, units, word_width}
-use Rattle.textwrap_display.proofs.KeptWords.{BlankAhead, IsLatest, IsReadTo, ahead-blank}
-use Rattle.textwrap_display.proofs.KeptWords.{before-character, blank-ahead, latest-here}
-use Rattle.textwrap_display.proofs.KeptWords.{latest-none, latest-on, latest-past, may_end-boundary}
-use Rattle.textwrap_display.proofs.KeptWords.{may_end-here, may_end-other, may_end-within, read-le}
-use Rattle.textwrap_display.proofs.KeptWords.{read-whole, read-width, read_to-start, read_to-step}
-use Rattle.textwrap_display.proofs.KeptWords.{whole-read}
-use Rattle.textwrap_styles.proofs.SequenceTexts.{nil-whole}
-use Rattle.textwrap_text.proofs.Common.{Bool, IsCharBoundary, IsUtf8, List, [], ap, arith}
-use Rattle.textwrap_text.proofs.Common.{cases_Bool, columns, drop, drop_more, encode_utf8_all}
-use Rattle.textwrap_text.proofs.Common.{encodes-chars, eqb, eqb-true, false, false≢true, get_or}
-use Rattle.textwrap_text.proofs.Common.{inl, inr, length, length-map, length-take-le, map}
-use Rattle.textwrap_text.proofs.Common.{map-append, ne_eqb, next_of, not, refl, rules, shows, subst}
-use Rattle.textwrap_text.proofs.Common.{sum_by, sum_by-cons, sym, take, take-append-drop}
-use Rattle.textwrap_text.proofs.Common.{take_while, text_width, true, units_width, ℕ, ◌++◌, ◌+◌}
-use Rattle.textwrap_text.proofs.Common.{◌<◌, ◌∙◌, ◌∷◌, ◌≡◌, ◌≢◌, ◌≤◌}
+use Rattle.std.proofs.lemmas.List.Sums.{take_while-cons}
+use Rattle.textwrap_display.proofs.Common.{AreShortened, CanCut, CanEnd, CowStr, IsCut, IsKeptBeginning}
+use Rattle.textwrap_display.proofs.Common.{IsShortened, Line, Slice, State, Text, added, chars, cow_str_bytes}
+use Rattle.textwrap_display.proofs.Common.{encode_utf8, is_blank, line_bytes, line_bytes-line_view, line_view}
+use Rattle.textwrap_display.proofs.Common.{nil-whole, read-all, text_width-nil, texts_of, units, word_width}
+use Rattle.textwrap_display.proofs.KeptWords.{BlankAhead, IsLatest, IsReadTo, ahead-blank, before-character}
+use Rattle.textwrap_display.proofs.KeptWords.{blank-ahead, latest-here, latest-none, latest-on, latest-past}
+use Rattle.textwrap_display.proofs.KeptWords.{may_end-boundary, may_end-here, may_end-other, may_end-within}
+use Rattle.textwrap_display.proofs.KeptWords.{read-le, read-whole, read-width, read_to-start, read_to-step}
+use Rattle.{textwrap_display.proofs.KeptWords.whole-read, textwrap_text.proofs.Common.Bool}
+use Rattle.textwrap_text.proofs.Common.{IsCharBoundary, IsUtf8, List, [], ap, arith, cases_Bool, columns}
+use Rattle.textwrap_text.proofs.Common.{drop, drop_more, encode_utf8_all, encodes-chars, eqb, eqb-true, false}
+use Rattle.textwrap_text.proofs.Common.{false≢true, get_or, inl, length, length-map, length-take-le, map}
+use Rattle.textwrap_text.proofs.Common.{map-append, ne_eqb, next_of, not, refl, rules, shows, subst, sum_by}
+use Rattle.textwrap_text.proofs.Common.{sum_by-cons, sym, take, take-append-drop, take_while, text_width}
+use Rattle.textwrap_text.proofs.Common.{true, units_width, ℕ, ◌++◌, ◌+◌, ◌<◌, ◌∙◌, ◌∷◌, ◌≡◌, ◌≢◌, ◌≤◌}
 use Rattle.textwrap_text.proofs.Units.{Characters.shown-from, Reading.read-ahead}
 use Rattle.textwrap_text.specs.Characters.{characters_from, characters_of, shown}
 use Rattle.textwrap_text.specs.declared.characters.Character.{Character}
@@ -35,41 +30,23 @@ pub none-kept : (line : List ℕ) → CanEnd line 0
 none-kept line = (refl, nil-whole.1)
 
 -- what is found at the end is kept, where this is the room beside the placeholder
-pub found-kept : {room width : ℕ} {placeholder line : List ℕ} {n : ℕ}
-    → room + text_width placeholder ≡ width → IsFound room line (length line + 1) n
-    → IsKeptBeginning width placeholder line n
-found-kept {line = line} {n = n} is h =
-    let ends : CanEnd line n = elim h.fits [
-      | inl none ↦ rw none (none-kept line)
-      | inr (may, has) ↦ may
-    ] in
-    record {
-      within = may_end-within line n ends.0;
-      ends = ends;
-      room = elim h.fits [ inl none ↦ inl none | inr (may, has) ↦ inr (omega (arith, has, is)) ];
-      longest = λ m may has. h.latest m (omega (arith, may_end-within line m may.0)) may
-          (omega (arith, has, is));
-    }
+pub found-kept : {room width : ℕ} {placeholder line : List ℕ} {n : ℕ} → room + text_width placeholder ≡ width
+    → IsFound room line (length line + 1) n → IsKeptBeginning width placeholder line n
+found-kept {line = line} is h = search (rules, arith, none-kept line, may_end-within, h.latest)
 
 module _ {room : ℕ} {line : List ℕ} (utf8 : IsUtf8 line) {place : ℕ} {rest : List ℕ}
     {state : State} {taken kept : ℕ} {after_blank : Bool}
-    (read : IsReadTo line place rest state taken after_blank)
-    (found : IsFound room line place kept) where
+    (read : IsReadTo line place rest state taken after_blank) (found : IsFound room line place kept) where
   boundary : (m : ℕ) → CanEnd line m → IsCharBoundary line m
   boundary m may = may_end-boundary line m utf8 may.0
 
   ends-here : after_blank ≡ false → state ≡ Text → BlankAhead line place → CanEnd line place
-  ends-here some outside ahead =
-      (may_end-here line place (sym read.blank ∙ some) ahead, read-whole read outside)
+  ends-here some outside ahead = search (rules, arith, may_end-here, read-whole read, read.blank)
 
-  ends-other : (BlankAhead line place → after_blank ≡ false → state ≢ Text) → CanEnd line place
-      → place ≤ kept
+  ends-other : (BlankAhead line place → after_blank ≡ false → state ≢ Text) → CanEnd line place → place ≤ kept
   ends-other other may =
-      let start = may_end-other line place may.0 (λ ahead. sym read.blank ∙ elim (cases_Bool after_blank) [
-        | inl is ↦ is
-        | inr some ↦ absurd (other ahead some (whole-read read may.1))
-      ]) in
-      omega (arith, start)
+      let start = may_end-other line place may.0 (λ ahead.
+      grind (arith, cases_Bool, other ahead, whole-read read may.1)) in omega (arith, start)
 
   -- past the room nothing has room
   pub found-past : room < taken → IsFound room line (length line + 1) kept
@@ -86,8 +63,7 @@ module _ {room : ℕ} {line : List ℕ} (utf8 : IsUtf8 line) {place : ℕ} {rest
         (omega (arith, before, past)) (boundary m may)
 
     -- one may end before it
-    pub found-here : taken ≤ room → c ≡ 32 → after_blank ≡ false → state ≡ Text
-        → IsFound room line end place
+    pub found-here : taken ≤ room → c ≡ 32 → after_blank ≡ false → state ≡ Text → IsFound room line end place
     found-here has blank some outside = latest-here utf8 read found end within has (ends-here some outside
         (blank-ahead line utf8 place c after read.read.boundary whole (ap (λ x. eqb x 32) blank)))
 
@@ -111,8 +87,7 @@ module _ {room : ℕ} {line : List ℕ} (utf8 : IsUtf8 line) {place : ℕ} {rest
 
     -- it ends in a blank or in a sequence
     pub found-rest : (after_blank ≡ false → state ≢ Text) → IsFound room line (length line + 1) kept
-    found-rest other =
-        latest-on utf8 read found (length line + 1) last (λ has. ends-other (λ ahead. other))
+    found-rest other = latest-on utf8 read found (length line + 1) last (λ has. ends-other (λ ahead. other))
 
 -- ---- the first lines as they are, and the one after them cut
 
@@ -126,9 +101,7 @@ cut-lines breaks most width placeholder lines n line last number within is cut =
   line = line_bytes (line_view line);
   left_out = texts_of (drop (n + 1) lines);
   last = last;
-  lines_are =
-      let left = drop_more lines n line within in
-      grind (arith, take-append-drop n lines, map-append, left);
+  lines_are = grind (arith, take-append-drop n lines, map-append, drop_more lines n line within);
   count = grind (arith, length-map, length-take-le, within, number);
   cut = subst (λ l. IsShortened breaks width placeholder l last) (sym (line_bytes-line_view line)) cut;
   are = refl;
@@ -150,13 +123,7 @@ shown-plain s c shown = search (rules, arith, shown-outside)
 -- the first of these units takes columns where the first character is visible and does
 module _ (c : ℕ) (cs : List ℕ) where
   next-visible : 0 < units_width (take 1 (units (c ∷ cs))) → (eqb c 27 ≡ false) × (0 < columns c)
-  next-visible wide = elim (cases_Bool (eqb c 27)) [
-    | inl esc ↦ absurd (omega (arith, rw esc at wide))
-    | inr other ↦ (other, omega (arith, rw other at wide))
-  ]
-
-  visible-next : (eqb c 27 ≡ false) → 0 < columns c → 0 < units_width (take 1 (units (c ∷ cs)))
-  visible-next other wide = rw other (omega (arith, wide))
+  next-visible wide = search (rules, arith, cases_Bool)
 
 -- ---- the reader of a word's characters: where it stands, the characters ahead of it, and the last
 -- place before at which the word may be cut so that it has room
@@ -175,8 +142,7 @@ pub record IsReadWord (left : ℕ) (text : List ℕ) (ahead : List Character) (t
   pub word : word_width text ≡ taken + word_columns (shown ahead)
   pub found : IsFoundCut left text place cut
 
-pub read_word-start : (left : ℕ) (text : List ℕ) → IsUtf8 text
-    → IsReadWord left text (characters_of text) 0 0
+pub read_word-start : (left : ℕ) (text : List ℕ) → IsUtf8 text → IsReadWord left text (characters_of text) 0 0
 read_word-start left text utf8 = record {
   state = Text;
   place = 0;
@@ -191,13 +157,7 @@ read_word-start left text utf8 = record {
 -- what is found at the end
 cut-whole : (left : ℕ) (text : List ℕ) (n : ℕ) → IsFoundCut left text (length text + 1) n
     → IsCut left [] text 0 0 n
-cut-whole left text n h = record {
-  cut = elim h.fits [
-    | inl none ↦ inl none
-    | inr (may, room) ↦ inr (may, omega (arith, room, text_width-nil))
-  ];
-  latest = λ m may room. h.latest m (omega (arith, may.place.0)) may (omega (arith, room));
-}
+cut-whole left text n h = search (rules, arith, text_width-nil, h.latest)
 
 -- it stands before the next of them
 record IsTurn (left : ℕ) (text : List ℕ) (c : Character) (ahead : List Character)
@@ -221,8 +181,7 @@ turn left text c ahead taken cut h = by (chars h.rest) refl h.are
     by [] none is = absurd (omega (arith, ap length is))
     by (d ∷ ds) some is =
         let after = encode_utf8_all ds in
-        let e : h.rest ≡ encode_utf8 d ++ after =
-        sym (encodes-chars h.rest h.read.read.utf8) ∙ ap encode_utf8_all some in
+        let e : h.rest ≡ encode_utf8 d ++ after = cc (encodes-chars h.rest h.read.read.utf8, some) in
         let more : ds ≡ chars after = ap (drop 1) (sym some ∙ read-ahead h.read.read d after e) in
         rw (ap (λ l. get_or l 0 c) is, ap (drop 1) is) (record {
           state = h.state;
@@ -260,8 +219,7 @@ module _ {left : ℕ} {text : List ℕ} (utf8 : IsUtf8 text) {c : Character} {ah
 
   -- the units that follow the place begin with this character
   first : units (chars (drop c.at text)) ≡ units (c.ch ∷ chars t.after)
-  first = ap (λ l. units (chars l)) t.read.read.place
-      ∙ ap units (read-ahead t.read.read c.ch t.after t.is)
+  first = ap (λ l. units (chars l)) t.read.read.place ∙ ap units (read-ahead t.read.read c.ch t.after t.is)
 
   before_end : (m : ℕ) → m < end_of → CanCut text 0 m → m ≤ c.at
   before_end m before may = before-character text utf8 c.at c.ch t.after t.read.read.boundary
@@ -270,12 +228,8 @@ module _ {left : ℕ} {text : List ℕ} (utf8 : IsUtf8 text) {c : Character} {ah
   -- where a word may be cut directly before this character, it is visible and has columns
   before_it : CanCut text 0 c.at → (c.is_visible ≡ true) × (0 < columns c.ch) × (0 < taken)
   before_it may =
-      let next = next-visible c.ch (chars t.after)
-      (subst (λ us. 0 < units_width (take 1 us)) first may.before) in (
-        t.shown ∙ rw (whole-read t.read may.whole, next.0) refl,
-        next.1,
-        omega (arith, may.behind, read-width utf8 t.read),
-      )
+      let next = next-visible c.ch (chars t.after) (rw first at may.before) in
+      (t.shown ∙ rw (whole-read t.read may.whole, next.0) refl, next.1, omega (arith, read-width utf8 t.read))
 
   -- it is no place for a cut
   pub cut-past : (c.is_visible ≡ true → 0 < columns c.ch → 0 < taken → taken ≤ left → ⊥)
@@ -290,8 +244,7 @@ module _ {left : ℕ} {text : List ℕ} (utf8 : IsUtf8 text) {c : Character} {ah
     after = omega arith;
     behind = omega (arith, some, read-width utf8 t.read, text_width-nil);
     place = t.read.read.boundary;
-    before = subst (λ us. 0 < units_width (take 1 us)) (sym first)
-        (visible-next c.ch (chars t.after) (shown-plain t.state c.ch (sym t.shown ∙ is)) wide);
+    before = rw (first, shown-plain t.state c.ch (sym t.shown ∙ is)) (omega (arith, wide));
     whole = read-whole t.read (outside is);
   })
 
@@ -313,17 +266,14 @@ module _ {left : ℕ} {text : List ℕ} (utf8 : IsUtf8 text) {c : Character} {ah
   -- ---- one turn: over a character that is not visible, over one of the word, or to its end
 
   pub turn-hidden : c.is_visible ≡ false → IsReadWord left text ahead taken cut
-  turn-hidden is =
-      let none : added t.state c.ch ≡ 0 = rw (sym t.shown ∙ is) refl in
-      read_word-next taken cut (omega (arith, none)) (rw is at h.word)
+  turn-hidden is = read_word-next taken cut (rw (sym t.shown ∙ is) (omega arith)) (rw is at h.word)
       (cut-past (λ visible wide some room. absurd (false≢true (sym is ∙ visible))))
 
   word-more : c.is_visible ≡ true → c.ch ≢ 32
       → word_width text ≡ taken + columns c.ch + word_columns (shown ahead)
   word-more is other =
-      let plain = ne_eqb c.ch 32 other in
       let rest = sum_by-cons columns c.ch (take_while (λ d. not (is_blank d)) (shown ahead)) in
-      omega (arith, rw (is, take_while-cons, plain) at h.word, rest)
+      omega (arith, rw (is, take_while-cons, ne_eqb c.ch 32 other) at h.word, rest)
 
   pub turn-word : (more new : ℕ) → c.is_visible ≡ true → c.ch ≢ 32 → more ≡ taken + columns c.ch
       → IsFoundCut left text end_of new → IsReadWord left text ahead more new
@@ -336,13 +286,11 @@ module _ {left : ℕ} {text : List ℕ} (utf8 : IsUtf8 text) {c : Character} {ah
 
   pub turn-full : (new : ℕ) → c.is_visible ≡ true → left < taken + columns c.ch
       → IsFoundCut left text end_of new → IsCut left [] text 0 0 new
-  turn-full new is over found =
-      cut-whole left text new (latest-past utf8 past found (length text + 1) (λ m may. may.place)
-      (omega (arith, over, adds is)))
+  turn-full new is over found = cut-whole left text new
+      (latest-past utf8 past found (length text + 1) (λ m may. may.place) (omega (arith, over, adds is)))
 
   pub turn-end : c.is_visible ≡ true → c.ch ≡ 32 → word_width text ≡ taken
-  turn-end is blank =
-      omega (arith, rw (is, take_while-cons, ap (λ x. eqb x 32) blank) at h.word)
+  turn-end is blank = omega (arith, rw (is, take_while-cons, ap (λ x. eqb x 32) blank) at h.word)
 
 -- at the end of the text
 pub word-all : (left : ℕ) (text : List ℕ) (taken cut : ℕ) → IsReadWord left text [] taken cut

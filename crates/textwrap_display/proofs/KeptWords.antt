@@ -1,32 +1,28 @@
 -- The beginning of a line that is kept: its words, where it may end, and the reader that finds it,
 -- which is outside of sequences where the beginning ends in none.
-use Rattle.std.{proofs.Math.Seq.take-add, proofs.lemmas.Str.IsCharBoundary-end, specs.Prelude.chars}
+use Rattle.std.proofs.{Math.Seq.take-add, lemmas.Str.IsCharBoundary-end}
 use Rattle.textwrap_display.proofs.Common.{AreBlanks, IsCharBoundary-start, IsRead, IsWhole, State}
-use Rattle.textwrap_display.proofs.Common.{Text, added, can_end, chunks, chunks-from, encode_ascii}
-use Rattle.textwrap_display.proofs.Common.{encode_utf8, ends, is_blank, is_cut, map-map, read-next}
-use Rattle.textwrap_display.proofs.Common.{read-start, units, units-append, word_of, word_texts}
+use Rattle.textwrap_display.proofs.Common.{Text, added, can_end, chars, chunks, chunks-from}
+use Rattle.textwrap_display.proofs.Common.{encode_ascii, encode_utf8, ends, is_blank, is_cut, map-map}
+use Rattle.textwrap_display.proofs.Common.{read-next, read-start, units, units-append, word_texts}
 use Rattle.textwrap_layout.specs.Text.{HasWholeSequences}
 use Rattle.textwrap_text.proofs.Common.{All, All-cons, All-head, All-nil, All-tail, AreUnits, Bool}
-use Rattle.textwrap_text.proofs.Common.{IsCharBoundary, IsUncut, IsUtf8, IsUtf8-take, List}
-use Rattle.textwrap_text.proofs.Common.{Sequence, TextUnit, Visible, [], add-zero, ap, append-nil}
-use Rattle.textwrap_text.proofs.Common.{append_assoc, arith, cases_Bool, cases_lt, characters}
-use Rattle.textwrap_text.proofs.Common.{chars-append, chars-nil, columns, drop, drop_all, eqb}
-use Rattle.textwrap_text.proofs.Common.{eqb-false, eqb-true, escape, false, flat_map}
-use Rattle.textwrap_text.proofs.Common.{flat_map-append, get_or, get_or-drop, get_or_past, inl, inr}
-use Rattle.textwrap_text.proofs.Common.{length, length-map, length-take-le, length_push, map}
-use Rattle.textwrap_text.proofs.Common.{nat_tests, next_of, refl, reverse-append, rules, subst}
-use Rattle.textwrap_text.proofs.Common.{sum_by, sum_by-append, sym, take, take-append-drop}
-use Rattle.textwrap_text.proofs.Common.{take-append-le, take_all, take_at, text_width, true}
-use Rattle.textwrap_text.proofs.Common.{visible_of, ℕ, ◌++◌, ◌+◌, ◌-◌, ◌<◌, ◌||◌, ◌∙◌, ◌∷◌, ◌≡◌}
-use Rattle.textwrap_text.proofs.{Common.◌≢◌, Common.◌≤◌, Common.◌⊎◌, Lists.Parts.take_slice}
-use Rattle.textwrap_text.proofs.Texts.{ascii-here, ends-within, some-bytes, starts-within}
-use Rattle.textwrap_text.proofs.Units.Reading.{chars-push, columns-printable, columns_in}
-use Rattle.textwrap_text.proofs.Units.Reading.{columns_in-step, text_width-le, units_in-inside}
-use Rattle.textwrap_text.proofs.Units.Texts.{IsInUnits-units, units-tile, units_unique}
-use Rattle.textwrap_text.specs.Blanks.{final_blanks, trimmed_len, without_final_blanks}
-use Rattle.textwrap_text.specs.Units.{IsOpen, visible}
-use Rattle.textwrap_words.proofs.Word.Ahead.{character-within, plain-bytes}
-use Rattle.textwrap_words.proofs.Word.Texts.{final_blanks-blank}
+use Rattle.textwrap_text.proofs.Common.{IsCharBoundary, IsUncut, IsUtf8, IsUtf8-take, List, Sequence}
+use Rattle.textwrap_text.proofs.Common.{TextUnit, Visible, [], add-zero, ap, append-nil, append_assoc, arith}
+use Rattle.textwrap_text.proofs.Common.{cases_Bool, cases_lt, characters, chars-append, chars-nil, columns}
+use Rattle.textwrap_text.proofs.Common.{drop, drop_all, eqb, eqb-false, eqb-true, escape, false, flat_map}
+use Rattle.textwrap_text.proofs.Common.{flat_map-append, get_or, get_or-drop, get_or_past, inl, inr, length}
+use Rattle.textwrap_text.proofs.Common.{length-map, length-take-le, length_push, map, nat_tests, next_of}
+use Rattle.textwrap_text.proofs.Common.{refl, reverse-append, rules, subst, sum_by, sum_by-append, sym, take}
+use Rattle.textwrap_text.proofs.Common.{take-append-drop, take-append-le, take_all, take_at, text_width, true}
+use Rattle.textwrap_text.proofs.Common.{visible_of, ℕ, ◌++◌, ◌+◌, ◌-◌, ◌<◌, ◌||◌, ◌∙◌, ◌∷◌, ◌≡◌, ◌≢◌, ◌≤◌}
+use Rattle.textwrap_text.proofs.{Common.◌⊎◌, Lists.Parts.take_slice, Texts.ascii-here, Texts.ends-within}
+use Rattle.textwrap_text.proofs.{Texts.some-bytes, Texts.starts-within, Units.Reading.chars-push}
+use Rattle.textwrap_text.proofs.Units.Reading.{columns-printable, columns_in, columns_in-step, text_width-le}
+use Rattle.textwrap_text.proofs.Units.{Reading.units_in-inside, Texts.IsInUnits-units, Texts.units-tile}
+use Rattle.textwrap_text.{proofs.Units.Texts.units_unique, specs.Blanks.final_blanks}
+use Rattle.textwrap_text.specs.{Blanks.trimmed_len, Blanks.without_final_blanks, Units.IsOpen, Units.visible}
+use Rattle.textwrap_words.proofs.Word.{Ahead.character-within, Ahead.plain-bytes, Texts.final_blanks-blank}
 
 -- ---- where a beginning of a line may end: these places are within the line, and characters end
 -- there
@@ -46,8 +42,7 @@ may_end-cases line n may = grind (arith, cases_Bool, eqb-true)
 pub may_end-within : (line : List ℕ) (n : ℕ) → can_end line n ≡ true → n ≤ length line
 may_end-within line n may = grind (arith, may_end-cases, get_or_past, cases_lt)
 
-pub may_end-boundary : (line : List ℕ) (n : ℕ) → IsUtf8 line → can_end line n ≡ true
-    → IsCharBoundary line n
+pub may_end-boundary : (line : List ℕ) (n : ℕ) → IsUtf8 line → can_end line n ≡ true → IsCharBoundary line n
 may_end-boundary line n utf8 may =
     search (rules, arith, may_end-cases, IsCharBoundary-start, IsCharBoundary-end, eqb-true, may_end-within)
 
@@ -69,9 +64,8 @@ module _ (line : List ℕ) (utf8 : IsUtf8 line) (place c : ℕ) (after : List �
   byte-blank k from below = elim (cases_Bool (eqb c 32)) [
     | inl blank ↦ rw blank (
         let low : c < 128 = omega (arith, eqb-true c 32 blank) in
-        let first : k ≡ place = omega (arith, from, below, ap length (encode_ascii c low)) in
-        ap (λ n. is_blank (get_or line n 0)) first
-        ∙ ap is_blank (ascii-here line place c after is low) ∙ blank)
+        let first : k ≡ place = omega (arith, ap length (encode_ascii c low)) in
+        rw first (ap is_blank (ascii-here line place c after is low) ∙ blank))
     | inr other ↦ rw other (plain-bytes line utf8 place c after here is (eqb-false c 32 other) k
         from below (omega (arith, below, ends-within line place c after is)))
   ]
@@ -86,16 +80,10 @@ module _ (line : List ℕ) (utf8 : IsUtf8 line) (place c : ℕ) (after : List �
   ahead-blank ahead = search (rules, arith, first-blank, starts-within)
 
   -- inside it nothing ends
-  pub before-character : (m : ℕ) → m < place + length (encode_utf8 c) → IsCharBoundary line m
-      → m ≤ place
-  before-character m before cut = elim (cases_lt place m) [
-    | inl later ↦
-        absurd (omega (arith, before, character-within line utf8 place c after here is m later cut))
-    | inr up ↦ up
-  ]
+  pub before-character : (m : ℕ) → m < place + length (encode_utf8 c) → IsCharBoundary line m → m ≤ place
+  before-character m before cut = grind (arith, character-within line utf8 place c after here is m)
 
-  pub after_blank-past : (end : ℕ) → end ≡ place + length (encode_utf8 c)
-      → is_after_blank line end ≡ eqb c 32
+  pub after_blank-past : (end : ℕ) → end ≡ place + length (encode_utf8 c) → is_after_blank line end ≡ eqb c 32
   after_blank-past end past = search (rules, arith, byte-blank, some-bytes, cases_Bool)
 
 -- ---- the words of a line's beginning, where blanks follow it, are the first words of the line
@@ -105,8 +93,7 @@ abbrev pub BlankFollows : List ℕ → Type 0
 BlankFollows ys = (ys ≡ []) ⊎ (is_blank (get_or ys 0 0) ≡ true)
 
 -- a chunk that begins with a blank is blanks
-uncut-blanks : (y : ℕ) (part : List ℕ) → is_blank y ≡ true → IsUncut (y ∷ part)
-    → AreBlanks (y ∷ part)
+uncut-blanks : (y : ℕ) (part : List ℕ) → is_blank y ≡ true → IsUncut (y ∷ part) → AreBlanks (y ∷ part)
 uncut-blanks y [] blank uncut = search (rules, arith, All-cons, All-nil)
 uncut-blanks y (d ∷ part) blank uncut =
     let next : is_blank d ≡ true = grind (arith, cases_Bool, uncut [] part y d refl) in
@@ -114,28 +101,21 @@ uncut-blanks y (d ∷ part) blank uncut =
     (λ before after c e is. uncut (y ∷ before) after c e (ap (λ l. y ∷ l) is)))
 
 -- blanks at the end of a text are final ones
-pub trimmed_len-blanks : (text bs : List ℕ) → AreBlanks bs
-    → trimmed_len (text ++ bs) ≡ trimmed_len text
+pub trimmed_len-blanks : (text bs : List ℕ) → AreBlanks bs → trimmed_len (text ++ bs) ≡ trimmed_len text
 trimmed_len-blanks text [] blanks = ap trimmed_len (append-nil text)
 trimmed_len-blanks text (b ∷ bs) blanks =
     let byte = eqb-true b 32 (All-head (λ c. is_blank c ≡ true) b bs blanks) in
-    let rest = All-tail (λ c. is_blank c ≡ true) b bs blanks in
-    let others = trimmed_len-blanks (text ++ b ∷ []) bs rest in
+    let others = trimmed_len-blanks (text ++ b ∷ []) bs (All-tail (λ c. is_blank c ≡ true) b bs blanks) in
     grind (arith, append_assoc, byte, others, reverse-append, length_push)
 
 trimmed-blanks : (text bs : List ℕ) → AreBlanks bs
     → without_final_blanks (text ++ bs) ≡ without_final_blanks text
 trimmed-blanks text bs blanks = grind (arith, trimmed_len-blanks, take-append-le)
 
-word_texts-parts : (parts : List (List ℕ))
-    → map (λ w. w.word) (map word_of parts) ≡ map without_final_blanks parts
-word_texts-parts parts = map-map (λ w. w.word) word_of parts
-
 -- blanks at the end of a text stay final ones behind one more byte
 trimmed-cons : (c : ℕ) (part : List ℕ)
     → without_final_blanks (c ∷ part) ≡ without_final_blanks (c ∷ without_final_blanks part)
-trimmed-cons c part =
-    ap (λ l. without_final_blanks (c ∷ l)) (sym (take-append-drop (trimmed_len part) part))
+trimmed-cons c part = ap (λ l. without_final_blanks (c ∷ l)) (sym (take-append-drop (trimmed_len part) part))
     ∙ trimmed-blanks (c ∷ without_final_blanks part) (final_blanks part) (final_blanks-blank part)
 
 first-texts : (c : ℕ) (cs ys : List ℕ) → BlankFollows ys
@@ -152,26 +132,23 @@ first-texts c (d ∷ cs) ys follows =
     let h = chunks-from d cs in
     let k = chunks-from d (cs ++ ys) in
     let rest = rw (h.shape, k.shape) at (first-texts d cs ys follows) in
-    let first = trimmed-cons c (d ∷ h.first) in
-    let same = trimmed-cons c (d ∷ k.first) in
     elim (cases_Bool (is_cut c d)) [
       | inl cut ↦ rw (h.shape, k.shape, cut) (ap (λ l. without_final_blanks (c ∷ []) ∷ l) rest)
-      | inr uncut ↦ rw (h.shape, k.shape, uncut) (cc (rest, first, same))
+      | inr uncut ↦ rw (h.shape, k.shape, uncut)
+          (cc (rest, trimmed-cons c (d ∷ h.first), trimmed-cons c (d ∷ k.first)))
     ]
 
 word_texts-front : (xs ys : List ℕ) → BlankFollows ys
     → take (length (word_texts xs)) (word_texts (xs ++ ys)) ≡ word_texts xs
 word_texts-front [] ys follows = refl
-word_texts-front (c ∷ cs) ys follows =
-    grind (arith, length-map, word_texts-parts, first-texts c cs ys follows)
+word_texts-front (c ∷ cs) ys follows = grind (arith, length-map, map-map, first-texts c cs ys follows)
 
 pub word_texts-take : (line : List ℕ) (n : ℕ) → can_end line n ≡ true
     → take (length (word_texts (take n line))) (word_texts line) ≡ word_texts (take n line)
 word_texts-take line n may = elim (may_end-cases line n may) [
   | inl none ↦ rw none refl
   | inr (plain, past) ↦
-      let first = get_or-drop n line 0 0 ∙ ap (λ k. get_or line k 0) (add-zero n) in
-      let follows : BlankFollows (drop n line) = search (rules, arith, past, drop_all, first) in
+      let follows : BlankFollows (drop n line) = search (rules, arith, drop_all, get_or-drop, add-zero) in
       rw take-append-drop at (word_texts-front (take n line) (drop n line) follows)
 ]
 
@@ -182,16 +159,14 @@ word_texts-take line n may = elim (may_end-cases line n may) [
 pub record IsReadTo (line : List ℕ) (place : ℕ) (rest : List ℕ) (state : State) (taken : ℕ)
     (after_blank : Bool) : Type 0 where
   pub read : IsRead line place rest
-  pub columns : (ds : List ℕ)
-      → columns_in Text (chars (take place line) ++ ds) ≡ taken + columns_in state ds
+  pub columns : (ds : List ℕ) → columns_in Text (chars (take place line) ++ ds) ≡ taken + columns_in state ds
   pub blank : after_blank ≡ is_after_blank line place
 
 pub read_to-start : (line : List ℕ) → IsUtf8 line → IsReadTo line 0 line Text 0 true
 read_to-start line utf8 = search (rules, arith, read-start, chars-nil)
 
 module _ {line : List ℕ} (utf8 : IsUtf8 line) {place : ℕ} {rest : List ℕ} {state : State}
-    {taken : ℕ} {after_blank : Bool}
-    (h : IsReadTo line place rest state taken after_blank) where
+    {taken : ℕ} {after_blank : Bool} (h : IsReadTo line place rest state taken after_blank) where
   pub read_to-step : (end c : ℕ) (after : List ℕ) → rest ≡ encode_utf8 c ++ after
       → end ≡ place + length (encode_utf8 c)
       → IsReadTo line end after (next_of state c) (taken + added state c) (eqb c 32)
@@ -199,8 +174,7 @@ module _ {line : List ℕ} (utf8 : IsUtf8 line) {place : ℕ} {rest : List ℕ} 
       let next = read-next h.read c after is end past in
       let whole = h.read.place ∙ is in
       let front = take place line in
-      let bytes : take end line ≡ front ++ encode_utf8 c =
-      rw (past, take-add, whole) (ap (λ l. front ++ l) (take_at (encode_utf8 c) after _ refl)) in
+      let bytes : take end line ≡ front ++ encode_utf8 c = grind (arith, take-add, whole, take_at) in
       let more = ap chars bytes ∙ chars-push front c (IsUtf8-take line place utf8 h.read.boundary)
       (subst IsUtf8 bytes (IsUtf8-take line end utf8 next.boundary)) in
       record {
@@ -210,8 +184,7 @@ module _ {line : List ℕ} (utf8 : IsUtf8 line) {place : ℕ} {rest : List ℕ} 
       }
 
   pub read-width : text_width (take place line) ≡ taken
-  read-width = ap (columns_in Text) (sym (append-nil (chars (take place line)))) ∙ h.columns []
-      ∙ add-zero taken
+  read-width = cc (h.columns [], append-nil (chars (take place line)), add-zero taken)
 
   pub read-le : taken ≤ length line
   read-le = search (rules, arith, read-width, text_width-le, IsUtf8-take, length-take-le)
@@ -233,8 +206,7 @@ pub record IsLatest (May : ℕ → Type 0) (room : ℕ) (line : List ℕ) (place
   pub latest : (m : ℕ) → m < place → May m → HasRoom room line m → m ≤ kept
 
 pub latest-none : (May : ℕ → Type 0) (room : ℕ) (line : List ℕ) → IsLatest May room line 0 0
-latest-none May room line =
-    record { fits = inl refl; latest = λ m before may has. absurd (omega (arith, before)) }
+latest-none May room line = record { fits = inl refl; latest = λ m before may has. omega arith }
 
 module _ {May : ℕ → Type 0} {room : ℕ} {line : List ℕ} (utf8 : IsUtf8 line) {place : ℕ}
     {rest : List ℕ} {state : State} {taken kept : ℕ} {after_blank : Bool}
@@ -242,33 +214,23 @@ module _ {May : ℕ → Type 0} {room : ℕ} {line : List ℕ} (utf8 : IsUtf8 li
     (found : IsLatest May room line place kept) (end : ℕ) where
   latest-until : ((m : ℕ) → place ≤ m → m < end → May m → HasRoom room line m → m ≤ kept)
       → IsLatest May room line end kept
-  latest-until none = record {
-    fits = found.fits;
-    latest = λ m before may has. elim (cases_lt m place) [
-      | inl less ↦ found.latest m less may has
-      | inr later ↦ none m later before may has
-    ];
-  }
+  latest-until none =
+      record { fits = found.fits; latest = λ m before may has. grind (arith, found.latest m, none m) }
 
   -- past the room nothing has room
-  pub latest-past : ((m : ℕ) → May m → IsCharBoundary line m) → room < taken
-      → IsLatest May room line end kept
+  pub latest-past : ((m : ℕ) → May m → IsCharBoundary line m) → room < taken → IsLatest May room line end kept
   latest-past boundary over = latest-until (λ m later before may has.
       absurd (omega (arith, has, over, read-more utf8 read m later (boundary m may))))
 
   -- where no place between may be one
   module _ (within : (m : ℕ) → m < end → May m → m ≤ place) where
     pub latest-here : taken ≤ room → May place → IsLatest May room line end place
-    latest-here has may = record {
-      fits = inr (may, omega (arith, has, read-width utf8 read));
-      latest = λ m before own room. within m before own;
-    }
+    latest-here has may = search (rules, arith, within, read-width utf8 read)
 
     pub latest-on : (taken ≤ room → May place → place ≤ kept) → IsLatest May room line end kept
     latest-on none = latest-until (λ m later before may has.
         let here : m ≡ place = omega (arith, later, within m before may) in
-        let wide = ap (λ n. text_width (take n line)) here in
-        omega (arith, here, none (omega (arith, has, wide, read-width utf8 read)) (subst May here may)))
+        grind (arith, here, none, read-width utf8 read))
 
 -- ---- units of which the last has no end
 
@@ -283,13 +245,8 @@ whole-or-open : (us : List TextUnit) → AreUnits us → All IsWhole us ⊎ Ends
 whole-or-open [] are = inl (All-nil IsWhole)
 whole-or-open (u ∷ []) (inl whole) = inl (All-cons IsWhole u [] whole (All-nil IsWhole))
 whole-or-open (Visible c ∷ []) (inr impossible) = absurd impossible
-whole-or-open (Sequence cs ∷ []) (inr (body, is, none)) = inr (record {
-  front = [];
-  body = body;
-  are = ap (λ l. Sequence l ∷ []) is;
-  whole = All-nil IsWhole;
-  opens = none;
-})
+whole-or-open (Sequence cs ∷ []) (inr (body, is, none)) =
+    inr (record { front = []; body = body; are = rw is; whole = All-nil IsWhole; opens = none })
 whole-or-open (u ∷ v ∷ us) (whole, rest) = elim (whole-or-open (v ∷ us) rest) [
   | inl all ↦ inl (All-cons IsWhole u (v ∷ us) whole all)
   | inr h ↦ inr (record {
@@ -309,8 +266,7 @@ units-push (v ∷ []) u whole is = search (rules, arith, All-head)
 units-push (v ∷ w ∷ us) u whole is = search (rules, arith, All-head, All-tail, units-push (w ∷ us))
 
 -- one more character belongs to the last one, whether it ends it or not
-longer-unit : (body : List ℕ) (c : ℕ)
-    → ((k : ℕ) → k ≤ length body → ends (take k body) ≡ false)
+longer-unit : (body : List ℕ) (c : ℕ) → ((k : ℕ) → k ≤ length body → ends (take k body) ≡ false)
     → IsWhole (Sequence (escape ∷ (body ++ c ∷ []))) ⊎ IsOpen (Sequence (escape ∷ (body ++ c ∷ [])))
 longer-unit body c opens =
     let more = body ++ c ∷ [] in
@@ -319,14 +275,7 @@ longer-unit body c opens =
     λ k within. ap ends (take-append-le k body (c ∷ []) within) ∙ opens k within in
     elim (cases_Bool (ends more)) [
       | inl ended ↦ inl (more, refl, ended, λ k below. earlier k (omega (arith, below, len)))
-      | inr on ↦ inr (
-        more,
-        refl,
-        λ k within. elim (cases_lt (length body) k) [
-          | inl past ↦ ap ends (take_all k more (omega (arith, past, len))) ∙ on
-          | inr up ↦ earlier k up
-        ],
-      )
+      | inr on ↦ inr (more, refl, λ k within. search (rules, arith, cases_lt, earlier, take_all))
     ]
 
 open-takes : (cs : List ℕ) (c : ℕ) → EndsOpen (units cs) → visible (cs ++ c ∷ []) ≡ visible cs
@@ -348,8 +297,7 @@ letter-outside : columns_in Text (120 ∷ []) ≡ 1
 letter-outside = omega (arith, columns-printable 120 (omega arith, omega arith))
 
 letter-inside : (s : State) → s ≢ Text → columns_in s (120 ∷ []) ≡ 0
-letter-inside s inside = ap (λ us. sum_by columns (flat_map visible_of us))
-    (units_in-inside s 120 [] inside)
+letter-inside s inside = ap (λ us. sum_by columns (flat_map visible_of us)) (units_in-inside s 120 [] inside)
 
 module _ {line : List ℕ} {place : ℕ} {rest : List ℕ} {state : State} {taken : ℕ}
     {after_blank : Bool} (h : IsReadTo line place rest state taken after_blank) where
@@ -359,11 +307,8 @@ module _ {line : List ℕ} {place : ℕ} {rest : List ℕ} {state : State} {take
       elim (whole-or-open (units cs) (IsInUnits-units cs).1) [
         | inl whole ↦ whole
         | inr opens ↦
-            let own = ap (columns_in Text) (append-nil cs) in
             let none = ap (sum_by columns) (open-takes cs 120 opens) in
-            let one = ap (λ s. columns_in s (120 ∷ [])) is in
-            let nothing : columns_in state [] ≡ 0 = refl in
-            absurd (omega (arith, h.columns (120 ∷ []), h.columns [], own, none, one, letter-outside))
+            absurd (grind (arith, h.columns (120 ∷ []), h.columns [], append-nil cs, none, is, letter-outside))
       ]
 
   pub whole-read : HasWholeSequences (take place line) → state ≡ Text
@@ -373,8 +318,7 @@ module _ {line : List ℕ} {place : ℕ} {rest : List ℕ} {state : State} {take
         | inl is ↦ is
         | inr inside ↦
             let own = ap (columns_in Text) (append-nil cs) in
-            let one : columns_in Text (cs ++ 120 ∷ [])
-            ≡ columns_in Text cs + columns_in Text (120 ∷ []) =
+            let one : columns_in Text (cs ++ 120 ∷ []) ≡ columns_in Text cs + columns_in Text (120 ∷ []) =
             grind (arith, units-append cs (120 ∷ []) whole, flat_map-append, sum_by-append) in
             absurd (omega (arith, h.columns (120 ∷ []), h.columns [], own, one, letter-outside, letter-inside state inside))
       ]

@@ -1,31 +1,27 @@
 -- Lines that are cut: whole words are kept, and of the next word, which is a text by itself, what has
 -- room; what closes that, what the lines show, and their widths. Only one number of bytes may be kept.
 use Rattle.std.proofs.lemmas.{List.Sums.prefix_len-le-length, Str.IsCharBoundary-from_rest}
-use Rattle.std.specs.Prelude.{chars}
-use Rattle.textwrap_display.proofs.Common.{CanCut, IsCut, IsKeptBeginning, IsShortened, IsWhole}
-use Rattle.textwrap_display.proofs.Common.{IsWholeText, Line, closing, concat, indent_len, is_blank}
-use Rattle.textwrap_display.proofs.Common.{line_bytes, sequences, text_width-append, text_width-nil}
-use Rattle.textwrap_display.proofs.{Common.units, Common.word_width, KeptLines.none-kept}
-use Rattle.textwrap_display.proofs.{KeptWords.may_end-boundary, Widths.indent-blanks}
+use Rattle.textwrap_display.proofs.Common.{CanCut, IsCut, IsKeptBeginning, IsShortened, IsWhole, IsWholeText}
+use Rattle.textwrap_display.proofs.Common.{Line, chars, closing, concat, indent_len, is_blank, line_bytes}
+use Rattle.textwrap_display.proofs.Common.{sequences, text_width-append, text_width-nil, units, word_width}
+use Rattle.textwrap_display.proofs.{KeptLines.none-kept, KeptWords.may_end-boundary, Widths.indent-blanks}
 use Rattle.textwrap_display.specs.Shortening.{IsKeptLength, LeavesRoom, is_too_wide}
 use Rattle.textwrap_layout.{proofs.Paragraph.LeftOff.blanks-utf8, specs.Text.HasWholeSequences}
-use Rattle.textwrap_lines.proofs.Text.Printed.{blanks-whole}
-use Rattle.textwrap_styles.proofs.{PenStyles.ended, SequenceTexts.IsSequence}
-use Rattle.textwrap_styles.proofs.SequenceTexts.{closing-is, closing-sequences, closing_sequences}
-use Rattle.textwrap_styles.proofs.SequenceTexts.{concat-units, concat-whole, none-visible}
+use Rattle.{textwrap_lines.proofs.Text.Printed.blanks-whole, textwrap_styles.proofs.PenStyles.ended}
+use Rattle.textwrap_styles.proofs.SequenceTexts.{IsSequence, closing-is, closing-sequences}
+use Rattle.textwrap_styles.proofs.SequenceTexts.{closing_sequences, concat-units, concat-whole, none-visible}
 use Rattle.textwrap_styles.proofs.SequenceTexts.{penned-append, sequence_units, sequences-show}
 use Rattle.textwrap_styles.proofs.SequenceTexts.{text_units-append, units-again, whole_text-append}
 use Rattle.textwrap_styles.specs.Penned.{penned_text, penned_units, plain_rendition, rendition_of}
 use Rattle.textwrap_styles.specs.Styled.{EndsPlain}
-use Rattle.textwrap_text.proofs.Common.{All, All-append, Bool, IsCharBoundary}
-use Rattle.textwrap_text.proofs.Common.{IsCharBoundary-from_drop, IsCharBoundary-from_take, IsUtf8}
-use Rattle.textwrap_text.proofs.Common.{IsUtf8-drop, IsUtf8-take, List, [], and_parts, ap}
-use Rattle.textwrap_text.proofs.Common.{append-nil, arith, cases_lt, drop, drop-drop}
-use Rattle.textwrap_text.proofs.Common.{flat_map-append, inl, inr, length, length-drop}
+use Rattle.textwrap_text.proofs.Common.{All, All-append, Bool, IsCharBoundary, IsCharBoundary-from_drop}
+use Rattle.textwrap_text.proofs.Common.{IsCharBoundary-from_take, IsUtf8, IsUtf8-drop, IsUtf8-take}
+use Rattle.textwrap_text.proofs.Common.{List, [], and_parts, ap, append-nil, arith, cases_lt, drop}
+use Rattle.textwrap_text.proofs.Common.{drop-drop, flat_map-append, inl, inr, length, length-drop}
 use Rattle.textwrap_text.proofs.Common.{length-prefix_len, ltb-false, ltb-true, refl, rules, subst}
 use Rattle.textwrap_text.proofs.Common.{sym, take, take-add, take-append-drop, take_at, text_width}
-use Rattle.textwrap_text.proofs.Common.{true, units_width, ℕ, ◌&&◌, ◌++◌, ◌+◌, ◌-◌, ◌<◌, ◌∙◌, ◌≡◌}
-use Rattle.textwrap_text.proofs.{Common.◌≢◌, Common.◌≤◌, Common.◌⊎◌, Lists.Parts.all-right}
+use Rattle.textwrap_text.proofs.Common.{true, ℕ, ◌&&◌, ◌++◌, ◌+◌, ◌-◌, ◌<◌, ◌∙◌, ◌≡◌, ◌≢◌, ◌≤◌, ◌⊎◌}
+use Rattle.textwrap_text.proofs.Lists.Parts.{all-right}
 
 -- ---- a word in a line, as a text by itself
 
@@ -41,53 +37,34 @@ module _ {width : ℕ} {placeholder line : List ℕ} (utf8 : IsUtf8 line) {words
   abbrev gap : List ℕ
   gap = take (indent_len (drop words line)) (drop words line)
 
-  front-is : front ≡ take words line ++ gap
-  front-is = ap (λ n. take n line) next ∙ take-add words (indent_len (drop words line)) line
-
   words-whole : IsWholeText (take words line)
-  words-whole = (
-    IsUtf8-take line words utf8 (may_end-boundary line words utf8 kept.ends.0),
-    kept.ends.1,
-  )
+  words-whole = (IsUtf8-take line words utf8 (may_end-boundary line words utf8 kept.ends.0), kept.ends.1)
 
   gap-whole : IsWholeText gap
-  gap-whole =
-      let blanks = indent-blanks (drop words line) in (blanks-utf8 gap blanks, blanks-whole gap blanks)
+  gap-whole = search (rules, arith, blanks-utf8, blanks-whole, indent-blanks)
 
   front-whole : IsWholeText front
-  front-whole = subst IsWholeText (sym front-is) (whole_text-append (take words line) gap words-whole
-      gap-whole)
+  front-whole = rw (next, take-add) (whole_text-append (take words line) gap words-whole gap-whole)
 
   pub start-within : start ≤ length line
   start-within =
-      let few = prefix_len-le-length is_blank (drop words line) in
-      omega (arith, next, few, kept.within, length-drop words line)
+      omega (arith, prefix_len-le-length is_blank (drop words line), kept.within, length-drop words line)
 
   pub start-boundary : IsCharBoundary line start
   start-boundary = IsCharBoundary-from_take line start utf8 start-within front-whole.0
 
-  longer : (k : ℕ) → take (start + k) line ≡ front ++ take k word
-  longer k = take-add start k line
-
-  longer-width : (k : ℕ) → text_width (take (start + k) line)
-      ≡ text_width front + text_width (take k word)
-  longer-width k =
-      ap text_width (longer k) ∙ text_width-append front (take k word) front-whole.0 front-whole.1
+  longer-width : (k : ℕ) → text_width (take (start + k) line) ≡ text_width front + text_width (take k word)
+  longer-width k = rw take-add (text_width-append front (take k word) front-whole.0 front-whole.1)
 
   longer-units : (k : ℕ) → units (chars (take (start + k) line))
       ≡ units (chars front) ++ units (chars (take k word))
-  longer-units k =
-      ap (λ l. units (chars l)) (longer k) ∙ text_units-append front (take k word) front-whole
+  longer-units k = rw take-add (text_units-append front (take k word) front-whole)
 
-  longer-whole : (k : ℕ) → HasWholeSequences (take k word)
-      → HasWholeSequences (take (start + k) line)
-  longer-whole k whole = subst (All IsWhole) (sym (longer-units k))
-      (All-append IsWhole (units (chars front)) (units (chars (take k word))) front-whole.1 whole)
+  longer-whole : (k : ℕ) → HasWholeSequences (take k word) → HasWholeSequences (take (start + k) line)
+  longer-whole k whole = rw (longer-units k) (All-append IsWhole _ _ front-whole.1 whole)
 
-  longer-own : (k : ℕ) → HasWholeSequences (take (start + k) line)
-      → HasWholeSequences (take k word)
-  longer-own k whole = all-right IsWhole (units (chars front)) (units (chars (take k word)))
-      (subst (All IsWhole) (longer-units k) whole)
+  longer-own : (k : ℕ) → HasWholeSequences (take (start + k) line) → HasWholeSequences (take k word)
+  longer-own k whole = all-right IsWhole (units (chars front)) _ (rw (longer-units k) at whole)
 
   rest-of : (k : ℕ) → drop (start + k) line ≡ drop k word
   rest-of k = ap (λ n. drop n line) (omega arith) ∙ sym (drop-drop k start line)
@@ -98,15 +75,10 @@ module _ {width : ℕ} {placeholder line : List ℕ} (utf8 : IsUtf8 line) {words
 
   to-word : (k : ℕ) → CanCut line start (start + k) → CanCut word 0 k
   to-word k may =
-      record {
-        after = omega arith;
-        behind = omega (arith, may.behind, longer-width k, text_width-nil);
-        place = IsCharBoundary-from_drop word k
-            (omega (arith, may.place.0, length-drop start line, start-within))
-            (subst IsUtf8 (rest-of k) (IsUtf8-drop line (start + k) utf8 may.place));
-        before = omega (arith, may.before, ap (λ l. units_width (take 1 (units (chars l)))) (rest-of k));
-        whole = longer-own k may.whole;
-      }
+      let own : IsUtf8 (drop k word) = rw (rest-of k) at (IsUtf8-drop line (start + k) utf8 may.place) in
+      let before = rw (rest-of k) at may.before in
+      let fits = length-drop start line in
+      search (rules, arith, longer-width, text_width-nil, IsCharBoundary-from_drop, start-within, longer-own)
 
   -- no place has room if the blanks before the word have none
   pub cut-none : width < text_width front + text_width placeholder
@@ -121,8 +93,7 @@ module _ {width : ℕ} {placeholder line : List ℕ} (utf8 : IsUtf8 line) {words
         let at : m ≡ start + (m - start) = omega (arith, may.after) in
         let own = to-word (m - start) (subst (CanCut line start) at may) in
         let wide = ap (λ n. text_width (take n line)) at ∙ longer-width (m - start) in
-        let up = h.latest (m - start) own (omega (arith, room, wide, fits, text_width-nil)) in
-        omega (arith, up, may.after)
+        omega (arith, h.latest (m - start) own (omega (arith, wide, text_width-nil)), may.after)
 
     pub cut-no : k ≡ 0 → IsCut width placeholder line words start words
     cut-no none = search (rules, arith, cut-latest)
@@ -172,8 +143,7 @@ module _ {width : ℕ} {placeholder line : List ℕ} (utf8 : IsUtf8 line) {words
   found : room < word_width text → IsCut left [] (drop start line) 0 0 k
   found over = subst (λ l. IsCut left [] l 0 0 k) h.text_is (h.cut over)
 
-  wide : (breaks : Bool) → breaks && is_too_wide width placeholder line start ≡ true
-      → room < word_width text
+  wide : (breaks : Bool) → breaks && is_too_wide width placeholder line start ≡ true → room < word_width text
   wide breaks passes = search (rules, arith, and_parts, ltb-true, h.is, h.text_is)
 
   pub kept-uncut : {breaks : Bool} → k ≡ 0 → IsKeptLength breaks width placeholder line words
@@ -187,17 +157,13 @@ module _ {width : ℕ} {placeholder line : List ℕ} (utf8 : IsUtf8 line) {words
     start = start;
     kept = h.kept;
     next = h.next;
-    whole = λ stays.
-        let few = ltb-false (width - text_width placeholder) (word_width (drop start line))
-        (rw breaking at stays) in
-        absurd (some (h.whole (omega (arith, h.is, ap word_width h.text_is, few))));
+    whole = λ stays. search (rules, arith, ltb-false, h.whole, h.text_is, h.is);
     cut = λ passes. cut-some utf8 h.kept h.next sum (found (wide breaks passes)) some;
   }
 
   pub kept-within : k ≢ 0 → start + k ≤ length line
   kept-within some =
-      let inside : room < word_width text → k ≤ length (drop start line) =
-      λ over. cut-within utf8 h.kept h.next sum (found over) in
+      let inside = λ (over : room < word_width text). cut-within utf8 h.kept h.next sum (found over) in
       let start = start-within utf8 h.kept h.next in
       search (rules, arith, cases_lt room (word_width text), inside, length-drop, start, h.whole)
 
@@ -205,38 +171,18 @@ module _ {width : ℕ} {placeholder line : List ℕ} (utf8 : IsUtf8 line) {words
 pub kept-none : {breaks : Bool} {width : ℕ} {placeholder line : List ℕ}
     → width < text_width placeholder → IsKeptLength breaks width placeholder line 0
 kept-none {line = line} over =
-    kept-words (record {
-      within = omega arith;
-      ends = none-kept line;
-      room = inl refl;
-      longest = λ m may room. absurd (omega (arith, room, over));
-    }) refl (λ is. record {
-      cut = inl refl;
-      latest = λ m may room. absurd (omega (arith, room, over));
-    })
+    kept-words (search (rules, arith, none-kept line)) refl (λ is. search (rules, arith))
 
 module _ {breaks : Bool} {width : ℕ} {placeholder line : List ℕ} {n : ℕ}
     (h : IsKeptLength breaks width placeholder line n) where
-  -- what holds where words end, and where one may be cut
-  kept-by : (P : ℕ → Type 0) → P h.words
-      → (CanCut line h.start n → LeavesRoom width placeholder line n → P n) → P n
-  kept-by P words cut = search (rules, arith)
-
   pub kept-boundary : IsUtf8 line → IsCharBoundary line n
-  kept-boundary utf8 =
-      kept-by (IsCharBoundary line) (may_end-boundary line h.words utf8 h.kept.ends.0)
-      (λ may room. may.place)
+  kept-boundary utf8 = search (rules, arith, may_end-boundary)
 
   pub kept-whole : IsUtf8 line → IsWholeText (take n line)
-  kept-whole utf8 = (
-    IsUtf8-take line n utf8 (kept-boundary utf8),
-    kept-by (λ k. HasWholeSequences (take k line)) h.kept.ends.1 (λ may room. may.whole),
-  )
+  kept-whole utf8 = (IsUtf8-take line n utf8 (kept-boundary utf8), search (rules, arith))
 
   pub kept-room : (n ≡ 0) ⊎ LeavesRoom width placeholder line n
-  kept-room =
-      kept-by (λ k. (k ≡ 0) ⊎ LeavesRoom width placeholder line k) h.kept.room
-      (λ may room. inr room)
+  kept-room = search (rules, arith)
 
 -- ---- a text of whole sequences, and what closes it
 
@@ -250,23 +196,17 @@ module _ (kept : List ℕ) (whole : IsWholeText kept) where
   are-ends : All IsSequence ends
   are-ends = closing-sequences (sequences kept)
 
-  closed-is : closed ≡ kept ++ concat ends
-  closed-is = ap (λ l. kept ++ l) (closing-is (sequences kept))
-
   closed-units : units (chars closed) ≡ units (chars kept) ++ sequence_units ends
   closed-units =
-      cc (closed-is, text_units-append kept (concat ends) whole, concat-units ends are-ends)
+      cc (closing-is (sequences kept), text_units-append kept (concat ends) whole, concat-units ends are-ends)
 
   closed-whole : IsWholeText closed
-  closed-whole =
-      subst IsWholeText (sym closed-is) (whole_text-append kept (concat ends) whole
+  closed-whole = rw (closing-is (sequences kept)) (whole_text-append kept (concat ends) whole
       (concat-whole ends are-ends))
 
   pub closed-plain : EndsPlain closed
   closed-plain =
-      let all : sequences closed ≡ sequences kept ++ ends =
-      grind (arith, closed-units, flat_map-append, units-again ends are-ends) in
-      ap rendition_of all ∙ ended (sequences kept)
+      grind (arith, closed-units, flat_map-append, units-again ends are-ends, ended (sequences kept))
 
   closed-width : text_width closed ≡ text_width kept
   closed-width = grind (arith, closed-units, flat_map-append, none-visible, append-nil)
@@ -274,8 +214,7 @@ module _ (kept : List ℕ) (whole : IsWholeText kept) where
   -- with a placeholder behind it
   module _ (placeholder : List ℕ) where
     pub followed-width : text_width (closed ++ placeholder) ≡ text_width kept + text_width placeholder
-    followed-width =
-        cc (text_width-append closed placeholder closed-whole.0 closed-whole.1, closed-width)
+    followed-width = cc (text_width-append closed placeholder closed-whole.0 closed-whole.1, closed-width)
 
     pub followed-pens : penned_text plain_rendition (closed ++ placeholder)
         ≡ penned_text plain_rendition kept ++ penned_text plain_rendition placeholder
@@ -293,9 +232,6 @@ module _ (breaks : Bool) (width : ℕ) (placeholder line : List ℕ) (short : Li
   whole : IsWholeText kept
   whole = kept-whole is.kept utf8
 
-  bytes : line_bytes short ≡ kept ++ closing (sequences kept) ++ placeholder
-  bytes = ap line_bytes is.is
-
   pub shortened-closed : EndsPlain (kept ++ closing (sequences kept))
   shortened-closed = closed-plain kept whole
 
@@ -304,39 +240,23 @@ module _ (breaks : Bool) (width : ℕ) (placeholder line : List ℕ) (short : Li
       × (penned_text plain_rendition (line_bytes short)
       ≡ penned_text plain_rendition kept ++ penned_text plain_rendition placeholder)
   shortened-pens =
-      let rest = units (chars (drop is.len line)) in
       let parts : penned_text plain_rendition line ≡ penned_text plain_rendition kept
-      ++ penned_units (rendition_of (sequences kept)) rest =
-      grind (arith, take-append-drop, text_units-append kept (drop is.len line) whole, penned-append) in (
-        grind (arith, parts, take_at),
-        ap (penned_text plain_rendition) bytes ∙ followed-pens kept whole placeholder,
-      )
+      ++ penned_units (rendition_of (sequences kept)) (units (chars (drop is.len line))) =
+      grind (arith, take-append-drop, text_units-append kept (drop is.len line) whole, penned-append) in
+      (grind (arith, parts, take_at), rw is.is (followed-pens kept whole placeholder))
 
   pub shortened-width : text_width placeholder ≤ width → text_width (line_bytes short) ≤ width
   shortened-width room =
-      let sum = ap text_width bytes ∙ followed-width kept whole placeholder in
-      elim (kept-room is.kept) [
-        | inl none ↦
-            let nothing = ap (λ n. text_width (take n line)) none in
-            omega (arith, sum, room, nothing, text_width-nil)
-        | inr has ↦ omega (arith, sum, has)
-      ]
+      rw is.is (grind (arith, followed-width kept whole placeholder, kept-room is.kept, text_width-nil))
 
 -- ---- only one number of bytes may be kept
 
-words-le : {width : ℕ} {placeholder line : List ℕ} {m n : ℕ}
-    → IsKeptBeginning width placeholder line m → IsKeptBeginning width placeholder line n → m ≤ n
-words-le first second = search (rules, arith)
-
 cut-le : {width : ℕ} {placeholder line : List ℕ} {words start m n : ℕ} → words ≤ start
-    → IsCut width placeholder line words start m → IsCut width placeholder line words start n
-    → m ≤ n
+    → IsCut width placeholder line words start m → IsCut width placeholder line words start n → m ≤ n
 cut-le before first second = search (rules, arith)
 
 pub kept-unique : (breaks : Bool) (width : ℕ) (placeholder line : List ℕ) (m n : ℕ)
     → IsKeptLength breaks width placeholder line m → IsKeptLength breaks width placeholder line n → m ≡ n
 kept-unique breaks width placeholder line m n first second =
-    let words : first.words ≡ second.words =
-    omega (arith, words-le first.kept second.kept, words-le second.kept first.kept) in
-    let start : first.start ≡ second.start = grind (arith, first.next, second.next, words) in
-    search (rules, arith, words, start, cut-le, first.cut, second.cut, first.whole, second.whole)
+    let words : first.words ≡ second.words = search (rules, arith, first.kept, second.kept) in
+    search (rules, arith, words, cut-le, first.cut, second.cut, first.whole, second.whole)

@@ -1,29 +1,26 @@
 -- The groups of a table's texts, the cells of each, and the rows of these: their text, that they are
 -- even, and that they show each line once.
-use Rattle.std.proofs.{Common.replicate, Math.Nat.add-div_right, Math.Nat.div-le_self}
-use Rattle.std.proofs.{Math.Nat.suc-mul, lemmas.List.drop_min, lemmas.List.length-replicate}
-use Rattle.std.proofs.lemmas.{List.take_min, Slice.Zip.AllZip-long, Slice.Zip.get_or-zip}
-use Rattle.std.{proofs.lemmas.Slice.Zip.length-zip, specs.Fork.slice_chunk}
-use Rattle.std.specs.Slice.Iter.{chunk_count}
+use Rattle.std.proofs.{Common.replicate, Math.ListN.get_or-append}
+use Rattle.std.proofs.Math.{Nat.add-div_right, Nat.div-le_self, Seq.get_or-append_right}
+use Rattle.std.proofs.lemmas.List.{drop_min, get_or-replicate, length-replicate, nil_from_length, take_min}
+use Rattle.std.proofs.lemmas.Slice.Zip.{AllZip-long, get_or-zip, length-zip}
+use Rattle.std.specs.{Fork.slice_chunk, Slice.Iter.chunk_count}
 use Rattle.textwrap.proofs.Text.Tables.{lines-kept}
-use Rattle.textwrap_display.proofs.Common.{AllZip, IsWholeText, map-map, text_width-append}
-use Rattle.textwrap_display.proofs.{Common.text_width-nil, Widths.aligned-before}
-use Rattle.textwrap_display.specs.Laws.{KeepToColumns, ShowsEachLineOnce, cell_shown, row_of}
-use Rattle.textwrap_display.specs.{Laws.row_width, Tables.AreCells, Tables.AreTableRows}
-use Rattle.textwrap_display.specs.Tables.{ColumnMakes, ColumnParts, HaveParts, IsTableBy, IsTableOf}
-use Rattle.textwrap_display.specs.Tables.{PartsMake, RowGaps, Shape, cell_line, group_rows}
-use Rattle.textwrap_display.specs.Tables.{groups_of, height, rows_of_cells, shape_of}
-use Rattle.textwrap_display.specs.Tables.{shape_of_parts, shown_cell, shown_cells, table_row}
-use Rattle.textwrap_display.specs.{Tables.texts_in, declared.tables.Column.Column}
+use Rattle.textwrap_display.proofs.Common.{AllZip, IsWholeText, map-map, nil-whole, suc-mul}
+use Rattle.textwrap_display.proofs.{Common.text_width-append, Common.text_width-nil, Widths.aligned-before}
+use Rattle.textwrap_display.specs.Laws.{KeepToColumns, ShowsEachLineOnce, cell_shown, row_of, row_width}
+use Rattle.textwrap_display.specs.Tables.{AreCells, AreTableRows, ColumnMakes, ColumnParts, HaveParts}
+use Rattle.textwrap_display.specs.Tables.{IsTableBy, IsTableOf, PartsMake, RowGaps, Shape, cell_line}
+use Rattle.textwrap_display.specs.Tables.{group_rows, groups_of, height, rows_of_cells, shape_of}
+use Rattle.textwrap_display.specs.Tables.{shape_of_parts, shown_cell, shown_cells, table_row, texts_in}
+use Rattle.textwrap_display.specs.declared.tables.Column.{Column}
 use Rattle.textwrap_layout.proofs.{Common.HasParts, Common.Line, Paragraph.Pieces.lines-as}
-use Rattle.textwrap_styles.proofs.SequenceTexts.{nil-whole}
-use Rattle.textwrap_text.proofs.Common.{All, All-cons, All-head, All-map, All-nil, All-tail, Bor}
-use Rattle.textwrap_text.proofs.Common.{List, [], ap, append_assoc, arith, cases_lt, drop}
-use Rattle.textwrap_text.proofs.Common.{drop-drop, drop_at, fold, get_or, get_or-map, get_or_past}
-use Rattle.textwrap_text.proofs.Common.{inl, inr, join_with, length, length-append, length-map, map}
-use Rattle.textwrap_text.proofs.Common.{map-append, max, min, range_with_len, refl, rules, subst}
-use Rattle.textwrap_text.proofs.Common.{suc, sum_by, sum_by-cons, sym, take_at, zero, zip, ℕ, ◌*◌}
-use Rattle.textwrap_text.proofs.Common.{◌++◌, ◌+◌, ◌-◌, ◌/◌, ◌<◌, ◌∙◌, ◌∷◌, ◌≡◌, ◌≤◌}
+use Rattle.textwrap_text.proofs.Common.{All, All-cons, All-head, All-map, All-nil, All-tail, Bor, List}
+use Rattle.textwrap_text.proofs.Common.{[], ap, append_assoc, arith, cases_lt, drop, drop-drop, drop_at}
+use Rattle.textwrap_text.proofs.Common.{fold, get_or, get_or-map, get_or_past, inl, inr, join_with}
+use Rattle.textwrap_text.proofs.Common.{length, length-append, length-map, map, map-append, max, min}
+use Rattle.textwrap_text.proofs.Common.{range_with_len, refl, rules, suc, sum_by, sum_by-cons, sym, take_at}
+use Rattle.textwrap_text.proofs.Common.{zero, zip, ℕ, ◌*◌, ◌++◌, ◌+◌, ◌-◌, ◌/◌, ◌<◌, ◌∙◌, ◌∷◌, ◌≡◌, ◌≤◌}
 use Rattle.textwrap_text.specs.Units.{text_width}
 
 -- ---- the cells of a row: their lines, and what the columns show of them
@@ -31,11 +28,8 @@ use Rattle.textwrap_text.specs.Units.{text_width}
 -- an empty cell after the others is as none
 padded-at : (cells : List (List (List ℕ))) (count at : ℕ)
     → get_or (cells ++ replicate count []) at [] ≡ get_or cells at []
-padded-at [] zero at = refl
-padded-at [] (suc count) zero = refl
-padded-at [] (suc count) (suc at) = padded-at [] count at
-padded-at (cell ∷ cells) count zero = refl
-padded-at (cell ∷ cells) count (suc at) = padded-at cells count at
+padded-at cells count at =
+    grind (arith, get_or-append, get_or-append_right, get_or-replicate, get_or_past, length-replicate)
 
 module _ (columns : List Shape) (cells : List (List (List ℕ))) where
   -- the cells, with an empty one for each column after them
@@ -61,8 +55,7 @@ module _ (columns : List Shape) (cells : List (List (List ℕ))) where
 
 -- ---- how many groups there are
 
-count-some : (total count : ℕ) → 0 < count → 0 < total
-    → chunk_count total count ≡ (total - 1) / count + 1
+count-some : (total count : ℕ) → 0 < count → 0 < total → chunk_count total count ≡ (total - 1) / count + 1
 count-some total count some more = grind (arith, add-div_right, div-le_self)
 
 count-less : (total count : ℕ) → 0 < count → 0 < total
@@ -75,8 +68,7 @@ chunks-more : {X : Type 0} (texts : List X) (count at more : ℕ)
     → map (slice_chunk texts count) (range_with_len (at + 1) more)
     ≡ map (slice_chunk (drop count texts) count) (range_with_len at more)
 chunks-more texts count at zero = refl
-chunks-more texts count at (suc more) =
-    grind (arith, drop-drop, chunks-more texts count (at + 1) more)
+chunks-more texts count at (suc more) = grind (arith, drop-drop, chunks-more texts count (at + 1) more)
 
 module _ {X : Type 0} (count : ℕ) (items front rest : List X) where
   -- the first of the groups, and the items after it
@@ -87,8 +79,7 @@ module _ {X : Type 0} (count : ℕ) (items front rest : List X) where
     pub size : length front ≡ min count (length items)
 
   pub groups-more : IsFirstGroup → groups_of count items ≡ front ∷ groups_of count rest
-  groups-more h =
-      grind (arith, take_min, take_at, drop_min, drop_at, length-append, count-less, chunks-more)
+  groups-more h = grind (arith, take_min, take_at, drop_min, drop_at, length-append, count-less, chunks-more)
 
 -- what a function makes of a chunk of items is the first group of what it makes of all
 pub first-group : {X Y : Type 0} (f : X → Y) (items front rest : List X) {size count : ℕ} → 0 < size
@@ -99,30 +90,23 @@ first-group f items front rest some is chunk = search (rules, arith, map-append,
 -- the column and the text of one cell
 pub cell-at : {X : Type 0} (columns : List X) (texts : List (Bor (List ℕ))) (n : ℕ) (column : X)
     (text : Bor (List ℕ)) → n < length columns → n < length texts → column ≡ get_or columns n column
-    → text ≡ get_or texts n text
-    → (n < length (zip columns (texts_in texts)))
+    → text ≡ get_or texts n text → (n < length (zip columns (texts_in texts)))
     × ((column, text.now) ≡ get_or (zip columns (texts_in texts)) n (column, text.now))
 cell-at columns texts n column text first second column_is text_is =
     grind (arith, length-map, length-zip, get_or-zip, get_or-map)
 
 module _ {X : Type 0} (Makes : X → List ℕ → List Line → Type 0) where
   module _ (shape : X → Shape) (columns : List X) (gaps : RowGaps) where
-    pub table-none : (texts : List (List ℕ)) → length texts ≡ 0
-        → IsTableBy Makes shape columns gaps texts []
-    table-none [] none = search (rules, arith)
-    table-none (text ∷ texts) none = absurd (omega (arith, none))
+    pub table-none : (texts : List (List ℕ)) → length texts ≡ 0 → IsTableBy Makes shape columns gaps texts []
+    table-none texts none = rw (nil_from_length texts none) (search (rules, arith))
 
     -- the rows of the first group, and those of the others
     pub table-more : {texts front rest : List (List ℕ)} (cells : List (List (List ℕ)))
         (others : List (List ℕ)) → IsFirstGroup (length columns) texts front rest
         → AreCells Makes columns front cells → IsTableBy Makes shape columns gaps rest others
-        → IsTableBy Makes shape columns gaps texts
-        (group_rows gaps (map shape columns) cells ++ others)
-    table-more cells others first are (groups, all, given) = (
-      cells ∷ groups,
-      rw (groups-more _ _ _ _ first) (are, all),
-      ap (λ rows. group_rows gaps (map shape columns) cells ++ rows) given,
-    )
+        → IsTableBy Makes shape columns gaps texts (group_rows gaps (map shape columns) cells ++ others)
+    table-more cells others first are (groups, all, given) =
+        (cells ∷ groups, rw (groups-more _ _ _ _ first) (are, all), rw given refl)
 
 -- what holds of items place by place, of which more holds
 pub AllZip-weaker : {A B : Type 0} (R S : A → B → Type 0) → ((x : A) (y : B) → R x y → S x y)
@@ -157,15 +141,12 @@ module _ {X Y : Type 0} (Makes : X → List ℕ → List Line → Type 0)
   cells-as _ _ make texts cells are = absurd make
 
   pub table-map : (columns : List X) (others : List Y) → MakeThose columns others
-      → (gaps : RowGaps) (texts rows : List (List ℕ))
-      → IsTableBy Makes shape columns gaps texts rows
+      → (gaps : RowGaps) (texts rows : List (List ℕ)) → IsTableBy Makes shape columns gaps texts rows
       → IsTableBy Others other_shape others gaps texts rows
   table-map columns others make gaps texts rows (groups, are, given) = (
     groups,
-    AllZip-weaker (AreCells Makes columns) (AreCells Others others) (cells-as columns others make)
-        (groups_of (length others) texts) groups
-        (subst (λ n. AllZip (AreCells Makes columns) (groups_of n texts) groups)
-        (sym (AllZip-long _ columns others make)) are),
+    AllZip-weaker (AreCells Makes columns) (AreCells Others others) (cells-as columns others make) _ _
+        (rw (← AllZip-long _ columns others make) at are),
     rw (← shapes-as columns others make) given,
   )
 
@@ -174,8 +155,7 @@ module _ {X Y : Type 0} (Makes : X → List ℕ → List Line → Type 0)
 module _ {E C : Type 0} {e : _} {c : _} where
   parts-make : (columns : List (Column E C e c)) (parts : List ColumnParts) → HaveParts columns parts
       → MakeThose ColumnMakes PartsMake shape_of shape_of_parts columns parts
-  parts-make =
-      AllZip-weaker _ _ (λ column p (have : HasParts column.options p.settings p.splitter p.algorithm
+  parts-make = AllZip-weaker _ _ (λ column p (have : HasParts column.options p.settings p.splitter p.algorithm
       × (column.alignment ≡ p.alignment)). record {
         makes = lines-as column.options p.settings p.splitter p.algorithm have.0;
         shape_is = let width = ap (λ s. s.width) have.0.settings_are in cc (have.1);
@@ -184,8 +164,7 @@ module _ {E C : Type 0} {e : _} {c : _} where
   pub table-as : (columns : List (Column E C e c)) (parts : List ColumnParts)
       → HaveParts columns parts → (gaps : RowGaps) (texts rows : List (List ℕ))
       → AreTableRows columns gaps texts rows → IsTableOf parts gaps texts rows
-  table-as columns parts have =
-      table-map ColumnMakes PartsMake shape_of shape_of_parts columns parts
+  table-as columns parts have = table-map ColumnMakes PartsMake shape_of shape_of_parts columns parts
       (parts-make columns parts have)
 
 -- ---- the rows of cells that have their lines, group by group
@@ -193,8 +172,7 @@ module _ {E C : Type 0} {e : _} {c : _} where
 module _ (gaps : RowGaps) (columns : List Shape) where
   pub cells-rows-none : (cells : List (List (List ℕ))) → length cells ≡ 0
       → rows_of_cells gaps columns cells ≡ []
-  cells-rows-none [] none = search (rules, arith)
-  cells-rows-none (cell ∷ cells) none = absurd (omega (arith, none))
+  cells-rows-none cells none = search (rules, arith, nil_from_length cells none)
 
   -- the rows of the first group, and those of the others
   pub cells-rows-more : (cells front rest : List (List (List ℕ)))
@@ -211,8 +189,7 @@ higher most lines = max most (length lines)
 highest : (most : ℕ) (cells : List (List (List ℕ)))
     → (most ≤ fold higher most cells) × All (λ lines. length lines ≤ fold higher most cells) cells
 highest most [] = (omega arith, All-nil (λ lines. length lines ≤ most))
-highest most (lines ∷ cells) =
-    search (rules, arith, fold, All-cons, highest (higher most lines) cells)
+highest most (lines ∷ cells) = search (rules, arith, fold, All-cons, highest (higher most lines) cells)
 
 -- a cell shows its lines, and below them nothing
 lines-shown : (lines : List (List ℕ)) (rows : ℕ) → length lines ≤ rows
@@ -222,12 +199,6 @@ lines-shown lines rows high = grind (arith, lines-kept lines (rows - length line
 -- no cell is higher than its row, and none at all is no higher
 cell-high : (cells : List (List (List ℕ))) (at : ℕ) → length (get_or cells at []) ≤ height cells
 cell-high cells at = search (rules, arith, cases_lt, highest 0 cells, get_or_past)
-
--- ---- what functions make of a list
-
-map-alike : {X Y : Type 0} (f g : X → Y) (xs : List X) → ((x : X) → f x ≡ g x) → map f xs ≡ map g xs
-map-alike f g [] alike = refl
-map-alike f g (x ∷ xs) alike = search (rules, arith, map-alike f g xs alike)
 
 -- ---- the rows of a group
 
@@ -239,12 +210,12 @@ module _ (gaps : RowGaps) (columns : List Shape) (cells : List (List (List ℕ))
   texts = map (shown_cells columns cells) places
 
   column-shown : (at : ℕ) (column : Shape) → at < length columns → column ≡ get_or columns at column
-      → map (λ row. get_or row at []) texts
-      ≡ cell_shown column (height cells) (get_or cells at [])
+      → map (λ row. get_or row at []) texts ≡ cell_shown column (height cells) (get_or cells at [])
   column-shown at column within is =
       let lines = get_or cells at [] in
-      let shows = map-alike (λ r. get_or (shown_cells columns cells r) at []) (shown_cell column lines)
-      places (λ r. shown-at columns cells r at column within is) in
+      let shows : map (λ r. get_or (shown_cells columns cells r) at []) places
+      ≡ map (shown_cell column lines) places =
+      λ i. map (λ r. shown-at columns cells r at column within is i) places in
       grind (arith, map-map, lines-shown lines (height cells) (cell-high cells at), shows)
 
   pub each-line-shown : ShowsEachLineOnce gaps columns cells (group_rows gaps columns cells)
@@ -264,18 +235,14 @@ Keeps column line = IsWholeText line × (text_width line ≤ column.width)
 abbrev KeepTo : Shape × List (List ℕ) → Type 0
 KeepTo p = All (Keeps p.0) p.1
 
-keeps-nil : (column : Shape) → Keeps column []
-keeps-nil column = (nil-whole, omega (arith, text_width-nil))
-
 keeps-at : (column : Shape) (lines : List (List ℕ)) → All (Keeps column) lines → (r : ℕ)
     → Keeps column (cell_line lines r)
 keeps-at column lines keep r = elim (cases_lt r (length lines)) [
   | inl within ↦ keep r [] within
-  | inr past ↦ subst (Keeps column) (sym (get_or_past lines r [] past)) (keeps-nil column)
+  | inr past ↦ rw (get_or_past lines r [] past) (nil-whole, omega (arith, text_width-nil))
 ]
 
-shown-before : (column : Shape) (lines : List (List ℕ)) → All (Keeps column) lines → (r : ℕ)
-    (text : List ℕ)
+shown-before : (column : Shape) (lines : List (List ℕ)) → All (Keeps column) lines → (r : ℕ) (text : List ℕ)
     → text_width (shown_cell column lines r ++ text) ≡ column.width + text_width text
 shown-before column lines keep r text =
     let ((utf8, whole), fits) = keeps-at column lines keep r in
@@ -284,8 +251,7 @@ shown-before column lines keep r text =
 -- ---- the columns of a row
 
 -- empty cells after the others keep to any column
-padded-keep : (columns : List Shape) (cells : List (List (List ℕ))) (count : ℕ)
-    → KeepToColumns columns cells
+padded-keep : (columns : List Shape) (cells : List (List (List ℕ))) (count : ℕ) → KeepToColumns columns cells
     → All KeepTo (zip columns (cells ++ replicate count []))
 padded-keep [] cells count keep = All-nil KeepTo
 padded-keep (column ∷ columns) [] zero keep = All-nil KeepTo
@@ -294,8 +260,7 @@ padded-keep (column ∷ columns) [] (suc count) keep =
     (padded-keep columns [] count (λ k d within.
     absurd (omega (arith, within, length-zip {B = List (List ℕ)} columns []))))
 padded-keep (column ∷ columns) (lines ∷ cells) count keep =
-    All-cons KeepTo (column, lines) (zip columns (cells ++ replicate count []))
-    (All-head KeepTo (column, lines) (zip columns cells) keep)
+    All-cons KeepTo (column, lines) _ (All-head KeepTo (column, lines) (zip columns cells) keep)
     (padded-keep columns cells count (All-tail KeepTo (column, lines) (zip columns cells) keep))
 
 widths-zip : (columns : List Shape) (cells : List (List (List ℕ))) → length columns ≤ length cells
@@ -331,18 +296,14 @@ pub rows-even : (gaps : RowGaps) (columns : List Shape) (cells : List (List (Lis
     → All (λ row. text_width row ≡ row_width gaps columns) (group_rows gaps columns cells)
 rows-even gaps columns cells left middle keep =
     All-map (λ row. text_width row ≡ row_width gaps columns) (table_row gaps columns cells)
-    (range_with_len 0 (height cells))
-    (λ k d within. even (get_or (range_with_len 0 (height cells)) k d))
+    (range_with_len 0 (height cells)) (λ k d within. even (get_or (range_with_len 0 (height cells)) k d))
   where
     even : (r : ℕ) → text_width (table_row gaps columns cells r) ≡ row_width gaps columns
     even r =
         let padded = cells ++ replicate (length columns) [] in
         let ps = zip columns padded in
-        let row = joined gaps.middle middle r ps in
-        let count : length ps ≡ length columns =
-        sym (length-map ps (λ p. shown_cell p.0 p.1 r)) ∙ length-shown columns cells r in
-        let split = text_width-append gaps.left (row ++ gaps.right) left.0 left.1 in
+        let count = length-zipped columns cells in
+        let split = text_width-append gaps.left (joined gaps.middle middle r ps ++ gaps.right) left.0 left.1 in
         let keeps = padded-keep columns cells (length columns) keep in
         let joins = joined-before gaps.middle middle r ps keeps gaps.right in
-        let widths = widths-zip columns padded (length-padded columns cells) in
-        grind (arith, append_assoc, count, split, joins, widths)
+        grind (arith, append_assoc, widths-zip columns padded (length-padded columns cells))

@@ -1,23 +1,20 @@
 -- The words of a line whose gaps are widened.
-use Rattle.std.proofs.{Math.Nat.zero-div, Math.Nat.zero-mod, lemmas.List.Sums.prefix_len-drop_all}
+use Rattle.std.proofs.{Math.Nat.zero-div, Math.Nat.zero-mod, lemmas.List.drop-append-le}
+use Rattle.std.proofs.lemmas.List.{drop_at, replicate-append-replicate, Sums.prefix_len-drop_all}
 use Rattle.std.proofs.lemmas.List.Sums.{prefix_len-drop_no, prefix_len_is, prefix_len_stops}
-use Rattle.std.proofs.lemmas.List.{drop-append-le, drop_at, replicate-append-replicate}
-use Rattle.textwrap_display.proofs.Common.{BlanksBetween, IsCharBoundary-start}
-use Rattle.textwrap_display.proofs.Common.{JustifiedLineKeepsWords, WordText, blank, blanks, chunks}
-use Rattle.textwrap_display.proofs.Common.{chunks-from, final_blanks, flat, gaps, indent_len}
-use Rattle.textwrap_display.proofs.Common.{is_blank, is_cut, justified, length-prefix_len}
-use Rattle.textwrap_display.proofs.Common.{line_bytes, line_words, or_cases, slice_index}
-use Rattle.textwrap_display.proofs.Common.{text_width, tiled, widened_words, word_of, ◌%◌}
+use Rattle.textwrap_display.proofs.Common.{BlanksBetween, IsCharBoundary-start, JustifiedLineKeepsWords}
+use Rattle.textwrap_display.proofs.Common.{WordText, blank, blanks, chunks, chunks-from, final_blanks}
+use Rattle.textwrap_display.proofs.Common.{flat, gaps, indent_len, is_blank, is_cut, justified}
+use Rattle.textwrap_display.proofs.Common.{length-prefix_len, line_bytes, line_words, or_cases}
+use Rattle.textwrap_display.proofs.Common.{slice_index, text_width, tiled, widened_words, word_of, ◌%◌}
 use Rattle.textwrap_display.proofs.{KeptWords.trimmed_len-blanks, Widths.blanks-are}
-use Rattle.textwrap_text.proofs.Common.{IsCharBoundary, IsUtf8, List, [], and_parts, ap}
-use Rattle.textwrap_text.proofs.Common.{append_assoc, arith, cases_Bool, cases_lt, drop, eqb-true}
-use Rattle.textwrap_text.proofs.Common.{false, get_or, inl, inr, length, map, min, nat_tests}
-use Rattle.textwrap_text.proofs.Common.{ne_eqb, not, onto_first, prefix_len, refl, rules, suc, sym}
-use Rattle.textwrap_text.proofs.Common.{take, take-append-le, take_at, true, zero, ℕ, ◌++◌, ◌+◌}
-use Rattle.textwrap_text.proofs.Common.{◌-◌, ◌/◌, ◌<◌, ◌==◌, ◌||◌, ◌∙◌, ◌∷◌, ◌≡◌, ◌≢◌, ◌≤◌}
+use Rattle.textwrap_text.proofs.Common.{IsCharBoundary, IsUtf8, List, [], and_parts, ap, append_assoc, arith}
+use Rattle.textwrap_text.proofs.Common.{cases_Bool, cases_lt, drop, eqb-true, false, get_or, inl, inr}
+use Rattle.textwrap_text.proofs.Common.{length, map, min, nat_tests, ne_eqb, not, onto_first, prefix_len}
+use Rattle.textwrap_text.proofs.Common.{refl, rules, suc, sym, take, take-append-le, take_at, true, zero}
+use Rattle.textwrap_text.proofs.Common.{ℕ, ◌++◌, ◌+◌, ◌-◌, ◌/◌, ◌<◌, ◌==◌, ◌||◌, ◌∙◌, ◌∷◌, ◌≡◌, ◌≢◌, ◌≤◌}
 use Rattle.textwrap_text.proofs.Lists.Parts.{flat-onto_first, onto_first-length}
-use Rattle.textwrap_text.proofs.Texts.{IsCharBoundary-after_blank}
-use Rattle.textwrap_words.proofs.Word.Words.{tiled-map}
+use Rattle.{textwrap_text.proofs.Texts.IsCharBoundary-after_blank, textwrap_words.proofs.Word.Words.tiled-map}
 
 -- ---- the chunks of a line whose gaps are widened: the same chunks, each but the last with more
 -- blanks
@@ -38,10 +35,9 @@ pub first-written : (each left : ℕ) (chunk : List ℕ) (others : List (List �
 first-written each left chunk others = search (rules, arith, append_assoc)
 
 -- the gap is written that comes next, and the chunk after it
-pub gap-written : (each left less more : ℕ) (chunk text first second new : List ℕ)
-    (others : List (List ℕ)) → more ≡ min left 1 → less ≡ left - 1 → first ≡ text ++ blanks each
-    → second ≡ first ++ blanks more → new ≡ second ++ chunk
-    → new ++ flat (widened_chunks each less ([] ∷ others))
+pub gap-written : (each left less more : ℕ) (chunk text first second new : List ℕ) (others : List (List ℕ))
+    → more ≡ min left 1 → less ≡ left - 1 → first ≡ text ++ blanks each → second ≡ first ++ blanks more
+    → new ≡ second ++ chunk → new ++ flat (widened_chunks each less ([] ∷ others))
     ≡ text ++ flat (widened_chunks each left ([] ∷ chunk ∷ others))
 gap-written each left less more chunk text first second new others most last one two three =
     grind (arith, append_assoc, first-written, replicate-append-replicate)
@@ -49,8 +45,7 @@ gap-written each left less more chunk text first second new others most last one
 -- ---- their chunks
 
 onto-widened : (each extra b : ℕ) (c : List ℕ) (cs : List (List ℕ))
-    → widened_chunks each extra (onto_first b (c ∷ cs))
-    ≡ onto_first b (widened_chunks each extra (c ∷ cs))
+    → widened_chunks each extra (onto_first b (c ∷ cs)) ≡ onto_first b (widened_chunks each extra (c ∷ cs))
 onto-widened each extra b c [] = refl
 onto-widened each extra b c (d ∷ cs) = refl
 
@@ -68,8 +63,7 @@ begins each extra d part [] = refl
 begins each extra d part (next ∷ parts) = refl
 
 pub widened-chunks : (each extra : ℕ) (line : List ℕ)
-    → chunks (flat (widened_chunks each extra (chunks line)))
-    ≡ widened_chunks each extra (chunks line)
+    → chunks (flat (widened_chunks each extra (chunks line))) ≡ widened_chunks each extra (chunks line)
 widened-chunks each extra [] = refl
 widened-chunks each extra (c ∷ []) = refl
 widened-chunks each extra (c ∷ d ∷ cs) =
@@ -104,8 +98,7 @@ pub widened-words : (each extra : ℕ) (cs : List (List ℕ))
     → map word_of (widened_chunks each extra cs) ≡ widened_words each extra (map word_of cs)
 widened-words each extra [] = refl
 widened-words each extra (c ∷ []) = refl
-widened-words each extra (c ∷ d ∷ cs) =
-    grind (arith, word_of-more, widened-words each (extra - 1) (d ∷ cs))
+widened-words each extra (c ∷ d ∷ cs) = grind (arith, word_of-more, widened-words each (extra - 1) (d ∷ cs))
 
 -- their text is that of the chunks
 pub widened-text : (each extra : ℕ) (cs : List (List ℕ))
@@ -125,8 +118,7 @@ widened-none [] = refl
 widened-none (w ∷ []) = refl
 widened-none (w ∷ v ∷ ws) = search (rules, arith, widened-none (v ∷ ws))
 
-pub widened-one : (each extra : ℕ) (ws : List WordText) → length ws - 1 ≡ 0
-    → widened_words each extra ws ≡ ws
+pub widened-one : (each extra : ℕ) (ws : List WordText) → length ws - 1 ≡ 0 → widened_words each extra ws ≡ ws
 widened-one each extra [] one = refl
 widened-one each extra (w ∷ []) one = refl
 widened-one each extra (w ∷ v ∷ ws) one = absurd (omega (arith, one))
@@ -167,12 +159,10 @@ indent-kept (c ∷ cs) text none = elim (cases_Bool (is_blank c)) [
 
 -- what follows them begins with no blank
 pub after-plain : (line : List ℕ) → prefix_len is_blank (drop (indent_len line) line) ≡ 0
-after-plain line =
-    let n = indent_len line in
-    elim (cases_lt n (length line)) [
-      | inl less ↦ prefix_len-drop_no is_blank line n 0 less (prefix_len_stops is_blank line 0 less)
-      | inr past ↦ prefix_len-drop_all is_blank line n past
-    ]
+after-plain line = elim (cases_lt (indent_len line) (length line)) [
+  | inl less ↦ prefix_len-drop_no is_blank line _ 0 less (prefix_len_stops is_blank line 0 less)
+  | inr past ↦ prefix_len-drop_all is_blank line _ past
+]
 
 -- ---- a justified line begins with the same blanks, and has the same words with more blanks
 -- after them
@@ -186,9 +176,8 @@ widened-line each extra line new is =
     let rest = drop (indent_len line) line in
     let text = flat (widened_chunks each extra (chunks rest)) in
     let kept = indent-kept line text (widened-plain each extra rest (after-plain line)) in
-    let len = length-prefix_len is_blank line in
     let written = widened-text each extra (chunks rest) in
-    grind (arith, take_at, drop_at, len, kept, written, widened-chunks, widened-words)
+    grind (arith, take_at, drop_at, length-prefix_len is_blank line, widened-chunks, widened-words)
 
 -- the words of a line that stays
 widened-stays : (spare : ℕ) (line : List ℕ) → (spare == 0) || (gaps line == 0) ≡ true

@@ -1,7 +1,6 @@
 use Rattle.textwrap_display.proofs.fitting.fitting_widths.Goals as goal
 use Rattle.std.proofs.lemmas.List.Sums.{get_or-le-sum_by}
-use Rattle.textwrap_display.specs.Sharing.{sure}
-use Rattle.textwrap_text.proofs.Common.{arith}
+use Rattle.{textwrap_display.proofs.Common.sure, textwrap_text.proofs.Common.arith}
 
 pub rounded_down-requires-clause-sure : goal.rounded_down-requires-clause-sure
 rounded_down-requires-clause-sure g c =

@@ -7,8 +7,7 @@ use Rattle.textwrap_text.proofs.Common.{drop, length, sum_by, ◌++◌, ◌-◌,
 abbrev pub invariant-loop-need : goal.invariant-loop-need
 invariant-loop-need g l = record {
   all : l.widths.items ++ rounded_up (rounded_down l.sharing) (weight l.sharing.basis) l.over
-      (drop l.need-index l.needs)
-      ≡ fitting_widths l.fn.total l.needs;
+      (drop l.need-index l.needs) ≡ fitting_widths l.fn.total l.needs;
   count : length l.widths.items ≡ l.need-index;
   few : l.over ≤ l.fn.total - sum_by (rounded_down l.sharing) l.needs;
 }

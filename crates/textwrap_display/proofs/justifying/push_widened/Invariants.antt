@@ -5,6 +5,5 @@ use Rattle.textwrap_text.proofs.Common.{[], string_bytes, ◌++◌, ◌∷◌, �
 
 -- with the gap that comes next and the words that are left it is the whole
 abbrev pub invariant-loop-word : goal.invariant-loop-word
-invariant-loop-word g l =
-    string_bytes l.text ++ flat (widened_chunks l.each l.left ([] ∷ l.word-iterator))
+invariant-loop-word g l = string_bytes l.text ++ flat (widened_chunks l.each l.left ([] ∷ l.word-iterator))
     ≡ string_bytes l.fn.text ++ tiled (widened_words l.each l.extra (words_of l.line))

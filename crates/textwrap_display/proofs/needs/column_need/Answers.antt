@@ -1,6 +1,5 @@
 use Rattle.textwrap_display.proofs.needs.column_need.Goals as goal
-use Rattle.std.specs.Slice.Iter.{chunks_rest}
-use Rattle.textwrap_display.proofs.{FittingWidths.widest-more, TableGroups.first-group}
+use Rattle.textwrap_display.proofs.{Common.chunks_rest, FittingWidths.widest-more, TableGroups.first-group}
 use Rattle.textwrap_display.specs.Needs.{lines_in, words_in}
 use Rattle.textwrap_text.proofs.Common.{arith, ◌∙◌}
 

@@ -1,7 +1,6 @@
 use Rattle.textwrap_display.proofs.needs.column_need.Given as goal
-use Rattle.std.specs.{List.flat_map, Slice.Iter.chunks_rest, Slice.Iter.chunks_size}
-use Rattle.textwrap_display.specs.Needs.{column_texts, lines_in, widest, words_in}
-use Rattle.textwrap_display.specs.Tables.{texts_in}
+use Rattle.textwrap_display.proofs.Common.{chunks_rest, chunks_size, column_texts, flat_map, widest}
+use Rattle.textwrap_display.specs.{Needs.lines_in, Needs.words_in, Tables.texts_in}
 use Rattle.textwrap_text.proofs.Common.{max, ◌≡◌}
 
 -- with what is left, the widest so far are the widest of all

@@ -1,17 +1,14 @@
 use Rattle.textwrap_display.proofs.shortening.broken_len.Goals as goal
-use Rattle.textwrap_display.proofs.{Common.encode_utf8, KeptLines.IsFoundCut, KeptLines.IsReadWord}
-use Rattle.textwrap_display.proofs.KeptLines.{cut-here, cut-past, read_word-start, turn-end}
-use Rattle.textwrap_display.proofs.KeptLines.{turn-full, turn-hidden, turn-le, turn-wide, turn-word}
-use Rattle.textwrap_display.proofs.{KeptLines.word-all, shortening.broken_len.Goals.In-Some}
-use Rattle.textwrap_display.proofs.shortening.broken_len.Goals.{Joined-taken-gt0}
+use Rattle.textwrap_display.proofs.{Common.encode_utf8, KeptLines.IsFoundCut}
+use Rattle.textwrap_display.proofs.KeptLines.{IsReadWord, cut-here, cut-past, read_word-start, turn-end}
+use Rattle.textwrap_display.proofs.KeptLines.{turn-full, turn-hidden, turn-le, turn-wide, turn-word, word-all}
+use Rattle.textwrap_display.proofs.shortening.broken_len.Goals.{In-Some, Joined-taken-gt0}
 use Rattle.textwrap_text.proofs.Common.{arith, characters_left, length, ◌+◌, ◌∷◌}
 
 pub loop-character-init : goal.loop-character-init
 loop-character-init c =
-    rw (c.into_iter-character-iterator.ensures.into_iter_gives, c.of-character-items.ensures) (record {
-      read = read_word-start c.args.left c.args.text.now c.utf8.text;
-      room = omega arith;
-    })
+    rw (c.into_iter-character-iterator.ensures.into_iter_gives, c.of-character-items.ensures)
+    (record { read = read_word-start c.args.left c.args.text.now c.utf8.text; room = omega arith })
 
 -- the reader before the character
 before : (c : In-Some) → IsReadWord c.args.left c.args.text.now
@@ -26,15 +23,13 @@ loop-character-preserved c = record {
 
 pub returns-then-character-eq32-clause-cut : goal.returns-then-character-eq32-clause-cut
 returns-then-character-eq32-clause-cut c = λ wide.
-    let all = turn-end c.utf8.text
-    (before (goal.at.returns-then-character-eq32-clause-cut c).In-Some) c.if-character.true
-    c.if-character-eq32.true in
+    let all = turn-end c.utf8.text (before (goal.at.returns-then-character-eq32-clause-cut c).In-Some)
+    c.if-character.true c.if-character-eq32.true in
     absurd (omega (arith, wide, all, c.loop-character.invariant.room))
 
 pub overflow_add-taken : goal.overflow_add-taken
 overflow_add-taken c =
-    let t = before (goal.at.overflow_add-taken c).In-Some in
-    omega (arith, turn-le c.utf8.text t c.if-character.true, c.columns-width.ensures)
+    omega (arith, turn-le c.utf8.text (before (goal.at.overflow_add-taken c).In-Some) c.if-character.true)
 
 found : (c : Joined-taken-gt0) → IsFoundCut c.args.left c.args.text.now
     (c.in-Some.character.at + length (encode_utf8 c.in-Some.character.ch)) c.if-taken-gt0.cut
@@ -52,22 +47,19 @@ found c =
                 absurd (omega (arith, columns, w'.if-width-gt0.false, wide))
             | goal.else-taken-gt0-via-then-taken-gt0+else-taken-left w' ↦
                 absurd (omega (arith, room, w'.if-taken-left.false))
-            | goal.else-taken-gt0-via-else-taken-gt0 w' ↦
-                absurd (omega (arith, some, w'.if-taken-gt0.false))
+            | goal.else-taken-gt0-via-else-taken-gt0 w' ↦ absurd (omega (arith, some, w'.if-taken-gt0.false))
           ]))
     ]
 
 pub returns-then-taken-room-clause-whole : goal.returns-then-taken-room-clause-whole
 returns-then-taken-room-clause-whole c = λ fits.
-    let wide = turn-wide c.utf8.text
-    (before (goal.at.returns-then-taken-room-clause-whole c).In-Some) c.if-character.true
-    c.if-character-eq32.false in
+    let wide = turn-wide c.utf8.text (before (goal.at.returns-then-taken-room-clause-whole c).In-Some)
+    c.if-character.true c.if-character-eq32.false in
     absurd (omega (arith, fits, wide, c.if-taken-room.true, c.columns-width.ensures))
 
 pub returns-then-taken-room-clause-cut : goal.returns-then-taken-room-clause-cut
-returns-then-taken-room-clause-cut c = λ wide.
-    turn-full c.utf8.text (before (goal.at.returns-then-taken-room-clause-cut c).In-Some)
-    c.if-taken-gt0.cut c.if-character.true
+returns-then-taken-room-clause-cut c = λ wide. turn-full c.utf8.text
+    (before (goal.at.returns-then-taken-room-clause-cut c).In-Some) c.if-taken-gt0.cut c.if-character.true
     (omega (arith, c.requires, c.if-taken-room.true, c.columns-width.ensures))
     (found (goal.at.returns-then-taken-room-clause-cut c).Joined-taken-gt0)
 

@@ -1,10 +1,8 @@
 use Rattle.textwrap_display.proofs.shortening.kept_len.Goals as goal
 use Rattle.textwrap_display.proofs.Common.{IsKeptBeginning, indent_len}
-use Rattle.textwrap_display.proofs.ShortenedLines.{IsFoundWord, cut-none, kept-cut, kept-none}
-use Rattle.textwrap_display.proofs.ShortenedLines.{kept-uncut, kept-within, kept-words}
-use Rattle.textwrap_display.proofs.ShortenedLines.{start-boundary, start-is, word-is}
-use Rattle.textwrap_display.proofs.shortening.kept_len.Goals.{After-broken_len-broken}
-use Rattle.textwrap_display.proofs.shortening.kept_len.Goals.{After-split_indent}
+use Rattle.textwrap_display.proofs.ShortenedLines.{IsFoundWord, cut-none, kept-cut, kept-none, kept-uncut}
+use Rattle.textwrap_display.proofs.ShortenedLines.{kept-within, kept-words, start-boundary, start-is, word-is}
+use Rattle.textwrap_display.proofs.shortening.kept_len.Goals.{After-broken_len-broken, After-split_indent}
 use Rattle.textwrap_text.proofs.Common.{ap, arith, drop, length, text_width, ◌+◌, ◌∙◌, ◌≡◌}
 use Rattle.textwrap_text.proofs.Lists.Parts.{from_start}
 
@@ -20,8 +18,7 @@ kept c = c.words_len-words.ensures _ _
 
 start : (c : After-split_indent) → c.words_len-words.result + length c.split_indent.result.0.now
     ≡ c.words_len-words.result + indent_len (drop c.words_len-words.result c.args.line.now)
-start c =
-    start-is c.args.line.now c.words_len-words.result c.range_from.ensures.value
+start c = start-is c.args.line.now c.words_len-words.result c.range_from.ensures.value
     c.split_indent.ensures.indent
 
 pub range-requires-clause-end_boundary : goal.range-requires-clause-end_boundary
@@ -34,14 +31,9 @@ returns-in_default-checked_sub c =
     let at = goal.at.returns-in_default-checked_sub c in
     let words = kept at.After-split_indent in
     let next = start at.After-split_indent in
-    kept-words words next (λ passes. cut-none c.utf8.line words next (omega (
-      arith,
-      c.in-Some.ensures,
-      c.display_width-placeholder.ensures.width,
-      c.in_default-checked_sub.ensures,
-      c.display_width.ensures.width,
-      ap text_width (c.range.ensures.value ∙ from_start c.args.line.now _),
-    )))
+    let front = ap text_width (c.range.ensures.value ∙ from_start c.args.line.now _) in
+    kept-words words next (λ passes. cut-none c.utf8.line words next
+    (omega (arith, c.in-Some.ensures, c.in_default-checked_sub.ensures, front)))
 
 -- what is found of that word
 found : (c : After-broken_len-broken) → IsFoundWord c.args.shortening.now.width
@@ -51,8 +43,7 @@ found : (c : After-broken_len-broken) → IsFoundWord c.args.shortening.now.widt
 found c =
     let line = c.args.line.now in
     let words = c.words_len-words.result in
-    let is : c.in-Some.room + text_width c.args.shortening.now.placeholder.now
-    ≡ c.args.shortening.now.width =
+    let is : c.in-Some.room + text_width c.args.shortening.now.placeholder.now ≡ c.args.shortening.now.width =
     omega (arith, c.in-Some.ensures, c.display_width-placeholder.ensures.width) in
     let next = start-is line words c.range_from.ensures.value c.split_indent.ensures.indent in
     let front = ap text_width (c.range.ensures.value ∙ from_start line _) in
@@ -72,9 +63,8 @@ overflow_add-result c =
     omega (arith, kept-within c.utf8.line h c.if-broken-eq0.false)
 
 pub returns-then-broken-eq0 : goal.returns-then-broken-eq0
-returns-then-broken-eq0 c =
-    kept-uncut c.utf8.line (found (goal.at.returns-then-broken-eq0 c).After-broken_len-broken)
-    c.if-broken-eq0.true
+returns-then-broken-eq0 c = kept-uncut c.utf8.line
+    (found (goal.at.returns-then-broken-eq0 c).After-broken_len-broken) c.if-broken-eq0.true
 
 pub returns-else-broken-eq0 : goal.returns-else-broken-eq0
 returns-else-broken-eq0 c =

@@ -4,9 +4,6 @@ use Rattle.textwrap_text.proofs.Common.{append_assoc, arith, map-append, take_mo
 
 pub loop-line-preserved : goal.loop-line-preserved
 loop-line-preserved g c =
-    let lines = c.args.lines.now in
-    let front = take_more lines c.loop-line.line-index c.line-item.result c.loop-line-test.true in
-    let line = c.line-item.is in
-    let text = c.as_str.ensures.value in
+    let front = take_more c.args.lines.now c.loop-line.line-index c.line-item.result c.loop-line-test.true in
     rw (c.in_ok-push.ensures.items, map-append, c.loop-line.invariant, append_assoc)
-    (grind (arith, map-append, front, line, text, line_bytes-line_view))
+    (grind (arith, map-append, front, c.line-item.is, c.as_str.ensures.value, line_bytes-line_view))

@@ -6,15 +6,14 @@ pub range-kept-requires-clause-end_boundary : goal.range-kept-requires-clause-en
 range-kept-requires-clause-end_boundary g c = kept-boundary c.kept_len.ensures c.utf8.line
 
 pub returns : goal.returns
-returns g c =
-    search (
-      rules,
-      arith,
-      c.kept_len.ensures,
-      c.in_ok-closing.ensures,
-      c.in_ok-push_str-3.ensures.bytes,
-      c.in_ok-push_str-2.ensures.bytes,
-      c.in_ok-push_str.ensures.bytes,
-      c.in_ok-text.ensures.bytes,
-      c.range-kept.ensures.value,
-    )
+returns g c = search (
+  rules,
+  arith,
+  c.kept_len.ensures,
+  c.in_ok-closing.ensures,
+  c.in_ok-push_str-3.ensures.bytes,
+  c.in_ok-push_str-2.ensures.bytes,
+  c.in_ok-push_str.ensures.bytes,
+  c.in_ok-text.ensures.bytes,
+  c.range-kept.ensures.value,
+)

@@ -11,24 +11,19 @@ pub loop-at-init : goal.loop-at-init
 loop-at-init c =
     let items = c.char_indices-at-items.ensures in
     let line = c.args.line.now in
-    rw (c.into_iter-at-iterator.ensures.into_iter_gives, items.offset, items.rest) (record {
-      read = read_to-start line c.utf8.line;
-      found = latest-none (CanEnd line) c.args.room line;
-    })
+    rw (c.into_iter-at-iterator.ensures.into_iter_gives, items.offset, items.rest)
+    (record { read = read_to-start line c.utf8.line; found = latest-none (CanEnd line) c.args.room line })
 
 pub returns-then-taken-room : goal.returns-then-taken-room
 returns-then-taken-room c = λ width placeholder is.
-    let h = c.loop-at.invariant in
-    found-kept is (found-past c.utf8.line h.read h.found c.if-taken-room.true)
+    let h = c.loop-at.invariant in found-kept is (found-past c.utf8.line h.read h.found c.if-taken-room.true)
 
-read : (c : Joined-is_visible)
-    → IsReadTo c.args.line.now (char_indices_offset c.next.new.self)
+read : (c : Joined-is_visible) → IsReadTo c.args.line.now (char_indices_offset c.next.new.self)
     (char_indices_rest c.next.new.self) c.step-next.result.0
     (c.loop-at.taken + c.if-is_visible.taken) (eqb c.in-Some.ch 32)
 read c =
     let s = c.in-Some.ensures.steps in
-    let more : added c.loop-at.state c.in-Some.ch ≡ c.if-is_visible.taken =
-    elim c.if-is_visible.branch [
+    let more : added c.loop-at.state c.in-Some.ch ≡ c.if-is_visible.taken = elim c.if-is_visible.branch [
       | goal.then-is_visible w ↦ rw (rw c.step-next.ensures at w.if-is_visible.true)
           (sym (w.taken-is ∙ w.columns.ensures))
       | goal.else-is_visible w ↦ rw (rw c.step-next.ensures at w.if-is_visible.false) (sym w.taken-is)
@@ -38,8 +33,7 @@ read c =
 
 pub overflow_add-taken : goal.overflow_add-taken
 overflow_add-taken c =
-    let past = read (goal.at.overflow_add-taken c).Joined-is_visible in
-    omega (arith, read-le c.utf8.line past)
+    omega (arith, read-le c.utf8.line (read (goal.at.overflow_add-taken c).Joined-is_visible))
 
 found : (c : Joined-ch-eq32)
     → IsFound c.args.room c.args.line.now (char_indices_offset c.next.new.self) c.if-ch-eq32.kept
@@ -64,10 +58,9 @@ found c =
     ]
 
 pub loop-at-preserved : goal.loop-at-preserved
-loop-at-preserved c = record {
-  read = read (goal.at.loop-at-preserved c).Joined-is_visible;
-  found = found (goal.at.loop-at-preserved c).Joined-ch-eq32;
-}
+loop-at-preserved c =
+    let at = goal.at.loop-at-preserved c in
+    record { read = read at.Joined-is_visible; found = found at.Joined-ch-eq32 }
 
 pub returns-then-not-outside : goal.returns-then-not-outside
 returns-then-not-outside c =
@@ -77,8 +70,7 @@ returns-then-not-outside c =
       | inl past ↦ found-past c.utf8.line h.read h.found past
       | inr within ↦ found-rest c.utf8.line h.read h.found ended (λ some outside. elim within [
         | inl (_, blank) ↦ absurd (false≢true (sym some ∙ blank))
-        | inr (_, _, inside) ↦
-            absurd (false≢true (sym inside ∙ c.is_outside-outside-2.ensures.1 outside))
+        | inr (_, _, inside) ↦ absurd (false≢true (sym inside ∙ c.is_outside-outside-2.ensures.1 outside))
       ])
     ])
 

@@ -1,11 +1,10 @@
 use Rattle.textwrap_display.proofs.tables.table.Goals as goal
-use Rattle.std.specs.Slice.Iter.{chunks_rest}
-use Rattle.textwrap_display.proofs.{Common.passed-on, TableGroups.IsFirstGroup}
-use Rattle.textwrap_display.proofs.TableGroups.{first-group, groups-more, table-more, table-none}
-use Rattle.textwrap_display.{proofs.tables.table.Goals.In-Some, specs.Tables.NonePasses}
-use Rattle.textwrap_display.specs.Tables.{cell_texts, gaps_view, group_rows, texts_in}
-use Rattle.textwrap_text.proofs.Common.{All-head, All-tail, [], append-nil, append_assoc, arith}
-use Rattle.textwrap_text.proofs.Common.{length, length-map, map, rules, ◌++◌, ◌∙◌}
+use Rattle.textwrap_display.proofs.Common.{chunks_rest, passed-on}
+use Rattle.textwrap_display.proofs.TableGroups.{IsFirstGroup, first-group, groups-more, table-more}
+use Rattle.textwrap_display.proofs.{TableGroups.table-none, tables.table.Goals.In-Some}
+use Rattle.textwrap_display.specs.Tables.{NonePasses, cell_texts, gaps_view, group_rows, texts_in}
+use Rattle.textwrap_text.proofs.Common.{All-head, All-tail, [], append-nil, append_assoc}
+use Rattle.textwrap_text.proofs.Common.{arith, length, length-map, map, rules, ◌++◌, ◌∙◌}
 
 pub loop-texts-init : goal.loop-texts-init
 loop-texts-init g c = search (rules, arith)
@@ -13,10 +12,8 @@ loop-texts-init g c = search (rules, arith)
 first_group : (g : _) (c : In-Some g) → IsFirstGroup (length c.args.columns.now)
     (texts_in (chunks_rest c.loop-texts.texts-iterator)) (texts_in c.in-Some.texts.now)
     (texts_in (chunks_rest c.next.new.self))
-first_group g c =
-    first-group (λ text. text.now) (chunks_rest c.loop-texts.texts-iterator) c.in-Some.texts.now
-    (chunks_rest c.next.new.self) c.loop-texts.iterator.0 c.loop-texts.invariant.0
-    c.in-Some.ensures.steps.1
+first_group g c = first-group (λ text. text.now) (chunks_rest c.loop-texts.texts-iterator) c.in-Some.texts.now
+    (chunks_rest c.next.new.self) c.loop-texts.iterator.0 c.loop-texts.invariant.0 c.in-Some.ensures.steps.1
 
 pub loop-texts-preserved : goal.loop-texts-preserved
 loop-texts-preserved g c =

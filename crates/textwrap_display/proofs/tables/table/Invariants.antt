@@ -1,14 +1,12 @@
 use Rattle.textwrap_display.proofs.tables.table.Given as goal
-use Rattle.std.specs.Slice.Iter.{chunks_rest, chunks_size}
+use Rattle.textwrap_display.proofs.Common.{chunks_rest, chunks_size}
 use Rattle.textwrap_display.specs.Tables.{IsTableBy, NonePasses, gaps_view, groups_of, texts_in}
 use Rattle.textwrap_text.proofs.Common.{All, List, length, map, string_bytes, ℕ, ◌++◌, ◌≡◌}
 
 -- with any table of the texts that are left, the rows so far are that of all; and if all texts fit,
 -- those that are left do
 abbrev pub invariant-loop-texts : goal.invariant-loop-texts
-invariant-loop-texts g l =
-    (chunks_size l.texts-iterator ≡ length l.columns)
-    × ((others : List (List ℕ))
+invariant-loop-texts g l = (chunks_size l.texts-iterator ≡ length l.columns) × ((others : List (List ℕ))
     → IsTableBy g.C.AnyColumn.makes g.C.AnyColumn.shape l.columns (gaps_view l.gaps) (texts_in (chunks_rest l.texts-iterator)) others
     → IsTableBy g.C.AnyColumn.makes g.C.AnyColumn.shape l.columns (gaps_view l.gaps) (texts_in l.cells)
     (map string_bytes l.rows.items ++ others))

@@ -1,25 +1,21 @@
 use Rattle.textwrap_display.proofs.tables.wrap_cells.Goals as goal
 use Rattle.std.proofs.lemmas.Slice.Zip.{all_zipped_more, length-zip, zip_end, zip_turn}
-use Rattle.std.specs.Iterator.Adapters.{zip_first, zip_second}
-use Rattle.std.specs.Slice.Iter.{iter_rest}
-use Rattle.textwrap_display.proofs.{Common.passed-on, Common.texts_of, TableGroups.cell-at}
-use Rattle.textwrap_display.{proofs.tables.wrap_cells.Goals.In-Some, specs.Tables.IsCell}
-use Rattle.textwrap_display.specs.Tables.{cell_texts, texts_in}
+use Rattle.std.specs.{Iterator.Adapters.zip_first, Iterator.Adapters.zip_second, Slice.Iter.iter_rest}
+use Rattle.textwrap_display.proofs.Common.{passed-on, texts_of}
+use Rattle.textwrap_display.proofs.{TableGroups.cell-at, tables.wrap_cells.Goals.In-Some}
+use Rattle.textwrap_display.specs.Tables.{IsCell, cell_texts, texts_in}
 use Rattle.textwrap_layout.proofs.Common.{line_view}
-use Rattle.textwrap_text.proofs.Common.{arith, get_or, length, length-map, length_push, map}
-use Rattle.textwrap_text.proofs.Common.{map-append, refl, rules, subst, sym, take, take_all}
-use Rattle.textwrap_text.proofs.Common.{take_more, zip, ◌<◌, ◌≡◌}
+use Rattle.textwrap_text.proofs.Common.{arith, get_or, length, length-map, length_push, map, map-append}
+use Rattle.textwrap_text.proofs.Common.{refl, rules, subst, sym, take, take_all, take_more, zip, ◌<◌, ◌≡◌}
 
 -- which column this is, and which text beside it
-turn : (g : _) (c : In-Some g)
-    → let n = length c.loop-text.yielded in let columns = c.args.columns.now in
+turn : (g : _) (c : In-Some g) → let n = length c.loop-text.yielded in let columns = c.args.columns.now in
     let all = zip columns (texts_in c.args.texts.now) in
     let column = c.in-Some.column.now in let text = c.in-Some.text.now.now in
     (n < length columns) × ((d : _) → column ≡ get_or columns n d) × (n < length all)
     × ((column, text) ≡ get_or all n (column, text))
 turn g c =
-    let first : iter_rest (zip_first c.into_iter-text-iterator.result) ≡ c.args.texts.now =
-    search rules in
+    let first : iter_rest (zip_first c.into_iter-text-iterator.result) ≡ c.args.texts.now = search rules in
     let second : iter_rest (zip_second c.into_iter-text-iterator.result) ≡ c.args.columns.now =
     search rules in
     let (some, within, text_is, column_is) = zip_turn c.args.texts.now c.args.columns.now
@@ -55,8 +51,7 @@ pub returns-in_err-wrap_cell-clause-no_overflow : goal.returns-in_err-wrap_cell-
 returns-in_err-wrap_cell-clause-no_overflow g c = λ fit.
     let (_, _, inside, is) = turn g (goal.at.returns-in_err-wrap_cell-clause-no_overflow g c).In-Some in
     passed-on c.from_residual.result c.in_err-wrap_cell.field-0.0 c.from_residual.ensures.1
-    (c.in_err-wrap_cell.ensures.no_overflow
-    (subst (λ p. ¬ g.C.AnyColumn.may_pass p.0 p.1) (sym is)
+    (c.in_err-wrap_cell.ensures.no_overflow (subst (λ p. ¬ g.C.AnyColumn.may_pass p.0 p.1) (sym is)
     (fit (length c.loop-text.yielded) (c.in-Some.column.now, c.in-Some.text.now.now) inside)))
 
 pub returns-clause-cells : goal.returns-clause-cells
@@ -69,6 +64,5 @@ returns-clause-cells g c =
     let ended = zip_end texts columns c.loop-text.yielded _ _ c.next.new.self _ first second
     c.loop-text.yielded_by c.in-None.is c.next.ensures.steps in
     let some = length-map texts (λ t. t.now) in
-    let all = take_all n (zip columns (texts_in texts))
-    (omega (arith, ended, length-zip columns (texts_in texts), some)) in
-    rw all at c.loop-text.invariant
+    rw (take_all n (zip columns (texts_in texts)) (omega (arith, length-zip columns (texts_in texts))))
+    at c.loop-text.invariant

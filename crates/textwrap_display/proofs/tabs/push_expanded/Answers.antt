@@ -19,5 +19,4 @@ loop-part-preserved g c = record {
 pub returns : goal.returns
 returns g c =
     let all = split_once_first 9 c.loop-part.rest.now None c.in_default.ensures.cases (lit< tt) in
-    rw c.in_ok-push_str.ensures.bytes
-    (rw (expanded-last c.args.stop _ all) at c.loop-part.invariant.whole)
+    rw c.in_ok-push_str.ensures.bytes (rw (expanded-last c.args.stop _ all) at c.loop-part.invariant.whole)

@@ -1,7 +1,6 @@
 use Rattle.textwrap_display.proofs.fitting.Sharing.of.Goals as goal
-use Rattle.textwrap_display.proofs.FittingWidths.{sum_by-none, sum_by-one}
-use Rattle.textwrap_display.specs.{Sharing.sure, declared.fitting.Basis.TheVariants.Nothing}
-use Rattle.textwrap_display.specs.declared.fitting.Basis.TheVariants.{Scarce}
+use Rattle.textwrap_display.proofs.{Common.sure, FittingWidths.sum_by-none, FittingWidths.sum_by-one}
+use Rattle.textwrap_display.specs.declared.fitting.Basis.TheVariants.{Nothing, Scarce}
 use Rattle.textwrap_text.proofs.Common.{arith, sum_by, sym, ◌∙◌, ◌≡◌}
 
 pub returns-then-lines-eq0-clause-shares : goal.returns-then-lines-eq0-clause-shares

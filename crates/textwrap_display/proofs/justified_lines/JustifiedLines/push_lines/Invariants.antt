@@ -1,6 +1,5 @@
 use Rattle.textwrap_display.proofs.justified_lines.JustifiedLines.push_lines.Given as goal
-use Rattle.textwrap_display.proofs.Common.{line_bytes, line_view}
-use Rattle.textwrap_display.specs.JustifiedSinks.{HoldsJustified}
+use Rattle.textwrap_display.proofs.Common.{HoldsJustified, line_bytes, line_view}
 use Rattle.textwrap_text.proofs.Common.{map, take}
 
 abbrev pub invariant-loop-line : goal.invariant-loop-line

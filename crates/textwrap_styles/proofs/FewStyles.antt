@@ -56,16 +56,16 @@ all-pass : (ss : List (List ℕ)) → filter (λ s. true) ss ≡ ss
 all-pass [] = refl
 all-pass (s ∷ ss) = ap (λ l. s ∷ l) (all-pass ss)
 
--- the kinds are those from 1 to 15
+-- the kinds are those from 1 to 17
 kinds-range : (ss : List (List ℕ)) (q : ℕ) → All Sets ss
-    → list_any (eqb q) (kinds (filter known ss)) ≡ true → (0 < q) × (q < 16)
+    → list_any (eqb q) (kinds (filter known ss)) ≡ true → (0 < q) × (q < 18)
 unfolding number
 kinds-range [] q all is = absurd (true≢false (sym is))
 kinds-range (s ∷ ss) q all is =
     let own = All-head Sets s ss all in
     grind (arith, cases_Bool, nat_tests, own, known-below, kinds-range ss q (All-tail Sets s ss all))
 
-pub few-known : (before : List (List ℕ)) → length (known_settings before) ≤ 15
+pub few-known : (before : List (List ℕ)) → length (known_settings before) ≤ 17
 few-known before =
     let all = flat_map settings_of before in
     let now = open_settings all in
@@ -76,7 +76,7 @@ few-known before =
     let other : is_member eqb kept 0 ≡ false =
     false_from_ne_true (is_member eqb kept 0) (λ is. omega (arith, range 0 is)) in
     let distinct = IsDistinct-from_count nat_eq_equiv (0 ∷ kept) (grind (arith, cases_Bool, other, once)) in
-    let most = length-le_from_distinct_below (0 ∷ kept) 16 distinct
+    let most = length-le_from_distinct_below (0 ∷ kept) 18 distinct
     (λ q is. grind (arith, cases_Bool, nat_tests, range q, is)) in
     omega (arith, most, length-map (filter known now) (λ s. number (kind_of s)))
 
@@ -125,7 +125,7 @@ unknown s = grind (arith, cases_Bool)
 pub styles-short : (indent : List ℕ) (before : List (List ℕ)) (line : List ℕ) (most : ℕ)
     → All (λ s. length s ≤ most) before
     → length (line_bytes (carried_line indent before line))
-    ≤ length line + (16 + length (unknown_settings before)) * most + 25 + length style_end
+    ≤ length line + (18 + length (unknown_settings before)) * most + 25 + length style_end
     + length link_end
 styles-short indent before line most short =
     let all = flat_map settings_of before in
@@ -136,6 +136,6 @@ styles-short indent before line most short =
     (omega arith) (λ s is few. omega (arith, few, length-append s [])) in
     let styles = written-bytes now most (all-open (IsShort most) all (all-short before most short))
     in
-    let count : length now ≤ 15 + length (unknown_settings before) =
+    let count : length now ≤ 17 + length (unknown_settings before) =
     omega (arith, length-filter_both known (λ s. is_unknown (kind_of s)) unknown now, few-known before) in
     omega (arith, line_len, len, reopened-len before, link, styles, mul-le-mul_left most count)

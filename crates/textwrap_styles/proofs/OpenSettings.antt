@@ -10,15 +10,15 @@ use Rattle.textwrap_text.proofs.Common.{arith, Bool, Bor, cases_Bool, cond, cond
 use Rattle.textwrap_text.proofs.Common.{List, list_any, map, nat_tests, not, refl, rules, sym, true, ◌||◌, ℕ}
 use Rattle.textwrap_text.proofs.{Common.{◌∙◌, ◌∷◌, ◌≡◌}, Lists.Parts.after_last-push}
 
-pub unknown-number : (k : Kind) → is_unknown k ≡ (number k == 16)
+pub unknown-number : (k : Kind) → is_unknown k ≡ (number k == 18)
 unfolding is_unknown number
 unknown-number _ = grind (arith, cases_Bool, nat_tests)
 
-pub known-below : (k : Kind) → is_unknown k ≡ false → number k < 16
+pub known-below : (k : Kind) → is_unknown k ≡ false → number k < 18
 unfolding is_unknown number
 known-below _ known = grind (arith, cases_Bool, nat_tests)
 
-pub unknown-other : (k : Kind) (n : ℕ) → is_unknown k ≡ true → n < 16 → (number k == n) ≡ false
+pub unknown-other : (k : Kind) (n : ℕ) → is_unknown k ≡ true → n < 18 → (number k == n) ≡ false
 unknown-other k n unknown below = grind (arith, cases_Bool, nat_tests, unknown-number)
 
 -- tests that are the same of each are the same of all
@@ -27,24 +27,23 @@ any-same : (f g : List ℕ → Bool) → ((t : List ℕ) → f t ≡ g t) → (x
 any-same f g same [] = refl
 any-same f g same (x ∷ xs) = grind (arith, same x, any-same f g same xs)
 
-any-or : (f g : List ℕ → Bool) (b : Bool) (xs : List (List ℕ))
-    → list_any (λ t. f t || b && g t) xs ≡ (list_any f xs || b && list_any g xs)
-any-or f g true [] = refl
-any-or f g false [] = refl
-any-or f g b (x ∷ xs) = grind (arith, cases_Bool, any-or f g b xs)
+any-or : (f g : List ℕ → Bool) (xs : List (List ℕ))
+    → list_any (λ t. f t || g t) xs ≡ (list_any f xs || list_any g xs)
+any-or f g [] = refl
+any-or f g (x ∷ xs) = grind (arith, cases_Bool, any-or f g xs)
 
--- one that is known is taken back by its kind, and bold and faint by both
-takes_back-known : (j k : Kind) → is_unknown k ≡ false
-    → (not (is_unknown j) && takes_back j k)
-    ≡ ((number j == number k) || ((number k == 1) || (number k == 2)) && (number j == 3))
-unfolding takes_back number
-takes_back-known j k known = grind (arith, cases_Bool, nat_tests, unknown-number, known-below)
+-- these two kinds alone take back one that is known
+module _ (k end : Kind) (known : is_unknown k ≡ false) (too : is_unknown end ≡ false)
+    (takes : (j : Kind) → takes_back j k ≡ ((number j == number k) || (number j == number end))) where
+  taken-known : (j : Kind) → (not (is_unknown j) && takes_back j k)
+      ≡ ((number j == number k) || (number j == number end))
+  taken-known j = grind (arith, cases_Bool, nat_tests, takes, unknown-number, known-below)
 
-pub any-known : (k : Kind) (later : List (List ℕ)) → is_unknown k ≡ false
-    → list_any (λ t. not (is_unknown (kind_of t)) && takes_back (kind_of t) k) later
-    ≡ (list_any (λ t. number (kind_of t) == number k) later
-    || ((number k == 1) || (number k == 2)) && list_any (λ t. number (kind_of t) == 3) later)
-any-known k later known = search (rules, arith, any-same, takes_back-known, any-or)
+  pub any-known : (later : List (List ℕ))
+      → list_any (λ t. not (is_unknown (kind_of t)) && takes_back (kind_of t) k) later
+      ≡ (list_any (λ t. number (kind_of t) == number k) later
+      || list_any (λ t. number (kind_of t) == number end) later)
+  any-known later = search (rules, arith, any-same, taken-known, any-or)
 
 -- one that is unknown is taken back by the same
 replaces-unknown : (t s : List ℕ) → is_unknown (kind_of s) ≡ true

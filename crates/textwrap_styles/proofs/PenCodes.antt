@@ -20,17 +20,18 @@ mix m v p = record {
   bold = cond (m 1) v.bold p.bold;
   faint = cond (m 2) v.faint p.faint;
   italic = cond (m 4) v.italic p.italic;
-  underline = cond (m 5) v.underline p.underline;
-  blink = cond (m 6) v.blink p.blink;
-  inverse = cond (m 7) v.inverse p.inverse;
-  hidden = cond (m 8) v.hidden p.hidden;
-  crossed_out = cond (m 9) v.crossed_out p.crossed_out;
-  font = cond (m 10) v.font p.font;
-  foreground = cond (m 11) v.foreground p.foreground;
-  background = cond (m 12) v.background p.background;
-  framed = cond (m 13) v.framed p.framed;
-  overlined = cond (m 14) v.overlined p.overlined;
-  underline_color = cond (m 15) v.underline_color p.underline_color;
+  gothic = cond (m 5) v.gothic p.gothic;
+  underline = cond (m 7) v.underline p.underline;
+  blink = cond (m 8) v.blink p.blink;
+  inverse = cond (m 9) v.inverse p.inverse;
+  hidden = cond (m 10) v.hidden p.hidden;
+  crossed_out = cond (m 11) v.crossed_out p.crossed_out;
+  font = cond (m 12) v.font p.font;
+  foreground = cond (m 13) v.foreground p.foreground;
+  background = cond (m 14) v.background p.background;
+  framed = cond (m 15) v.framed p.framed;
+  overlined = cond (m 16) v.overlined p.overlined;
+  underline_color = cond (m 17) v.underline_color p.underline_color;
 }
 
 module _ {X : Type 0} (b c : Bool) (v w p : X) where
@@ -62,9 +63,18 @@ mix-swap m n v w p none = grind (arith, pick-swap, none)
 
 -- ---- the rows of the table
 
--- the fields that a kind sets, by the numbers of their own kinds: all, or for 3 bold and faint
+-- the fields that a kind sets, by the numbers of their own kinds: all, for 3 bold and faint, or for 6
+-- italic and Gothic
 abbrev pub sets : ℕ → Mask
-sets k i = (k == 0) || (k == i) || (k == 3) && ((i == 1) || (i == 2))
+sets k i =
+    (k == 0) || (k == i) || (k == 3) && ((i == 1) || (i == 2)) || (k == 6) && ((i == 4) || (i == 5))
+
+-- the kinds that set more than one field, and those whose field another kind sets too
+abbrev pub is_many : ℕ → Bool
+is_many k = (k == 0) || (k == 3) || (k == 6)
+
+abbrev pub is_shared : ℕ → Bool
+is_shared k = (k == 1) || (k == 2) || (k == 4) || (k == 5)
 
 -- those that a number by itself sets: none where a colour has to follow
 abbrev pub touches : ℕ → Mask
@@ -77,12 +87,12 @@ is_own _ = false
 -- the field that a kind sets is not plain
 unfoldable pub differs_at : Pen → ℕ → Bool
 differs_at p i =
-    p.bold && (i == 1) || p.faint && (i == 2) || p.italic && (i == 4)
-    || not (p.underline == 0) && (i == 5) || not (p.blink == 0) && (i == 6)
-    || p.inverse && (i == 7) || p.hidden && (i == 8) || p.crossed_out && (i == 9)
-    || not (p.font == 0) && (i == 10) || not (is_own p.foreground) && (i == 11)
-    || not (is_own p.background) && (i == 12) || not (p.framed == 0) && (i == 13)
-    || p.overlined && (i == 14) || not (is_own p.underline_color) && (i == 15)
+    p.bold && (i == 1) || p.faint && (i == 2) || p.italic && (i == 4) || p.gothic && (i == 5)
+    || not (p.underline == 0) && (i == 7) || not (p.blink == 0) && (i == 8)
+    || p.inverse && (i == 9) || p.hidden && (i == 10) || p.crossed_out && (i == 11)
+    || not (p.font == 0) && (i == 12) || not (is_own p.foreground) && (i == 13)
+    || not (is_own p.background) && (i == 14) || not (p.framed == 0) && (i == 15)
+    || p.overlined && (i == 16) || not (is_own p.underline_color) && (i == 17)
 
 pub plain-differs : (i : ℕ) → differs_at plain_pen i ≡ false
 unfolding differs_at
@@ -196,7 +206,7 @@ code-changes c = record { fields = touches c; values = with_code c plain_pen; is
 color-changes : (c : ℕ) (color : Color) → Changes (with_color c color)
 unfolding with_color
 color-changes c color = record {
-  fields = λ i. cond (c == 38) (11 == i) (cond (c == 48) (12 == i) (15 == i));
+  fields = λ i. cond (c == 38) (13 == i) (cond (c == 48) (14 == i) (17 == i));
   values = with_color c color plain_pen;
   is = λ p. grind (arith, cases_Bool);
 }
@@ -205,7 +215,7 @@ parts-changes : (c : ℕ) (parts : List ℕ) → Changes (with_parts c parts)
 unfolding with_parts
 parts-changes c parts =
     let underline : Changes (λ p. record p { underline = first_of parts }) = record {
-      fields = λ i. 5 == i;
+      fields = λ i. 7 == i;
       values = record plain_pen { underline = first_of parts };
       is = λ p. refl;
     } in

@@ -6,7 +6,7 @@ use Rattle.textwrap_styles.proofs.{Common.{Pen, plain_pen, Reset, settings}, Ope
 use Rattle.textwrap_styles.proofs.OpenSettings.{all-latest, all-since, known-below, latest-in_effect}
 use Rattle.textwrap_styles.proofs.OpenSettings.{left-after, next_left, none-latest, resets, Sets}
 use Rattle.textwrap_styles.proofs.PenCodes.{apply-changes, Changes, changes-then, mix, mix-again, mix-swap}
-use Rattle.textwrap_styles.{proofs.PenCodes.{mix-within, nothing, sets}, specs.Pen.read}
+use Rattle.textwrap_styles.{proofs.PenCodes.{is_many, is_shared, mix-within, nothing, sets}, specs.Pen.read}
 use Rattle.textwrap_styles.proofs.PenSettings.{all-known, kind-code, many-end}
 use Rattle.textwrap_styles.proofs.SettingTexts.{are-settings, between-append, drop-all, fields-split, InRange}
 use Rattle.textwrap_styles.proofs.SettingTexts.{IsSetting, settings-next, settings-one, taken-again}
@@ -48,19 +48,19 @@ kinds-within later earlier back i = grind (arith, cases_Bool, nat_tests)
 
 kinds-apart : (later earlier : Kind) → takes_back later earlier ≡ false
     → (number later == number Reset) ≡ false → (number earlier == number Reset) ≡ false
-    → ((number later == 1) || (number later == 2)) ≡ false → (i : ℕ)
+    → is_shared (number later) ≡ false → (i : ℕ)
     → (sets (number later) i && sets (number earlier) i) ≡ false
 unfolding takes_back number
 kinds-apart later earlier other some one own i = grind (arith, cases_Bool, nat_tests)
 
 ending-code : (c : ℕ) → (is_ending_code c || (c == 4)) ≡ true
-    → ((number (kind_of_code c) == 1) || (number (kind_of_code c) == 2)) ≡ false
+    → is_shared (number (kind_of_code c)) ≡ false
 unfolding is_ending_code kind_of_code number
 ending-code c is = grind (arith, cases_Bool, nat_tests)
 
--- what ends something is of another kind than bold and faint
+-- what ends something is of another kind than bold, faint, italic and Gothic
 end-kind : (t : List ℕ) → is_unknown (kind_of t) ≡ false → is_end t ≡ true
-    → ((number (kind_of t) == 1) || (number (kind_of t) == 2)) ≡ false
+    → is_shared (number (kind_of t)) ≡ false
 unfolding is_end
 end-kind t known end = grind (arith, cases_Bool, nat_tests, kind-code, ending-code)
 
@@ -178,8 +178,9 @@ reset-plain t is reset p =
     let known : is_unknown (kind_of t) ≡ false =
     grind (arith, cases_Bool, nat_tests, unknown-number (kind_of t)) in
     let all = all-known t is known in
-    all.sets p ∙ ap (λ n. mix (sets n) (apply t plain_pen) p) (eqb-true (number (kind_of t)) 0 reset)
-    ∙ all.ends (many-end t is known (ap (λ b. b || (number (kind_of t) == 3)) reset))
+    let zero = eqb-true (number (kind_of t)) 0 reset in
+    all.sets p ∙ ap (λ n. mix (sets n) (apply t plain_pen) p) zero
+    ∙ all.ends (many-end t is known (ap is_many zero))
 
 -- those since then give the pen that all give
 since-reset : (more before : List (List ℕ)) (p : Pen) → All IsSetting more → pen_by plain_pen before ≡ p

@@ -2,7 +2,8 @@
 -- something as in the plain pen, and any other unlike it.
 use Rattle.textwrap_styles.proofs.Common.{apply, between, Color, digits_value, fields, first_of}
 use Rattle.textwrap_styles.proofs.Common.{is_ascii_digit, is_in_range, numbers_of, Pen, plain_pen}
-use Rattle.textwrap_styles.{proofs.PenCodes.{differs_at, is_own, mix, row, sets}, specs.Settings.taken_fields}
+use Rattle.textwrap_styles.proofs.PenCodes.{differs_at, is_many, is_own, mix, row, sets}
+use Rattle.textwrap_styles.specs.Settings.{taken_fields}
 use Rattle.textwrap_styles.proofs.SettingTexts.{between-rest, between-some, code-first, colon-first}
 use Rattle.textwrap_styles.proofs.SettingTexts.{details-cons, details-nil, drop-all, fields-few, fields-many}
 use Rattle.textwrap_styles.proofs.SettingTexts.{first_field, first_number, first_text, first_text-first}
@@ -126,9 +127,8 @@ far-unknown : is_unknown (kind_of_code 255) ≡ true
 unfolding kind_of_code is_unknown
 far-unknown = refl
 
--- 0 and 22 set more than one field
-kind-many : (c : ℕ) → ((number (kind_of_code c) == 0) || (number (kind_of_code c) == 3))
-    ≡ ((c == 0) || (c == 22))
+-- 0, 22 and 23 set more than one field
+kind-many : (c : ℕ) → is_many (number (kind_of_code c)) ≡ ((c == 0) || (c == 22) || (c == 23))
 unfolding kind_of_code number
 kind-many c = grind (arith, cases_Bool, nat_tests)
 
@@ -306,7 +306,8 @@ module _ (t : List ℕ) (is : IsSetting t) (known : is_unknown (kind_of t) ≡ f
   all-known = grind (arith, cases_Bool, nat_tests, has_colon, colon-known, color-known, plain-known)
 
   -- one that sets more than one field is an end
-  pub many-end : ((number (kind_of t) == 0) || (number (kind_of t) == 3)) ≡ true → is_end t ≡ true
+  pub many-end : is_many (number (kind_of t)) ≡ true → is_end t ≡ true
   unfolding is_color_code is_ending_code
   many-end many =
-      grind (arith, cases_Bool, nat_tests, kind-many (code t), kind-code t known, colon-code, plain-end)
+      let code-is = sym (kind-many (code t)) ∙ (rw (kind-code t known) at many) in
+      grind (arith, cases_Bool, nat_tests, code-is, colon-code, plain-end)

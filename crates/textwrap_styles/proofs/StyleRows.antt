@@ -50,9 +50,10 @@ unfolding with_field with_code with_parts is_whole_color with_color color_of
 all-ended = (refl, refl, refl, refl)
 
 -- the others, each set and ended
-others-set : Gives (codes "3;6;7;8;9;12;52;53;2")
+others-set : Gives (codes "3;20;6;7;8;9;12;52;53;2")
     (record plain_pen {
       italic = true;
+      gothic = true;
       blink = 2;
       inverse = true;
       hidden = true;
@@ -62,7 +63,7 @@ others-set : Gives (codes "3;6;7;8;9;12;52;53;2")
       overlined = true;
       faint = true;
     })
-    × Gives (codes "3;6;7;8;9;12;52;53;2;23;25;27;28;29;10;54;55;22") plain_pen
+    × Gives (codes "3;20;6;7;8;9;12;52;53;2;23;25;27;28;29;10;54;55;22") plain_pen
 unfolding with_field with_code
 others-set = (refl, refl)
 

@@ -28,8 +28,7 @@ use Rattle.textwrap_text.proofs.Lists.Parts.{all-right, starts_with-rest}
 -- a line with these texts after its indent and at its end
 abbrev enclosed : List ℕ → ℕ → List ℕ → List ℕ → Line
 enclosed line n start end =
-    cond (length (start ++ end) == 0) (Slice line)
-    (Built (take n line ++ start ++ drop n line ++ end))
+    cond (length (start ++ end) == 0) (Slice line) (Built (take n line ++ start ++ drop n line ++ end))
 
 pub line-is : (indent line : List ℕ) (n : ℕ) (before : List (List ℕ)) (start end : List ℕ)
     (view : Line) → n ≡ indent_end indent line → start ≡ opening before
@@ -42,8 +41,7 @@ pub carries-more : {Z : Type 0} (lines : List (CowStr Z)) (n : ℕ) (line added 
     (indent later bytes text : List ℕ) (before : List (List ℕ)) (old new : List (CowStr Z))
     (all : List Line) → n < length lines → line ≡ get_or lines n line
     → bytes ≡ cow_str_bytes line → text ≡ after_indent indent bytes → new ≡ old ++ added ∷ []
-    → line_view added ≡ carried_line indent before bytes
-    → map line_view old
+    → line_view added ≡ carried_line indent before bytes → map line_view old
     ++ carried_lines indent later before (texts_of (drop n lines)) ≡ all
     → map line_view new ++ carried_lines later later (before ++ sequences text)
     (texts_of (drop (n + 1) lines)) ≡ all
@@ -78,8 +76,7 @@ carried-len indent before line =
 pub carried-bytes : (indent : List ℕ) (before : List (List ℕ)) (line : List ℕ)
     → line_bytes (carried_line indent before line)
     ≡ before_text indent line ++ concat (reopened_link before ++ open_styles before)
-    ++ after_indent indent line
-    ++ concat (closing_sequences (before ++ sequences (after_indent indent line)))
+    ++ after_indent indent line ++ concat (closing_sequences (before ++ sequences (after_indent indent line)))
 carried-bytes indent before line = grind (arith, carried-parts, concat-append, closing-is)
 
 -- ---- one line whose styles are carried: what it shows, what it leaves open and how wide it is
@@ -129,8 +126,7 @@ indented-later Is later (line ∷ lines) all =
 
 -- what the lines show, that they end plain, and how wide they are
 pub record AreCarried (indent later : List ℕ) (before lines : List (List ℕ)) : Type 0 where
-  pub shown : map (λ l. penned_text plain_rendition (line_bytes l))
-      (carried_lines indent later before lines)
+  pub shown : map (λ l. penned_text plain_rendition (line_bytes l)) (carried_lines indent later before lines)
       ≡ penned_lines indent later (rendition_of before) lines
   pub plain : All (λ l. EndsPlain (line_bytes l)) (carried_lines indent later before lines)
   pub wide : map (λ l. text_width (line_bytes l)) (carried_lines indent later before lines)
@@ -168,8 +164,7 @@ IsPlainLine indent line = sequences (after_indent indent line) ≡ []
 -- ---- where no sequence is, and whole lines under indents that leave nothing open
 
 pub plain-stay : (indent later : List ℕ) (lines : List (List ℕ))
-    → EachWithIndent IsPlainLine indent later lines
-    → carried_lines indent later [] lines ≡ map Slice lines
+    → EachWithIndent IsPlainLine indent later lines → carried_lines indent later [] lines ≡ map Slice lines
 plain-stay indent later [] all = refl
 plain-stay indent later (line ∷ lines) (none, rest) =
     grind (arith, none, plain-stay later later lines (indented-later IsPlainLine later lines rest))
@@ -200,8 +195,7 @@ may-carry indent line own plain whole = elim (cases_Bool (starts_with nat_eq lin
         plain = rw (starts, front) plain;
         text = rw starts (whole_text-rest indent rest own (subst IsWholeText shape whole));
       }
-  | inr other ↦
-      record { front = rw other nil-whole; plain = rw other nil-plain; text = rw other whole }
+  | inr other ↦ record { front = rw other nil-whole; plain = rw other nil-plain; text = rw other whole }
 ]
 
 pub all-may_carry : (indent later : List ℕ) (lines : List (List ℕ)) → IsWholeText indent

@@ -78,8 +78,7 @@ after-plain (x ∷ xs) fields all = grind (arith, cases_Bool, nat_tests, after-p
 
 -- the fields of a link, before whichever end
 link-shape : (s : List ℕ) → is_link s ≡ true → (fields : List ℕ) × (ending : List ℕ)
-    × ((fs : List ℕ) → IsAround (link_start ++ (fs ++ ending)) fs)
-    × (drop 4 s ≡ fields ++ ending)
+    × ((fs : List ℕ) → IsAround (link_start ++ (fs ++ ending)) fs) × (drop 4 s ≡ fields ++ ending)
 link-shape s is =
     let rest = drop 4 s in
     elim (cases_Bool (ends_with nat_eq rest bell)) [
@@ -178,8 +177,7 @@ id-sequence n s fits is own =
     (unit-sequence (link_start ++ id ++ rest) (link_start ++ (id ++ cs))
     (IsUtf8-append link_start (id ++ rest) link_start-utf8 (IsUtf8-append id rest id_utf8 utf8))
     (link_start-chars (id ++ rest) ∙ ap (λ l. link_start ++ l) (chars-append id rest id_utf8
-    ∙ ap (λ l. l ++ cs) (chars-IsAscii id ascii)))
-    (ends-whole (93 ∷ 56 ∷ 59 ∷ id ++ cs) (omega (
+    ∙ ap (λ l. l ++ cs) (chars-IsAscii id ascii))) (ends-whole (93 ∷ 56 ∷ 59 ∷ id ++ cs) (omega (
       arith,
       len,
       whole-ends (93 ∷ 56 ∷ 59 ∷ cs) whole,
@@ -241,8 +239,7 @@ reopened-len before =
     (omega (arith, few, whole, length-append id rest)) in
     omega (arith, len, length-append s [], length-append (with_id n s) []))
 
-pub ids-kept : (before more : List (List ℕ))
-    → All (λ s. names_id (drop 4 s) ≡ true) (reopened_link before)
+pub ids-kept : (before more : List (List ℕ)) → All (λ s. names_id (drop 4 s) ≡ true) (reopened_link before)
     × (filter is_link more ≡ [] → reopened_link (before ++ more) ≡ reopened_link before)
 ids-kept before more = (
   reopened-all Any (λ s. names_id (drop 4 s) ≡ true) before (any before) (λ n s fits is _.
@@ -254,8 +251,7 @@ ids-kept before more = (
 pub kept-link : (before : List (List ℕ)) (n : ℕ) (link : List ℕ) → link ∷ [] ≡ open_link before
     → n ≡ count before → (is_link link ≡ true) × (concat (reopened_link before) ≡ with_id n link)
 kept-link before n link kept number = (
-  All-head (λ s. is_link s ≡ true) link []
-      (subst (All (λ s. is_link s ≡ true)) (sym kept)
+  All-head (λ s. is_link s ≡ true) link [] (subst (All (λ s. is_link s ≡ true)) (sym kept)
       (open_link-cases Any (All (λ s. is_link s ≡ true)) before (any before) (All-nil (λ s. is_link s ≡ true))
       (λ s is _. All-cons (λ s. is_link s ≡ true) s [] is (All-nil (λ s. is_link s ≡ true))))),
   rw (sym kept, sym number) (append-nil (with_id n link)),

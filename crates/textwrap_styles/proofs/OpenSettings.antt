@@ -1,14 +1,13 @@
 -- Which settings a later one takes back, by their kinds, and settings that are open: with one more,
 -- once more, and what holds of each of them.
-use Rattle.std.proofs.lemmas.{List.Folds.list_any-append, Slice.Eq.bytes_eq-Decides}
-use Rattle.std.specs.Str.{bytes_eq}
+use Rattle.std.{proofs.lemmas.{List.Folds.list_any-append, Slice.Eq.bytes_eq-Decides}, specs.Str.bytes_eq}
 use Rattle.textwrap_styles.proofs.Common.{in_effect, Kind, kind_of, latest, open_settings, Reset}
 use Rattle.textwrap_styles.specs.Settings.{is_unknown, number, replaces, takes_back}
-use Rattle.textwrap_text.proofs.Common.{◌&&◌, ◌++◌, ◌<◌, ◌==◌, [], after_last, All, All-append, All-cons}
-use Rattle.textwrap_text.proofs.Common.{All-drop, All-head, All-nil, All-tail, ap, append-nil, append_assoc}
-use Rattle.textwrap_text.proofs.Common.{arith, Bool, Bor, cases_Bool, cond, cond_both, false, filter, fold}
-use Rattle.textwrap_text.proofs.Common.{List, list_any, map, nat_tests, not, refl, rules, sym, true, ◌||◌, ℕ}
-use Rattle.textwrap_text.proofs.{Common.{◌∙◌, ◌∷◌, ◌≡◌}, Lists.Parts.after_last-push}
+use Rattle.textwrap_text.proofs.Common.{[], ℕ, ◌&&◌, ◌++◌, ◌<◌, ◌==◌, ◌||◌, ◌∙◌, ◌∷◌, ◌≡◌, after_last, All}
+use Rattle.textwrap_text.proofs.Common.{All-append, All-cons, All-drop, All-head, All-nil, All-tail, ap}
+use Rattle.textwrap_text.proofs.Common.{append-nil, append_assoc, arith, Bool, Bor, cases_Bool, cond}
+use Rattle.textwrap_text.proofs.Common.{cond_both, false, filter, fold, List, list_any, map, nat_tests, not}
+use Rattle.textwrap_text.proofs.{Common.{refl, rules, sym, true}, Lists.Parts.after_last-push}
 
 pub unknown-number : (k : Kind) → is_unknown k ≡ (number k == 18)
 unfolding is_unknown number
@@ -57,8 +56,7 @@ unfolding replaces
 replaces-known t s known = grind (arith, cases_Bool, nat_tests, bytes_eq-Decides)
 
 pub any-unknown : (s : List ℕ) (later : List (List ℕ)) → is_unknown (kind_of s) ≡ true
-    → list_any (λ t. replaces t s) later
-    ≡ list_any (λ t. is_unknown (kind_of t) && bytes_eq t s) later
+    → list_any (λ t. replaces t s) later ≡ list_any (λ t. is_unknown (kind_of t) && bytes_eq t s) later
 any-unknown s later unknown = grind (arith, cases_Bool, nat_tests, any-same, replaces-unknown)
 
 pub any-replaces : (s : List ℕ) (later : List (List ℕ)) → is_unknown (kind_of s) ≡ false
@@ -72,8 +70,7 @@ texts ss = map (λ s. s.now) ss
 
 -- ---- what is so after some sequences, where a step says what is so after one more
 
-pub after-more : (now : List (List ℕ) → List (List ℕ))
-    (next : List (List ℕ) → List ℕ → List (List ℕ))
+pub after-more : (now : List (List ℕ) → List (List ℕ)) (next : List (List ℕ) → List ℕ → List (List ℕ))
     → ((before : List (List ℕ)) (s : List ℕ) → now (before ++ s ∷ []) ≡ next (now before) s)
     → (before more : List (List ℕ)) → now (before ++ more) ≡ fold next (now before) more
 after-more now next push before [] = ap now (append-nil before)
@@ -140,8 +137,7 @@ pub effect-push : (ss : List (List ℕ)) (t : List ℕ)
 effect-push ss t = grind (arith, cases_Bool, nat_tests, latest-push, in_effect-filter)
 
 -- those in effect are in effect
-pub effect-again : (ss : List (List ℕ))
-    → in_effect (latest (in_effect (latest ss))) ≡ in_effect (latest ss)
+pub effect-again : (ss : List (List ℕ)) → in_effect (latest (in_effect (latest ss))) ≡ in_effect (latest ss)
 effect-again ss = ap in_effect (latest-in_effect ss) ∙ in_effect-again (latest ss)
 
 pub open_settings-push : (before : List (List ℕ)) (t : List ℕ)
@@ -164,8 +160,7 @@ all-in_effect P (s ∷ ss) all =
     search (rules, arith, all-in_effect P ss (All-tail P s ss all), All-tail, All-cons, All-head)
 
 -- what holds of all settings holds of those that are open
-pub all-open : (P : List ℕ → Type 0) (before : List (List ℕ)) → All P before
-    → All P (open_settings before)
+pub all-open : (P : List ℕ → Type 0) (before : List (List ℕ)) → All P before → All P (open_settings before)
 all-open P before all = search (rules, arith, all-in_effect, all-latest, All-drop)
 
 -- since all were taken back, none takes back all

@@ -53,8 +53,7 @@ mix-again m n v w p = simp pick-again
 pub mix-both : (m n : Mask) (v w p : Pen) → mix m v (mix n w p) ≡ mix (λ i. m i || n i) (mix m v w) p
 mix-both m n v w p = simp pick-both
 
-pub mix-within : (m n : Mask) (v w p : Pen) → ((i : ℕ) → (m i || n i) ≡ m i)
-    → mix m v (mix n w p) ≡ mix m v p
+pub mix-within : (m n : Mask) (v w p : Pen) → ((i : ℕ) → (m i || n i) ≡ m i) → mix m v (mix n w p) ≡ mix m v p
 mix-within m n v w p within = grind (arith, pick-within, within)
 
 pub mix-swap : (m n : Mask) (v w p : Pen) → ((i : ℕ) → (m i && n i) ≡ false)
@@ -66,8 +65,7 @@ mix-swap m n v w p none = grind (arith, pick-swap, none)
 -- the fields that a kind sets, by the numbers of their own kinds: all, for 3 bold and faint, or for 6
 -- italic and Gothic
 abbrev pub sets : ℕ → Mask
-sets k i =
-    (k == 0) || (k == i) || (k == 3) && ((i == 1) || (i == 2)) || (k == 6) && ((i == 4) || (i == 5))
+sets k i = (k == 0) || (k == i) || (k == 3) && ((i == 1) || (i == 2)) || (k == 6) && ((i == 4) || (i == 5))
 
 -- the kinds that set more than one field, and those whose field another kind sets too
 abbrev pub is_many : ℕ → Bool

@@ -31,8 +31,7 @@ run-changes [] = nothing
 run-changes (s ∷ ss) = changes-then (apply s) (λ p. pen_by p ss) (apply-changes s) (run-changes ss)
 
 -- once more, one makes the first time do nothing
-again : (s : List ℕ) (ss : List (List ℕ)) (p : Pen)
-    → apply s (pen_by (apply s p) ss) ≡ apply s (pen_by p ss)
+again : (s : List ℕ) (ss : List (List ℕ)) (p : Pen) → apply s (pen_by (apply s p) ss) ≡ apply s (pen_by p ss)
 again s ss p =
     let one = apply-changes s in
     let others = run-changes ss in
@@ -48,13 +47,11 @@ kinds-within later earlier back i = grind (arith, cases_Bool, nat_tests)
 
 kinds-apart : (later earlier : Kind) → takes_back later earlier ≡ false
     → (number later == number Reset) ≡ false → (number earlier == number Reset) ≡ false
-    → is_shared (number later) ≡ false → (i : ℕ)
-    → (sets (number later) i && sets (number earlier) i) ≡ false
+    → is_shared (number later) ≡ false → (i : ℕ) → (sets (number later) i && sets (number earlier) i) ≡ false
 unfolding takes_back number
 kinds-apart later earlier other some one own i = grind (arith, cases_Bool, nat_tests)
 
-ending-code : (c : ℕ) → (is_ending_code c || (c == 4)) ≡ true
-    → is_shared (number (kind_of_code c)) ≡ false
+ending-code : (c : ℕ) → (is_ending_code c || (c == 4)) ≡ true → is_shared (number (kind_of_code c)) ≡ false
 unfolding is_ending_code kind_of_code number
 ending-code c is = grind (arith, cases_Bool, nat_tests)
 
@@ -85,8 +82,7 @@ module _ (s t : List ℕ) (first : IsSetting s) (second : IsSetting t) where
 
   -- one that ends something, and one that sets something else, in either order
   commute : is_unknown (kind_of t) ≡ false → is_unknown (kind_of s) ≡ false → is_end t ≡ true
-      → Sets t → Sets s → replaces t s ≡ false → (p : Pen)
-      → apply t (apply s p) ≡ apply s (apply t p)
+      → Sets t → Sets s → replaces t s ≡ false → (p : Pen) → apply t (apply s p) ≡ apply s (apply t p)
   unfolding replaces
   commute known other end sets-t sets-s none p =
       let later = (all-known t second known).sets in
@@ -190,8 +186,7 @@ since-reset (t ∷ more) before p are same =
     let is = All-head IsSetting t more are in
     since-reset more (next_left before t) (apply t p) (All-tail IsSetting t more are)
     (cond_both (resets t) [] (before ++ t ∷ []) (λ ss. pen_by plain_pen ss ≡ apply t p)
-    (λ all. sym (reset-plain t is all p))
-    (λ other. run-append plain_pen before (t ∷ []) ∙ ap (apply t) same))
+    (λ all. sym (reset-plain t is all p)) (λ other. run-append plain_pen before (t ∷ []) ∙ ap (apply t) same))
 
 -- what is open gives the pen that all gave
 pub open-pen : (before : List (List ℕ)) → All IsSetting before
@@ -235,8 +230,7 @@ first-read t range more p =
     let known = all-known (first_setting t) (first-is t range more) (first-known t more) in
     grind (arith, first-split t more, between-append, map-append, fold-append, known.settled)
 
-settings-pen : (n : ℕ) (t : List ℕ) → length t ≤ n → InRange t → (p : Pen)
-    → apply t p ≡ pen_by p (settings t)
+settings-pen : (n : ℕ) (t : List ℕ) → length t ≤ n → InRange t → (p : Pen) → apply t p ≡ pen_by p (settings t)
 settings-pen zero t short range p = search (rules, arith, pen_by, settings-one)
 settings-pen (suc n) t short range p =
     let rest = settings-pen n in

@@ -3,19 +3,18 @@
 use Rattle.textwrap_styles.proofs.Common.{apply, between, Color, digits_value, fields, first_of}
 use Rattle.textwrap_styles.proofs.Common.{is_ascii_digit, is_in_range, numbers_of, Pen, plain_pen}
 use Rattle.textwrap_styles.proofs.PenCodes.{differs_at, is_many, is_own, mix, row, sets}
-use Rattle.textwrap_styles.specs.Settings.{taken_fields}
 use Rattle.textwrap_styles.proofs.SettingTexts.{between-rest, between-some, code-first, colon-first}
 use Rattle.textwrap_styles.proofs.SettingTexts.{details-cons, details-nil, drop-all, fields-few, fields-many}
 use Rattle.textwrap_styles.proofs.SettingTexts.{first_field, first_number, first_text, first_text-first}
-use Rattle.textwrap_styles.proofs.SettingTexts.{has_colon, InRange, IsSetting}
-use Rattle.textwrap_styles.specs.Pen.{color_of, direct_color, is_whole_color, read, Reading, with_code}
-use Rattle.textwrap_styles.specs.Pen.{with_color, with_field, with_first, with_parts}
-use Rattle.textwrap_styles.specs.Settings.{code, color_fields, details, first_setting, is_color_code, is_end}
-use Rattle.textwrap_styles.specs.Settings.{is_ending_code, is_unknown, kind_of, kind_of_code, number}
-use Rattle.textwrap_text.proofs.Common.{◌+◌, ◌<◌, ◌==◌, [], ap, arith, cases_Bool, drop, eqb-true, false}
-use Rattle.textwrap_text.proofs.Common.{fold, inl, inr, length, length-map, List, map, min, nat_tests}
-use Rattle.textwrap_text.proofs.Common.{prefix_len, refl, rules, sym, true, true≢false, ◌||◌, ℕ, ◌∙◌, ◌∷◌}
-use Rattle.textwrap_text.proofs.Common.{◌≡◌, ◌≢◌, ◌≤◌, ◌⊎◌}
+use Rattle.textwrap_styles.{proofs.SettingTexts.{has_colon, InRange, IsSetting}, specs.Pen.color_of}
+use Rattle.textwrap_styles.specs.Pen.{direct_color, is_whole_color, read, Reading, with_code, with_color}
+use Rattle.textwrap_styles.specs.{Pen.{with_field, with_first, with_parts}, Settings.{code, color_fields}}
+use Rattle.textwrap_styles.specs.Settings.{details, first_setting, is_color_code, is_end, is_ending_code}
+use Rattle.textwrap_styles.specs.Settings.{is_unknown, kind_of, kind_of_code, number, taken_fields}
+use Rattle.textwrap_text.proofs.Common.{[], ℕ, ◌+◌, ◌<◌, ◌==◌, ◌||◌, ◌∙◌, ◌∷◌, ◌≡◌, ◌≢◌, ◌≤◌, ◌⊎◌, ap, arith}
+use Rattle.textwrap_text.proofs.Common.{cases_Bool, drop, eqb-true, false, fold, inl, inr, length, length-map}
+use Rattle.textwrap_text.proofs.Common.{List, map, min, nat_tests, prefix_len, refl, rules, sym, true}
+use Rattle.textwrap_text.proofs.Common.{true≢false}
 
 -- ---- one field
 
@@ -206,8 +205,7 @@ module _ (t : List ℕ) (is : IsSetting t) (known : is_unknown (kind_of t) ≡ f
       known-by t (with_code (code t)) (λ p.
       grind (arith, cases_Bool, read-one t is (plain-taken none plain) p, field-one none, number-is, plain))
       (λ p. rw (kind-code t known) (rw plain at (row (code t)).sets p))
-      (λ end. rw (sym (plain-end none) ∙ end) at (row (code t)).ends)
-      (plain-differs none plain)
+      (λ end. rw (sym (plain-end none) ∙ end) at (row (code t)).ends) (plain-differs none plain)
 
   -- a colour, however it is written
   color-by : (numbers : List ℕ) → is_color_code (code t) ≡ true → is_end t ≡ false
@@ -281,11 +279,9 @@ module _ (t : List ℕ) (is : IsSetting t) (known : is_unknown (kind_of t) ≡ f
   unfolding is_ending_code
   color-of n none color taken some more makes =
       let many = fields-many n t some more in
-      let few = fields-few (n + 1) t (omega arith)
-      (own-fields t (n + 1) is taken (omega arith)) in
+      let few = fields-few (n + 1) t (omega arith) (own-fields t (n + 1) is taken (omega arith)) in
       let all = between-rest t is.range none (omega arith) in
-      let len : length (between 0x3B t) ≡ length (between 0x3B rest) + 1 =
-      ap length all ∙ omega arith in
+      let len : length (between 0x3B t) ≡ length (between 0x3B rest) + 1 = ap length all ∙ omega arith in
       color-by (map (λ f. first_of (numbers_of f)) (between 0x3B rest)) color
       (plain-end none ∙ among (λ c. is_ending_code c ≡ false) (code t) color refl refl refl)
       (λ p. ap (λ fs. fold with_field (alone p) (map numbers_of fs)) all

@@ -30,8 +30,7 @@ links-apart (s ∷ ss) now = links-apart ss (with_sequence now s)
 
 both : (a b : Rendition) → a.pen ≡ b.pen → a.link ≡ b.link → a ≡ b
 both a b pens links =
-    ap (λ p. record { pen = p; link = a.link }) pens
-    ∙ ap (λ l. record { pen = b.pen; link = l }) links
+    ap (λ p. record { pen = p; link = a.link }) pens ∙ ap (λ l. record { pen = b.pen; link = l }) links
 
 -- sequences of the other kind change nothing
 no-settings : (ss : List (List ℕ)) → All (λ s. is_style s ≡ false) ss → flat_map settings_of ss ≡ []
@@ -56,8 +55,7 @@ open-styles-pen : (before : List (List ℕ))
     → pen_by plain_pen (flat_map settings_of (open_styles before)) ≡ (rendition_of before).pen
 open-styles-pen before = search (rules, arith, all-given, open-back, open-pen, all-settings)
 
-next-link : (s : List ℕ) (link : List (List ℕ)) (address : List ℕ)
-    → fold with_link [] link ≡ address
+next-link : (s : List ℕ) (link : List (List ℕ)) (address : List ℕ) → fold with_link [] link ≡ address
     → fold with_link [] (next_link link s) ≡ with_link address s
 next-link s link address same = search (rules, arith, nil_from_length, ltb-false)
 
@@ -77,8 +75,7 @@ pub styles-pen : (before : List (List ℕ))
     → rendition_of (reopened_link before ++ open_styles before) ≡ rendition_of before
 styles-pen before =
     let starts = reopened_link before in
-    both _ (rendition_of before)
-    (all-given (starts ++ open_styles before) plain_rendition
+    both _ (rendition_of before) (all-given (starts ++ open_styles before) plain_rendition
     ∙ grind (arith, flat_map-append, no-settings starts (reopened-plain before), open-styles-pen before))
     (links-apart (starts ++ open_styles before) plain_rendition
     ∙ fold-append with_link [] starts (open_styles before)
@@ -93,12 +90,10 @@ ends-plain : (now : Rendition) (plain unlinked : Bool) → (plain ≡ true → n
 unfolding with_field with_code
 ends-plain now x1 x2 pen link = search (rules, arith, both)
 
-pub ended : (before : List (List ℕ))
-    → rendition_of (before ++ closing_sequences before) ≡ plain_rendition
+pub ended : (before : List (List ℕ)) → rendition_of (before ++ closing_sequences before) ≡ plain_rendition
 ended before =
     fold-append with_sequence plain_rendition before (closing_sequences before)
     ∙ ends-plain (rendition_of before) _ _
     (λ none. sym (open-styles-pen before) ∙ ap (λ ss. pen_by plain_pen (flat_map settings_of ss))
-    (nil_from_length (open_styles before) (eqb-true _ 0 none)))
-    (λ none. sym (open-link before)
+    (nil_from_length (open_styles before) (eqb-true _ 0 none))) (λ none. sym (open-link before)
     ∙ ap (fold with_link []) (nil_from_length (open_link before) (eqb-true _ 0 none)))

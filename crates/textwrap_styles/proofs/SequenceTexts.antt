@@ -1,19 +1,19 @@
 -- Texts of whole sequences and texts between them: their units, and what they show.
-use Rattle.std.{proofs.lemmas.Bool.agree_below_at, specs.Str.chars}
-use Rattle.textwrap_layout.proofs.Text.Paragraphs.{units-append}
-use Rattle.textwrap_styles.proofs.Common.{closing, concat, IsWhole, link_end, open_link, open_styles}
-use Rattle.textwrap_styles.proofs.Common.{penned_text, plain_rendition, Rendition, rendition_of, sequence_of}
-use Rattle.textwrap_styles.{proofs.Common.{sequences, style_end, with_sequence}, specs.Penned.penned_units}
-use Rattle.textwrap_styles.specs.Styled.{IsWholeText}
-use Rattle.textwrap_text.proofs.Common.{◌++◌, ◌==◌, [], All, All-append, All-cons, All-head, All-nil}
-use Rattle.textwrap_text.proofs.Common.{All-tail, ap, append-nil, arith, Bool, cases_Bool, characters}
-use Rattle.textwrap_text.proofs.Common.{chars-append, chars-nil, chars_from_encodes, codes, cond}
-use Rattle.textwrap_text.proofs.Common.{encode_utf8_all, encodes-chars, false, flat_map, flat_map-append}
-use Rattle.textwrap_text.proofs.Common.{fold, inl, IsUtf8, IsUtf8-append, IsUtf8-nil, length, List, map, refl}
-use Rattle.textwrap_text.proofs.Common.{rules, Sequence, subst, sym, take, TextUnit, true, units, Visible}
-use Rattle.textwrap_text.proofs.{Common.{visible_of, ℕ, ◌∙◌, ◌∷◌, ◌≡◌}, Texts.{utf8-back, utf8-front}}
-use Rattle.textwrap_text.{proofs.Units.Texts.{units-tile, units_unique}, specs.Units.{ends, visible}}
 use lib.Utf8.{encode}
+use Rattle.std.{proofs.lemmas.Bool.agree_below_at, specs.Str.chars}
+use Rattle.{textwrap_layout.proofs.Text.Paragraphs.units-append, textwrap_styles.proofs.Common.closing}
+use Rattle.textwrap_styles.proofs.Common.{concat, IsWhole, link_end, open_link, open_styles, penned_text}
+use Rattle.textwrap_styles.proofs.Common.{plain_rendition, Rendition, rendition_of, sequence_of, sequences}
+use Rattle.textwrap_styles.{proofs.Common.{style_end, with_sequence}, specs.Penned.penned_units}
+use Rattle.{textwrap_styles.specs.Styled.IsWholeText, textwrap_text.proofs.Common.{[], ℕ, ◌++◌, ◌==◌, ◌∙◌}}
+use Rattle.textwrap_text.proofs.Common.{◌∷◌, ◌≡◌, All, All-append, All-cons, All-head, All-nil, All-tail, ap}
+use Rattle.textwrap_text.proofs.Common.{append-nil, arith, Bool, cases_Bool, characters, chars-append}
+use Rattle.textwrap_text.proofs.Common.{chars-nil, chars_from_encodes, codes, cond, encode_utf8_all}
+use Rattle.textwrap_text.proofs.Common.{encodes-chars, false, flat_map, flat_map-append, fold, inl, IsUtf8}
+use Rattle.textwrap_text.proofs.Common.{IsUtf8-append, IsUtf8-nil, length, List, map, refl, rules, Sequence}
+use Rattle.textwrap_text.proofs.Common.{subst, sym, take, TextUnit, true, units, Visible, visible_of}
+use Rattle.textwrap_text.proofs.{Texts.{utf8-back, utf8-front}, Units.Texts.{units-tile, units_unique}}
+use Rattle.textwrap_text.specs.Units.{ends, visible}
 
 -- ---- the units of texts of whole sequences that are put together
 
@@ -50,8 +50,7 @@ unit-sequence s cs utf8 are whole =
 units-sequences : (us : List TextUnit) → IsUtf8 (encode_utf8_all (flat_map characters us))
     → All IsWhole us → All IsSequence (flat_map sequence_of us)
 units-sequences [] utf8 whole = All-nil IsSequence
-units-sequences (Visible c ∷ us) utf8 whole =
-    search (rules, arith, units-sequences us, utf8-back, All-tail)
+units-sequences (Visible c ∷ us) utf8 whole = search (rules, arith, units-sequences us, utf8-back, All-tail)
 units-sequences (Sequence cs ∷ us) utf8 whole =
     let one : IsUtf8 (encode_utf8_all cs) → IsWhole (Sequence cs) → IsSequence (encode_utf8_all cs) =
     λ own. unit-sequence (encode_utf8_all cs) cs own
@@ -70,8 +69,7 @@ sequence_units xs = map (λ s. Sequence (chars s)) xs
 sequence-whole : (s : List ℕ) → IsSequence s → IsWholeText s
 sequence-whole s is = search (rules, arith, All-cons)
 
-pub concat-units : (xs : List (List ℕ)) → All IsSequence xs
-    → units (chars (concat xs)) ≡ sequence_units xs
+pub concat-units : (xs : List (List ℕ)) → All IsSequence xs → units (chars (concat xs)) ≡ sequence_units xs
 concat-units [] are = ap units chars-nil
 concat-units (s ∷ xs) are =
     let is = All-head IsSequence s xs are in
@@ -86,8 +84,7 @@ concat-whole [] are = nil-whole
 concat-whole (s ∷ xs) are =
     search (rules, arith, whole_text-append, sequence-whole, concat-whole xs, All-head, All-tail)
 
-pub units-again : (xs : List (List ℕ)) → All IsSequence xs
-    → flat_map sequence_of (sequence_units xs) ≡ xs
+pub units-again : (xs : List (List ℕ)) → All IsSequence xs → flat_map sequence_of (sequence_units xs) ≡ xs
 units-again [] are = refl
 units-again (s ∷ xs) are =
     let own = encodes-chars s (All-head IsSequence s xs are).utf8 in
@@ -149,8 +146,7 @@ sequences-show (s ∷ xs) now = sequences-show xs (with_sequence now (encode_utf
 
 -- ---- what stands before a text, and the text, between sequences: its units, and what it shows
 
-flat_map-four : {X A : Type 0} (f : X → List A) (xs ys zs ws : List X)
-    → flat_map f (xs ++ ys ++ zs ++ ws)
+flat_map-four : {X A : Type 0} (f : X → List A) (xs ys zs ws : List X) → flat_map f (xs ++ ys ++ zs ++ ws)
     ≡ flat_map f xs ++ flat_map f ys ++ flat_map f zs ++ flat_map f ws
 flat_map-four f xs ys zs ws = simp flat_map-append
 

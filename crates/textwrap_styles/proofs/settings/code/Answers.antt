@@ -1,9 +1,8 @@
 use Rattle.textwrap_styles.proofs.settings.code.Goals as goal
-use Rattle.std.proofs.lemmas.Int.Digits.{digits_value_more}
-use Rattle.std.proofs.lemmas.List.Sums.{prefix_len-le-length, prefix_len_passes}
-use Rattle.textwrap_styles.proofs.Common.{is_ascii_digit}
-use Rattle.textwrap_text.proofs.Common.{◌<◌, arith, cases_Bool, get_or, get_or-take, length, length-take-le}
-use Rattle.textwrap_text.proofs.Common.{List, nat_tests, prefix_len, rules, take, true, ℕ, ◌≡◌}
+use Rattle.std.proofs.lemmas.{Int.Digits.digits_value_more, List.Sums.prefix_len-le-length}
+use Rattle.{std.proofs.lemmas.List.Sums.prefix_len_passes, textwrap_styles.proofs.Common.is_ascii_digit}
+use Rattle.textwrap_text.proofs.Common.{ℕ, ◌<◌, ◌≡◌, arith, cases_Bool, get_or, get_or-take, length}
+use Rattle.textwrap_text.proofs.Common.{length-take-le, List, nat_tests, prefix_len, rules, take, true}
 
 -- one of the digits that these begin with
 digit-at : (bs : List ℕ) (n k : ℕ) → n ≡ prefix_len is_ascii_digit bs → k < length (take n bs)

@@ -50,8 +50,7 @@ returns g c = λ before state.
     sym (all.2 ∙ ap (λ ss. taken ++ ss) c.in_default.ensures.sequences ∙ append-nil taken) in
     on_ok_both c.keep_open.result
     (λ kept same. record {
-      settings = kept ∙ all.1.settings
-          ∙ ap (λ ss. open_settings (flat_map settings_of (before ++ ss))) text;
+      settings = kept ∙ all.1.settings ∙ ap (λ ss. open_settings (flat_map settings_of (before ++ ss))) text;
       link = all.1.link ∙ ap (λ ss. open_link (before ++ ss)) text;
       links = all.1.links ∙ ap (λ ss. as_len (length (filter is_link (before ++ ss)))) text;
     }) c.keep_open.ensures c.keep_open.ensures

@@ -2,14 +2,15 @@
 use Rattle.std.proofs.lemmas.{Cmp.nat_eq_equiv, List.Filters.length-filter_both}
 use Rattle.std.proofs.lemmas.Map.{Made.IsDistinct-from_count, Steps.length-le_from_distinct_below}
 use Rattle.std.{proofs.Math.Nat.mul-le-mul_left, specs.{List.IsDistinct, Set.{is_member, unique_keys}}}
-use Rattle.{textwrap_layout.specs.Paragraph.line_bytes, textwrap_styles.proofs.CarriedLines.carried-len}
-use Rattle.textwrap_styles.proofs.Common.{concat, is_style, kind_of, latest, link_end, open_settings}
-use Rattle.textwrap_styles.proofs.Common.{open_styles, settings, settings_of, style_end, style_parameters}
-use Rattle.textwrap_styles.proofs.{Common.written, LinkIds.reopened-len, OpenSettings.{all-open, all-set}}
-use Rattle.textwrap_styles.proofs.{OpenSettings.{known-below, Sets}, PenOpen.{AreLatest, open-latest}}
-use Rattle.textwrap_styles.proofs.{Sequences.open_link-cases, SettingTexts.{each-setting, first-len}}
-use Rattle.textwrap_styles.specs.{Laws.{known_settings, unknown_settings}, Settings.{is_unknown, number}}
-use Rattle.textwrap_styles.specs.{Settings.{replaces, takes_back}, Styles.{carried_line, reopened_link}}
+use Rattle.textwrap_layout.specs.Paragraph.{line_bytes}
+use Rattle.textwrap_styles.proofs.{CarriedLines.carried-len, Common.{concat, is_style, kind_of, latest}}
+use Rattle.textwrap_styles.proofs.Common.{link_end, open_settings, open_styles, settings, settings_of}
+use Rattle.textwrap_styles.proofs.{Common.{style_end, style_parameters, written}, LinkIds.reopened-len}
+use Rattle.textwrap_styles.proofs.{OpenSettings.{all-open, all-set, known-below, Sets}, PenOpen.AreLatest}
+use Rattle.textwrap_styles.proofs.{PenOpen.open-latest, Sequences.open_link-cases, SettingTexts.each-setting}
+use Rattle.textwrap_styles.{proofs.SettingTexts.first-len, specs.Laws.{known_settings, unknown_settings}}
+use Rattle.textwrap_styles.specs.{Settings.{is_unknown, number, replaces, takes_back}, Styles.carried_line}
+use Rattle.textwrap_styles.specs.Styles.{reopened_link}
 use Rattle.textwrap_text.proofs.Common.{[], ℕ, ◌*◌, ◌+◌, ◌-◌, ◌<◌, ◌∷◌, ◌≡◌, ◌≤◌, All, All-append, All-head}
 use Rattle.textwrap_text.proofs.Common.{All-nil, All-tail, All-weaker, ap, arith, Bool, cases_Bool, codes}
 use Rattle.textwrap_text.proofs.Common.{cond_both, drop, eqb, false, false_from_ne_true, filter, flat_map}

@@ -1,13 +1,14 @@
 -- No fewer settings give a pen than those that are open: each of these leaves the field of its kind
 -- unlike that of the plain pen, and one setting does so to one field alone.
 use Rattle.std.proofs.lemmas.{Bool.true_from_ne_false, Cmp.nat_eq_equiv, Map.Made.length-le_from_is_member}
-use Rattle.{std.specs.Set.is_member, textwrap_styles.proofs.Common.{apply, in_effect, kind_of, latest}}
-use Rattle.textwrap_styles.proofs.Common.{open_settings, Pen, plain_pen, plain_rendition, settings_of}
-use Rattle.textwrap_styles.proofs.{FewStyles.{kinds, kinds-distinct, known}, OpenSettings.{all-open, all-set}}
-use Rattle.textwrap_styles.proofs.OpenSettings.{known-below, resets, Sets, unknown-number}
-use Rattle.textwrap_styles.proofs.{PenCodes.{differs_at, mix-differs, plain-differs, sets}, PenOpen.AreLatest}
-use Rattle.textwrap_styles.proofs.{PenOpen.{open-latest, open-pen, pen_by}, PenSettings.{all-known, many-end}}
-use Rattle.textwrap_styles.proofs.{PenStyles.all-given, SettingTexts.IsSetting, WrittenSettings.all-settings}
+use Rattle.std.specs.Set.{is_member}
+use Rattle.textwrap_styles.proofs.Common.{apply, in_effect, kind_of, latest, open_settings, Pen, plain_pen}
+use Rattle.textwrap_styles.proofs.{Common.{plain_rendition, settings_of}, FewStyles.{kinds, kinds-distinct}}
+use Rattle.textwrap_styles.proofs.{FewStyles.known, OpenSettings.{all-open, all-set, known-below, resets}}
+use Rattle.textwrap_styles.proofs.{OpenSettings.{Sets, unknown-number}, PenCodes.{differs_at, mix-differs}}
+use Rattle.textwrap_styles.proofs.{PenCodes.{plain-differs, sets}, PenOpen.{AreLatest, open-latest, open-pen}}
+use Rattle.textwrap_styles.proofs.{PenOpen.pen_by, PenSettings.{all-known, many-end}, PenStyles.all-given}
+use Rattle.textwrap_styles.proofs.{SettingTexts.IsSetting, WrittenSettings.all-settings}
 use Rattle.textwrap_styles.specs.Laws.{NothingIfUnknown, NothingShorterGivesThePen, OpenStylesAreSetters}
 use Rattle.textwrap_styles.specs.Settings.{is_end, is_unknown, number, replaces, takes_back}
 use Rattle.textwrap_text.proofs.Common.{[], ℕ, ◌&&◌, ◌∙◌, ◌∷◌, ◌≡◌, after_last, All, All-head, All-tail, ap}

@@ -1,5 +1,6 @@
 -- The parameters of a link, as they are read from the left, and whether one of them is an id.
-use Rattle.{std.specs.{List.before_first, Prelude.slice_index_or}, textwrap_styles.specs.Styles.names_id}
+use Rattle.std.specs.{List.before_first, Prelude.slice_index_or}
+use Rattle.textwrap_styles.specs.Styles.{names_id}
 use Rattle.textwrap_text.proofs.Common.{[], ℕ, ◌&&◌, ◌-◌, ◌<◌, ◌==◌, ◌||◌, ◌∷◌, ◌≡◌, arith, Bool, cases_Bool}
 use Rattle.textwrap_text.proofs.Common.{codes, cond, drop, false, get_or, length, List, list_any, nat_eq}
 use Rattle.textwrap_text.proofs.Common.{nat_tests, onto_first, refl, slice_split, starts_with, take, take_all}

@@ -1,19 +1,19 @@
 -- Texts of whole sequences and texts between them: their units, and what they show.
 use lib.Utf8.{encode}
 use Rattle.std.{proofs.lemmas.Bool.agree_below_at, specs.Str.chars}
-use Rattle.{textwrap_layout.proofs.Text.Paragraphs.units-append, textwrap_styles.proofs.Common.closing}
-use Rattle.textwrap_styles.proofs.Common.{concat, IsWhole, link_end, open_link, open_styles, penned_text}
-use Rattle.textwrap_styles.proofs.Common.{plain_rendition, Rendition, rendition_of, sequence_of, sequences}
-use Rattle.textwrap_styles.{proofs.Common.{style_end, with_sequence}, specs.Penned.penned_units}
-use Rattle.{textwrap_styles.specs.Styled.IsWholeText, textwrap_text.proofs.Common.{[], ℕ, ◌++◌, ◌==◌, ◌∙◌}}
-use Rattle.textwrap_text.proofs.Common.{◌∷◌, ◌≡◌, All, All-append, All-cons, All-head, All-nil, All-tail, ap}
-use Rattle.textwrap_text.proofs.Common.{append-nil, arith, Bool, cases_Bool, characters, chars-append}
-use Rattle.textwrap_text.proofs.Common.{chars-nil, chars_from_encodes, codes, cond, encode_utf8_all}
-use Rattle.textwrap_text.proofs.Common.{encodes-chars, false, flat_map, flat_map-append, fold, inl, IsUtf8}
-use Rattle.textwrap_text.proofs.Common.{IsUtf8-append, IsUtf8-nil, length, List, map, refl, rules, Sequence}
-use Rattle.textwrap_text.proofs.Common.{subst, sym, take, TextUnit, true, units, Visible, visible_of}
-use Rattle.textwrap_text.proofs.{Texts.{utf8-back, utf8-front}, Units.Texts.{units-tile, units_unique}}
-use Rattle.textwrap_text.specs.Units.{ends, visible}
+use Rattle.textwrap_layout.proofs.Text.Paragraphs.{units-append}
+use Rattle.textwrap_styles.proofs.Common.{closing, concat, IsWhole, link_end, open_link, open_styles}
+use Rattle.textwrap_styles.proofs.Common.{penned_text, plain_rendition, Rendition, rendition_of, sequence_of}
+use Rattle.textwrap_styles.{proofs.Common.{sequences, style_end, with_sequence}, specs.Penned.penned_units}
+use Rattle.textwrap_styles.specs.Styled.{IsWholeText}
+use Rattle.textwrap_text.proofs.Common.{[], ℕ, ◌++◌, ◌==◌, ◌∙◌, ◌∷◌, ◌≡◌, All, All-append, All-cons, All-head}
+use Rattle.textwrap_text.proofs.Common.{All-nil, All-tail, ap, append-nil, arith, Bool, cases_Bool}
+use Rattle.textwrap_text.proofs.Common.{characters, chars-append, chars-nil, chars_from_encodes, codes, cond}
+use Rattle.textwrap_text.proofs.Common.{encode_utf8_all, encodes-chars, false, flat_map, flat_map-append}
+use Rattle.textwrap_text.proofs.Common.{fold, inl, IsUtf8, IsUtf8-append, IsUtf8-nil, length, List, map, refl}
+use Rattle.textwrap_text.proofs.Common.{rules, Sequence, subst, sym, take, TextUnit, true, units, Visible}
+use Rattle.textwrap_text.proofs.{Common.visible_of, Texts.{utf8-back, utf8-front}, Units.Texts.units-tile}
+use Rattle.textwrap_text.{proofs.Units.Texts.units_unique, specs.Units.{ends, visible}}
 
 -- ---- the units of texts of whole sequences that are put together
 

@@ -1,16 +1,17 @@
 -- The fields of parameters, as the table of the settings and as a pen read them, and settings, each
 -- of which is its own first one.
 use Rattle.std.proofs.lemmas.List.Sums.{AllPass-from_list_all, list_all-from_AllPass, take_while-cons}
-use Rattle.{std.specs.Prelude.nat_le, textwrap_styles.proofs.Common.{between, digits_value, fields, first_of}}
-use Rattle.textwrap_styles.proofs.Common.{is_ascii_digit, is_in_range, numbers_of, settings}
-use Rattle.textwrap_styles.specs.{Pen.with_first, Settings.{code, color_fields, details, first_setting}}
-use Rattle.{textwrap_styles.specs.Settings.{settings_past, taken_fields}, textwrap_text.proofs.Common.{[], ℕ}}
-use Rattle.textwrap_text.proofs.Common.{◌++◌, ◌+◌, ◌-◌, ◌<◌, ◌==◌, ◌∙◌, ◌∷◌, ◌≡◌, ◌≢◌, ◌≤◌, All, All-cons}
-use Rattle.textwrap_text.proofs.Common.{All-drop, All-nil, All-take, and_parts, ap, arith, Bool, cases_Bool}
-use Rattle.textwrap_text.proofs.Common.{codes, cond, cond_both, drop, drop_all, drop_more, false, length}
-use Rattle.textwrap_text.proofs.Common.{length-take, List, list_all, map, min, nat_eq, nat_tests, not, refl}
-use Rattle.textwrap_text.proofs.Common.{rules, starts_with, subst, suc, sym, take, take_all, take_while, true}
-use Rattle.textwrap_text.proofs.Common.{zero}
+use Rattle.std.specs.Prelude.{nat_le}
+use Rattle.textwrap_styles.proofs.Common.{between, digits_value, fields, first_of, is_ascii_digit}
+use Rattle.textwrap_styles.{proofs.Common.{is_in_range, numbers_of, settings}, specs.Pen.with_first}
+use Rattle.textwrap_styles.specs.Settings.{code, color_fields, details, first_setting, settings_past}
+use Rattle.textwrap_styles.specs.Settings.{taken_fields}
+use Rattle.textwrap_text.proofs.Common.{[], ℕ, ◌++◌, ◌+◌, ◌-◌, ◌<◌, ◌==◌, ◌∙◌, ◌∷◌, ◌≡◌, ◌≢◌, ◌≤◌, All}
+use Rattle.textwrap_text.proofs.Common.{All-cons, All-drop, All-nil, All-take, and_parts, ap, arith, Bool}
+use Rattle.textwrap_text.proofs.Common.{cases_Bool, codes, cond, cond_both, drop, drop_all, drop_more, false}
+use Rattle.textwrap_text.proofs.Common.{length, length-take, List, list_all, map, min, nat_eq, nat_tests, not}
+use Rattle.textwrap_text.proofs.Common.{refl, rules, starts_with, subst, suc, sym, take, take_all, take_while}
+use Rattle.textwrap_text.proofs.Common.{true, zero}
 
 -- ---- the first fields of parameters
 

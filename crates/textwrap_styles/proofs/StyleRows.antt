@@ -1,7 +1,8 @@
 -- Worked rows on what parameters do to the plain pen, on what sequences leave open, and on what the
 -- visible characters of a text are written with. In a text `\u{1b}` is ESC.
 use lib.Utf8.{encode}
-use Rattle.{std.specs.Str.chars, textwrap_layout.specs.Paragraph.{Built, Slice}}
+use Rattle.std.specs.Str.{chars}
+use Rattle.textwrap_layout.specs.Paragraph.{Built, Slice}
 use Rattle.textwrap_styles.proofs.Common.{apply, carried_lines, has_target, is_link, is_style, open_settings}
 use Rattle.textwrap_styles.proofs.Common.{open_styles, Pen, penned_lines, plain_pen, plain_rendition}
 use Rattle.textwrap_styles.{proofs.Common.settings, specs.Pen.{color_of, Direct, Indexed, is_whole_color}}

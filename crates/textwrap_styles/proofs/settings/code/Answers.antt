@@ -1,6 +1,7 @@
 use Rattle.textwrap_styles.proofs.settings.code.Goals as goal
 use Rattle.std.proofs.lemmas.{Int.Digits.digits_value_more, List.Sums.prefix_len-le-length}
-use Rattle.{std.proofs.lemmas.List.Sums.prefix_len_passes, textwrap_styles.proofs.Common.is_ascii_digit}
+use Rattle.std.proofs.lemmas.List.Sums.{prefix_len_passes}
+use Rattle.textwrap_styles.proofs.Common.{is_ascii_digit}
 use Rattle.textwrap_text.proofs.Common.{ℕ, ◌<◌, ◌≡◌, arith, cases_Bool, get_or, get_or-take, length}
 use Rattle.textwrap_text.proofs.Common.{length-take-le, List, nat_tests, prefix_len, rules, take, true}
 

@@ -1,5 +1,6 @@
 use Rattle.textwrap_styles.proofs.settings.digits_len.Goals as goal
-use Rattle.{std.proofs.lemmas.List.at_drop_more, textwrap_styles.proofs.Common.is_ascii_digit}
+use Rattle.std.proofs.lemmas.List.{at_drop_more}
+use Rattle.textwrap_styles.proofs.Common.{is_ascii_digit}
 use Rattle.textwrap_text.proofs.Common.{arith, at_drop_all, cases_Bool, prefix_len}
 
 pub returns-then-not-is_ascii_digit : goal.returns-then-not-is_ascii_digit

@@ -1,8 +1,9 @@
 use Rattle.textwrap_styles.proofs.latest.Later.insert.Goals as goal
-use Rattle.{std.proofs.lemmas.Map.Text.is_eq-slice_cmp, textwrap_styles.proofs.Common.kind_of}
-use Rattle.textwrap_styles.proofs.OpenSettings.{any-replaces, any-unknown, unknown-other}
-use Rattle.{textwrap_styles.specs.Settings.{is_unknown, takes_back}, textwrap_text.proofs.Common.{◌&&◌, ◌∙◌}}
-use Rattle.textwrap_text.proofs.Common.{◌≡◌, ap, arith, cases_Bool, false, list_any, not, sym, true}
+use Rattle.std.proofs.lemmas.Map.Text.{is_eq-slice_cmp}
+use Rattle.textwrap_styles.proofs.{Common.kind_of, OpenSettings.{any-replaces, any-unknown, unknown-other}}
+use Rattle.textwrap_styles.specs.Settings.{is_unknown, takes_back}
+use Rattle.textwrap_text.proofs.Common.{◌&&◌, ◌∙◌, ◌≡◌, ap, arith, cases_Bool, false, list_any, not, sym}
+use Rattle.textwrap_text.proofs.Common.{true}
 
 pub returns-then-is_unknown-clause-fresh : goal.returns-then-is_unknown-clause-fresh
 returns-then-is_unknown-clause-fresh g c = λ later are.

@@ -60,9 +60,6 @@ carried-parts indent before line =
     let own = take-append-drop (indent_end indent line) line in
     grind (arith, nat_tests, append-nil, nil_from_length, length-append, own)
 
-closing-short : (before : List (List ℕ)) → length (closing before) ≤ length style_end + length link_end
-closing-short before = search (rules, arith)
-
 -- it is longer by what sets anew what is open, and what ends that, at most
 pub carried-len : (indent : List ℕ) (before : List (List ℕ)) (line : List ℕ)
     → length (line_bytes (carried_line indent before line))
@@ -70,7 +67,8 @@ pub carried-len : (indent : List ℕ) (before : List (List ℕ)) (line : List �
 carried-len indent before line =
     let whole = carried-parts indent before line in
     let own = take-append-drop (indent_end indent line) line in
-    let ends = closing-short (before ++ sequences (after_indent indent line)) in
+    let ends : length (closing (before ++ sequences (after_indent indent line)))
+    ≤ length style_end + length link_end = search (rules, arith) in
     grind (arith, length-append, whole, own, ends)
 
 pub carried-bytes : (indent : List ℕ) (before : List (List ℕ)) (line : List ℕ)

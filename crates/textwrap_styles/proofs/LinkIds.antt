@@ -239,13 +239,14 @@ reopened-len before =
     (omega (arith, few, whole, length-append id rest)) in
     omega (arith, len, length-append s [], length-append (with_id n s) []))
 
-pub ids-kept : (before more : List (List ℕ)) → All (λ s. names_id (drop 4 s) ≡ true) (reopened_link before)
-    × (filter is_link more ≡ [] → reopened_link (before ++ more) ≡ reopened_link before)
-ids-kept before more = (
-  reopened-all Any (λ s. names_id (drop 4 s) ≡ true) before (any before) (λ n s fits is _.
-      with-id (λ l. names_id (drop 4 l) ≡ true) n s is (λ has. has) (id-begins (id_before n (drop 4 s) ++ drop 4 s))),
-  λ none. grind (arith, filter-append is_link before more, none, append-nil (filter is_link before)),
-)
+pub ids-named : (before : List (List ℕ)) → All (λ s. names_id (drop 4 s) ≡ true) (reopened_link before)
+ids-named before =
+    reopened-all Any (λ s. names_id (drop 4 s) ≡ true) before (any before) (λ n s fits is _.
+    with-id (λ l. names_id (drop 4 l) ≡ true) n s is (λ has. has) (id-begins (id_before n (drop 4 s) ++ drop 4 s)))
+
+pub ids-kept : (before more : List (List ℕ)) → filter is_link more ≡ []
+    → reopened_link (before ++ more) ≡ reopened_link before
+ids-kept before more none = grind (arith, filter-append is_link before more, none, append-nil (filter is_link before))
 
 -- the link that is kept is a link, and this sets it anew
 pub kept-link : (before : List (List ℕ)) (n : ℕ) (link : List ℕ) → link ∷ [] ≡ open_link before

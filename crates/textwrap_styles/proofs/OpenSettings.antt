@@ -17,52 +17,32 @@ pub known-below : (k : Kind) → is_unknown k ≡ false → number k < 18
 unfolding is_unknown number
 known-below _ known = grind (arith, cases_Bool, nat_tests)
 
-pub unknown-other : (k : Kind) (n : ℕ) → is_unknown k ≡ true → n < 18 → (number k == n) ≡ false
-unknown-other k n unknown below = grind (arith, cases_Bool, nat_tests, unknown-number)
-
--- tests that are the same of each are the same of all
-any-same : (f g : List ℕ → Bool) → ((t : List ℕ) → f t ≡ g t) → (xs : List (List ℕ))
-    → list_any f xs ≡ list_any g xs
-any-same f g same [] = refl
-any-same f g same (x ∷ xs) = grind (arith, same x, any-same f g same xs)
-
-any-or : (f g : List ℕ → Bool) (xs : List (List ℕ))
-    → list_any (λ t. f t || g t) xs ≡ (list_any f xs || list_any g xs)
-any-or f g [] = refl
-any-or f g (x ∷ xs) = grind (arith, cases_Bool, any-or f g xs)
-
--- these two kinds alone take back one that is known
-module _ (k end : Kind) (known : is_unknown k ≡ false) (too : is_unknown end ≡ false)
-    (takes : (j : Kind) → takes_back j k ≡ ((number j == number k) || (number j == number end))) where
-  taken-known : (j : Kind) → (not (is_unknown j) && takes_back j k)
-      ≡ ((number j == number k) || (number j == number end))
-  taken-known j = grind (arith, cases_Bool, nat_tests, takes, unknown-number, known-below)
-
-  pub any-known : (later : List (List ℕ))
-      → list_any (λ t. not (is_unknown (kind_of t)) && takes_back (kind_of t) k) later
-      ≡ (list_any (λ t. number (kind_of t) == number k) later
-      || list_any (λ t. number (kind_of t) == number end) later)
-  any-known later = search (rules, arith, any-same, taken-known, any-or)
+-- two kinds take back one that is known, if these are its own and its end
+pub any-known : (k end : Kind) → is_unknown k ≡ false → is_unknown end ≡ false
+    → ((j : Kind) → takes_back j k ≡ ((number j == number k) || (number j == number end)))
+    → (later : List (List ℕ)) → list_any (λ t. not (is_unknown (kind_of t)) && takes_back (kind_of t) k) later
+    ≡ (list_any (λ t. number (kind_of t) == number k) later
+    || list_any (λ t. number (kind_of t) == number end) later)
+any-known k end known too takes [] = refl
+any-known k end known too takes (t ∷ later) =
+    let rest = any-known k end known too takes later in
+    grind (arith, cases_Bool, nat_tests, rest, takes (kind_of t), unknown-number, known-below)
 
 -- one that is unknown is taken back by the same
-replaces-unknown : (t s : List ℕ) → is_unknown (kind_of s) ≡ true
-    → replaces t s ≡ (is_unknown (kind_of t) && bytes_eq t s)
-unfolding replaces takes_back number
-replaces-unknown t s unknown = grind (arith, cases_Bool, nat_tests, unknown-number)
-
-replaces-known : (t s : List ℕ) → is_unknown (kind_of s) ≡ false
-    → replaces t s ≡ (not (is_unknown (kind_of t)) && takes_back (kind_of t) (kind_of s))
-unfolding replaces
-replaces-known t s known = grind (arith, cases_Bool, nat_tests, bytes_eq-Decides)
-
 pub any-unknown : (s : List ℕ) (later : List (List ℕ)) → is_unknown (kind_of s) ≡ true
     → list_any (λ t. replaces t s) later ≡ list_any (λ t. is_unknown (kind_of t) && bytes_eq t s) later
-any-unknown s later unknown = grind (arith, cases_Bool, nat_tests, any-same, replaces-unknown)
+unfolding replaces takes_back number
+any-unknown s [] unknown = refl
+any-unknown s (t ∷ later) unknown =
+    grind (arith, cases_Bool, nat_tests, unknown-number, any-unknown s later unknown)
 
 pub any-replaces : (s : List ℕ) (later : List (List ℕ)) → is_unknown (kind_of s) ≡ false
     → list_any (λ t. replaces t s) later
     ≡ list_any (λ t. not (is_unknown (kind_of t)) && takes_back (kind_of t) (kind_of s)) later
-any-replaces s later known = grind (arith, cases_Bool, nat_tests, any-same, replaces-known)
+unfolding replaces
+any-replaces s [] known = refl
+any-replaces s (t ∷ later) known =
+    grind (arith, cases_Bool, nat_tests, bytes_eq-Decides t s, any-replaces s later known)
 
 -- the texts of a list
 abbrev pub texts : List (Bor (List ℕ)) → List (List ℕ)

@@ -108,13 +108,9 @@ abbrev Rows : ℕ → ℕ → Type 0
 Rows zero c = ⊤
 Rows (suc n) c = Row c × Rows n (c + 1)
 
-first-rows : Rows 54 0
+all-rows : Rows 54 0 × Rows 54 54
 unfolding with_code kind_of_code is_ending_code number is_color_code is_unknown differs_at
-first-rows = search arith
-
-last-rows : Rows 54 54
-unfolding with_code kind_of_code is_ending_code number is_color_code is_unknown differs_at
-last-rows = search arith
+all-rows = (search arith, search arith)
 
 rows-at : (n c at : ℕ) → Rows n at → at ≤ c → c < at + n → Row c
 rows-at zero c at rows from to = absurd (omega arith)
@@ -135,9 +131,9 @@ far-row c far = record {
 
 pub row : (c : ℕ) → Row c
 row c = elim (cases_lt c 54) [
-  | inl below ↦ rows-at 54 c 0 first-rows (omega arith) below
+  | inl below ↦ rows-at 54 c 0 all-rows.0 (omega arith) below
   | inr from ↦ elim (cases_lt c 108) [
-    | inl below ↦ rows-at 54 c 54 last-rows from below
+    | inl below ↦ rows-at 54 c 54 all-rows.1 from below
     | inr far ↦ far-row c far
   ]
 ]
@@ -167,10 +163,7 @@ unknown-nothing c is p = ap (λ b. cond b (with_code c p) p) (sym is) ∙ (row c
 pub other-something : (c : ℕ) → is_unknown (kind_of_code c) ≡ false → is_color_code c ≡ false
     → is_ending_code c ≡ false → with_code c plain_pen ≢ plain_pen
 other-something c known plain other same =
-    let kind = number (kind_of_code c) in
-    let all = (row c).known in
-    let differ : differs_at (with_code c plain_pen) kind ≡ true = grind (arith, cases_Bool) in
-    true≢false (sym differ ∙ ap (λ p. differs_at p kind) same ∙ plain-differs kind)
+    grind (arith, cases_Bool, (row c).known, plain-differs (number (kind_of_code c)))
 
 -- ---- changes that set some fields and leave the others
 

@@ -8,7 +8,7 @@ use Rattle.textwrap_styles.proofs.OpenSettings.{left-after, next_left, none-late
 use Rattle.textwrap_styles.proofs.PenCodes.{apply-changes, Changes, changes-then, mix, mix-again, mix-swap}
 use Rattle.textwrap_styles.{proofs.PenCodes.{is_many, is_shared, mix-within, nothing, sets}, specs.Pen.read}
 use Rattle.textwrap_styles.proofs.PenSettings.{all-known, kind-code, many-end}
-use Rattle.textwrap_styles.proofs.SettingTexts.{are-settings, between-append, drop-all, fields-split, InRange}
+use Rattle.textwrap_styles.proofs.SettingTexts.{between-append, first-again, first-all, drop-all, fields-split, InRange}
 use Rattle.textwrap_styles.proofs.SettingTexts.{IsSetting, settings-next, settings-one, taken-again}
 use Rattle.textwrap_styles.specs.Settings.{first_setting, is_color_code, is_end, is_ending_code, is_unknown}
 use Rattle.textwrap_styles.specs.Settings.{kind_of, kind_of_code, number, replaces, taken_fields, takes_back}
@@ -214,20 +214,12 @@ first-split : (t : List ℕ) → length (first_setting t) < length t
 unfolding first_setting
 first-split t more = search (rules, arith, first-fields, fields-split)
 
-first-known : (t : List ℕ) → length (first_setting t) < length t
-    → is_unknown (kind_of (first_setting t)) ≡ false
-first-known t more = grind (arith, nat_tests, first-fields t more, taken-known, taken-again)
-
-first-is : (t : List ℕ) → InRange t → length (first_setting t) < length t → IsSetting (first_setting t)
-first-is t range more =
-    All-head IsSetting (first_setting t) (settings (drop (length (first_setting t) + 1) t))
-    (subst (All IsSetting) (settings-next t more) (are-settings t range))
-
 -- what is read of the first one, and of the rest behind it
 first-read : (t : List ℕ) → InRange t → length (first_setting t) < length t → (p : Pen)
     → read t p ≡ read (drop (length (first_setting t) + 1) t) (apply (first_setting t) p)
 first-read t range more p =
-    let known = all-known (first_setting t) (first-is t range more) (first-known t more) in
+    let is : IsSetting (first_setting t) = search (rules, first-again, first-all) in
+    let known = all-known (first_setting t) is (grind (arith, nat_tests, first-fields t more, taken-known, taken-again)) in
     grind (arith, first-split t more, between-append, map-append, fold-append, known.settled)
 
 settings-pen : (n : ℕ) (t : List ℕ) → length t ≤ n → InRange t → (p : Pen) → apply t p ≡ pen_by p (settings t)

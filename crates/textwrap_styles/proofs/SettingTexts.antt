@@ -31,12 +31,8 @@ semicolon-no_digit c is = grind (arith, cases_Bool, nat_tests)
 fields-digits : (n : ℕ) (t : List ℕ) → take_while is_ascii_digit (fields n t) ≡ take_while is_ascii_digit t
 fields-digits n [] = refl
 fields-digits n (c ∷ cs) =
-    cond_both (c == 0x3B) (cond (nat_le n 1) [] (c ∷ fields (n - 1) cs)) (c ∷ fields n cs)
-    (λ l. take_while is_ascii_digit l ≡ take_while is_ascii_digit (c ∷ cs))
-    (λ is. grind (arith, cases_Bool, semicolon-no_digit c is, take_while-cons))
-    (λ other. take_while-cons is_ascii_digit c (fields n cs)
-    ∙ ap (λ l. cond (is_ascii_digit c) (c ∷ l) []) (fields-digits n cs)
-    ∙ sym (take_while-cons is_ascii_digit c cs))
+    let cons = take_while-cons is_ascii_digit c in
+    grind (arith, cases_Bool, semicolon-no_digit c, cons cs, cons (fields n cs), cons (fields (n - 1) cs), fields-digits n cs)
 
 fields-code : (n : ℕ) (t : List ℕ) → code (fields n t) ≡ code t
 unfolding code
@@ -114,7 +110,7 @@ pub drop-all : (p : ℕ → Bool) (n : ℕ) (s : List ℕ) → list_all p s ≡ 
 drop-all p n s all =
     list_all-from_AllPass p (drop n s) (All-drop (λ c. p c ≡ true) n s (AllPass-from_list_all p s all))
 
-first-all : (p : ℕ → Bool) (t : List ℕ) → list_all p t ≡ true → list_all p (first_setting t) ≡ true
+pub first-all : (p : ℕ → Bool) (t : List ℕ) → list_all p t ≡ true → list_all p (first_setting t) ≡ true
 first-all p t all =
     subst (λ s. list_all p s ≡ true) (first-take t) (take-all p (length (first_setting t)) t all)
 
@@ -221,18 +217,12 @@ first_field t = first_text (between 0x3B t)
 abbrev pub InRange : List ℕ → Type 0
 InRange t = list_all (is_in_range 0x30 0x3B) t ≡ true
 
-digit-step : (c : ℕ) (digits field : List ℕ) → is_in_range 0x30 0x3B c ≡ true
-    → digits ≡ first_text (between 0x3A field) → cond (is_ascii_digit c) (c ∷ digits) []
-    ≡ first_text (between 0x3A (cond (c == 0x3B) [] (c ∷ field)))
-digit-step c digits field range are = grind (arith, cases_Bool, nat_tests, text-cons)
-
 digits-first : (t : List ℕ) → InRange t
     → take_while is_ascii_digit t ≡ first_text (between 0x3A (first_field t))
 digits-first [] all = refl
 digits-first (c ∷ cs) all =
-    let parts = and_parts (is_in_range 0x30 0x3B c) (list_all (is_in_range 0x30 0x3B) cs) all in
-    take_while-cons is_ascii_digit c cs ∙ digit-step c (take_while is_ascii_digit cs) (first_field cs) parts.0
-    (digits-first cs parts.1) ∙ sym (ap (λ f. first_text (between 0x3A f)) (text-cons 0x3B c cs))
+    let cons = take_while-cons is_ascii_digit c cs in
+    grind (arith, cases_Bool, nat_tests, cons, text-cons 0x3B c cs, text-cons 0x3A c (first_field cs), digits-first cs)
 
 pub first-value : (texts : List (List ℕ))
     → first_of (map (digits_value 10) texts) ≡ digits_value 10 (first_text texts)

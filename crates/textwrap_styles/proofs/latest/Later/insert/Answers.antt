@@ -1,9 +1,9 @@
 use Rattle.textwrap_styles.proofs.latest.Later.insert.Goals as goal
 use Rattle.std.proofs.lemmas.Map.Text.{is_eq-slice_cmp}
-use Rattle.textwrap_styles.proofs.{Common.kind_of, OpenSettings.{any-replaces, any-unknown, unknown-other}}
+use Rattle.textwrap_styles.proofs.{Common.kind_of, OpenSettings.{any-replaces, any-unknown, unknown-number}}
 use Rattle.textwrap_styles.specs.Settings.{is_unknown, takes_back}
 use Rattle.textwrap_text.proofs.Common.{◌&&◌, ◌∙◌, ◌≡◌, ap, arith, cases_Bool, false, list_any, not, sym}
-use Rattle.textwrap_text.proofs.Common.{true}
+use Rattle.textwrap_text.proofs.Common.{nat_tests, true}
 
 pub returns-then-is_unknown-clause-fresh : goal.returns-then-is_unknown-clause-fresh
 returns-then-is_unknown-clause-fresh g c = λ later are.
@@ -17,7 +17,7 @@ returns-then-is_unknown-clause-added g c = λ later are.
     let unknown : is_unknown (kind_of s) ≡ true =
     sym (c.if-is_unknown.ensures ∙ ap is_unknown c.kind_of-kind.ensures) in
     record {
-      kinds = λ n below. grind (arith, are.kinds n below, unknown-other (kind_of s) n unknown below);
+      kinds = λ n below. grind (arith, cases_Bool, nat_tests, unknown, are.kinds n below, unknown-number (kind_of s));
       unknown = λ t.
           let same = is_eq-slice_cmp s t.now in
           grind (arith, cases_Bool, c.in_ok-insert.ensures.updates.0 t, same, are.unknown t, unknown);

@@ -153,19 +153,14 @@ link_start-chars rest =
     chars-append link_start rest link_start-utf8
     ∙ ap (λ l. l ++ chars rest) (chars-IsAscii link_start link_start-ascii)
 
-id-ascii : (n : ℕ) (fields : List ℕ) → n < 2 ^ 64 → IsAscii (id_before n fields)
-id-ascii n fields fits =
-    let id = id_before n fields in
-    IsAscii-from_all id (All-weaker (λ c. is_plain c ≡ true) (λ b. b < 128)
-    (λ c plain. grind (arith, cases_Bool, nat_tests, plain)) id
-    (AllPass-from_list_all is_plain id (id-plain n fields fits)))
-
 id-sequence : (n : ℕ) (s : List ℕ) → n < 2 ^ 64 → is_link s ≡ true → IsSequence s → IsSequence (with_id n s)
 id-sequence n s fits is own =
     let rest = drop 4 s in
     let id = id_before n rest in
     let shape = link-rest s is in
-    let ascii = id-ascii n rest fits in
+    let ascii : IsAscii id = IsAscii-from_all id (All-weaker (λ c. is_plain c ≡ true) (λ b. b < 128)
+    (λ c plain. grind (arith, cases_Bool, nat_tests, plain)) id
+    (AllPass-from_list_all is_plain id (id-plain n rest fits))) in
     let id_utf8 = IsUtf8-from_ascii id ascii in
     let utf8 = IsUtf8-drop s 4 own.utf8
     (StartsWith-boundary s link_start own.utf8 link_start-utf8 (ap (take 4) shape)) in
@@ -202,16 +197,13 @@ reopened-all Q P before all each =
 abbrev Any : List ℕ → Type 0
 Any s = ⊤
 
-any : (ss : List (List ℕ)) → All Any ss
-any ss = λ k d within. tt
-
 pub reopened-sequences : (before : List (List ℕ)) → All IsSequence before
     → All IsSequence (reopened_link before)
 reopened-sequences before all = reopened-all IsSequence IsSequence before all id-sequence
 
 pub reopened-plain : (before : List (List ℕ)) → All (λ s. is_style s ≡ false) (reopened_link before)
 reopened-plain before =
-    reopened-all Any (λ s. is_style s ≡ false) before (any before)
+    reopened-all Any (λ s. is_style s ≡ false) before (λ k d within. tt)
     (λ n s fits is _. link-no_style (with_id n s) (set-anew n s fits is).0)
 
 -- it leads where it led
@@ -219,7 +211,7 @@ pub reopened-link : (before : List (List ℕ))
     → fold with_link [] (reopened_link before) ≡ fold with_link [] (open_link before)
 reopened-link before =
     open_link-cases Any (λ ls. fold with_link [] (map (with_id (count before)) ls) ≡ fold with_link [] ls)
-    before (any before) refl (λ s is _.
+    before (λ k d within. tt) refl (λ s is _.
     let own = set-anew (count before) s (omega arith) is in
     grind (arith, cases_Bool, own.0, own.1, is))
 
@@ -229,19 +221,13 @@ pub reopened-len : (before : List (List ℕ))
 reopened-len before =
     let n = count before in
     open_link-cases Any (λ ls. length (concat (map (with_id n) ls)) ≤ length (concat ls) + 25)
-    before (any before) (omega arith) (λ s is _.
-    let rest = drop 4 s in
-    let id = id_before n rest in
-    let few = id-len n rest (omega arith) in
-    let whole = ap length (link-rest s is) in
-    let len : length (with_id n s) ≤ length s + 25 =
-    with-id (λ l. length l ≤ length s + 25) n s is (λ has. omega arith)
-    (omega (arith, few, whole, length-append id rest)) in
-    omega (arith, len, length-append s [], length-append (with_id n s) []))
+    before (λ k d within. tt) (omega arith) (λ s is _.
+    with-id (λ l. length (l ++ []) ≤ length (s ++ []) + 25) n s is (λ has. omega arith)
+    (simp length-append (omega (arith, simp length-append at (id-len n (drop 4 s) (omega arith)), ap length (link-rest s is)))))
 
 pub ids-named : (before : List (List ℕ)) → All (λ s. names_id (drop 4 s) ≡ true) (reopened_link before)
 ids-named before =
-    reopened-all Any (λ s. names_id (drop 4 s) ≡ true) before (any before) (λ n s fits is _.
+    reopened-all Any (λ s. names_id (drop 4 s) ≡ true) before (λ k d within. tt) (λ n s fits is _.
     with-id (λ l. names_id (drop 4 l) ≡ true) n s is (λ has. has) (id-begins (id_before n (drop 4 s) ++ drop 4 s)))
 
 pub ids-kept : (before more : List (List ℕ)) → filter is_link more ≡ []
@@ -252,8 +238,7 @@ ids-kept before more none = grind (arith, filter-append is_link before more, non
 pub kept-link : (before : List (List ℕ)) (n : ℕ) (link : List ℕ) → link ∷ [] ≡ open_link before
     → n ≡ count before → (is_link link ≡ true) × (concat (reopened_link before) ≡ with_id n link)
 kept-link before n link kept number = (
-  All-head (λ s. is_link s ≡ true) link [] (subst (All (λ s. is_link s ≡ true)) (sym kept)
-      (open_link-cases Any (All (λ s. is_link s ≡ true)) before (any before) (All-nil (λ s. is_link s ≡ true))
-      (λ s is _. All-cons (λ s. is_link s ≡ true) s [] is (All-nil (λ s. is_link s ≡ true))))),
+  open_link-cases Any (λ ls. (l : List ℕ) → l ∷ [] ≡ ls → is_link l ≡ true) before (λ k d within. tt)
+      (λ l e. cc) (λ s is _ l e. cc) link kept,
   rw (sym kept, sym number) (append-nil (with_id n link)),
 )

@@ -184,10 +184,11 @@ changes-then act later one two = record {
       ∙ mix-both two.fields one.fields two.values one.values p;
 }
 
-pub changes-if : (b : Bool) {act other : Pen → Pen} → Changes act → Changes other
-    → Changes (λ p. cond b (act p) (other p))
-changes-if true one two = one
-changes-if false one two = two
+-- one of two, by a test
+either : {X : Type 0} (F : (Pen → X) → Type 0) (b : Bool) {act other : Pen → X} → F act → F other
+    → F (λ p. cond b (act p) (other p))
+either F true one two = one
+either F false one two = two
 
 -- ---- fields of parameters
 
@@ -210,8 +211,8 @@ parts-changes c parts =
       values = record plain_pen { underline = first_of parts };
       is = λ p. refl;
     } in
-    changes-if (c == 4) underline
-    (changes-if ((c == 38) || (c == 48) || (c == 58)) (color-changes c (color_of parts)) nothing)
+    either Changes (c == 4) underline
+    (either Changes ((c == 38) || (c == 48) || (c == 58)) (color-changes c (color_of parts)) nothing)
 
 -- with a field more: the colour that has begun does not hang on the pen
 pub record Steps (act : Pen → Reading) : Type 0 where
@@ -219,11 +220,6 @@ pub record Steps (act : Pen → Reading) : Type 0 where
   pub pen : Pen → Pen
   pub changes : Changes pen
   pub is : (p : Pen) → act p ≡ record { pen = pen p; color = color }
-
-steps-if : (b : Bool) {act other : Pen → Reading} → Steps act → Steps other
-    → Steps (λ p. cond b (act p) (other p))
-steps-if true one two = one
-steps-if false one two = two
 
 abbrev at : List ℕ → Pen → Reading
 at color p = record { pen = p; color = color }
@@ -237,10 +233,10 @@ field-steps color field =
     let code = first_of field in
     let numbers = color ++ code ∷ [] in
     let whole = color-changes (first_of numbers) (color_of (drop 1 numbers)) in
-    steps-if (not (length color == 0))
-    (steps-if (is_whole_color (drop 1 numbers)) (steps-by [] whole) (steps-by numbers nothing))
-    (steps-if (not (length field == 1)) (steps-by [] (parts-changes code (drop 1 field)))
-    (steps-if ((code == 38) || (code == 48) || (code == 58)) (steps-by numbers nothing)
+    either Steps (not (length color == 0))
+    (either Steps (is_whole_color (drop 1 numbers)) (steps-by [] whole) (steps-by numbers nothing))
+    (either Steps (not (length field == 1)) (steps-by [] (parts-changes code (drop 1 field)))
+    (either Steps ((code == 38) || (code == 48) || (code == 58)) (steps-by numbers nothing)
     (steps-by [] (code-changes code))))
 
 fields-steps : (fs : List (List ℕ)) (color : List ℕ) → Steps (λ p. fold with_field (at color p) fs)

@@ -1,6 +1,6 @@
 -- Pens after parameters are pens after their settings, one after another, and the settings that are
 -- open give the pen that all of them gave.
-use Rattle.std.proofs.lemmas.Slice.Eq.{bytes_eq-Decides}
+use Rattle.std.proofs.lemmas.{List.Folds.list_any_at, Slice.Eq.bytes_eq-Decides}
 use Rattle.textwrap_styles.proofs.Common.{apply, fields, fold-append, in_effect, Kind, latest, open_settings}
 use Rattle.textwrap_styles.proofs.{Common.{Pen, plain_pen, Reset, settings}, OpenSettings.unknown-number}
 use Rattle.textwrap_styles.proofs.OpenSettings.{all-latest, all-since, known-below, latest-in_effect}
@@ -14,7 +14,7 @@ use Rattle.textwrap_styles.specs.Settings.{first_setting, is_color_code, is_end,
 use Rattle.textwrap_styles.specs.Settings.{kind_of, kind_of_code, number, replaces, taken_fields, takes_back}
 use Rattle.textwrap_text.proofs.Common.{◌&&◌, ◌+◌, ◌++◌, ◌<◌, ◌==◌, [], after_last, All, All-drop, All-head}
 use Rattle.textwrap_text.proofs.Common.{All-tail, ap, arith, cases_Bool, cond_both, drop, eqb-true, false}
-use Rattle.textwrap_text.proofs.Common.{fold, inl, inr, length, length-drop, List, list_any, map-append}
+use Rattle.textwrap_text.proofs.Common.{fold, get_or, inl, inr, length, length-drop, List, list_any, map-append}
 use Rattle.textwrap_text.proofs.Common.{nat_tests, refl, rules, subst, suc, sym, true, true≢false, zero, ◌||◌}
 use Rattle.textwrap_text.proofs.Common.{ℕ, ◌∙◌, ◌∷◌, ◌≡◌, ◌≤◌, ⊤}
 
@@ -128,43 +128,30 @@ open-latest before =
 abbrev IsQuiet : Pen → List ℕ → Type 0
 IsQuiet p t = is_unknown (kind_of t) ≡ false → is_end t ≡ true → apply t p ≡ p
 
-abbrev AreQuiet : Pen → List (List ℕ) → Type 0
-AreQuiet p [] = ⊤
-AreQuiet p (t ∷ ts) = IsQuiet p t × AreQuiet p ts
-
-plain-quiet : (ts : List (List ℕ)) → All IsSetting ts → AreQuiet plain_pen ts
-plain-quiet [] are = tt
-plain-quiet (t ∷ ts) are = (
-  λ known end. (all-known t (All-head IsSetting t ts are) known).ends end,
-  plain-quiet ts (All-tail IsSetting t ts are),
-)
-
 -- those that the table knows, and that set something
 record Setter (t : List ℕ) : Type 0 where
   setting : IsSetting t
   sets : Sets t
 
 stay-quiet : (s : List ℕ) (ts : List (List ℕ)) (p : Pen) → Setter s
-    → is_unknown (kind_of s) ≡ false → All Setter ts
-    → list_any (λ t. replaces t s) ts ≡ false → AreQuiet p ts → AreQuiet (apply s p) ts
-stay-quiet s [] p is known are none quiet = tt
-stay-quiet s (t ∷ ts) p is known are none (one, others) =
-    let own = All-head Setter t ts are in
-    let first : replaces t s ≡ false = grind (arith, cases_Bool) in
-    let rest : list_any (λ t. replaces t s) ts ≡ false = grind (arith, cases_Bool) in (
-      λ other end. commute s t is.setting own.setting other known end own.sets is.sets first p
-          ∙ ap (apply s) (one other end),
-      stay-quiet s ts p is known (All-tail Setter t ts are) rest others,
-    )
+    → is_unknown (kind_of s) ≡ false → All Setter ts → list_any (λ t. replaces t s) ts ≡ false
+    → All (IsQuiet p) ts → All (IsQuiet (apply s p)) ts
+stay-quiet s ts p is known are none quiet = λ k d within other end.
+    let own = are k d within in
+    let left : replaces (get_or ts k d) s ≡ false =
+    grind (arith, cases_Bool, list_any_at (λ t. replaces t s) ts k d within) in
+    commute s (get_or ts k d) is.setting own.setting other known end own.sets is.sets left p
+    ∙ ap (apply s) (quiet k d within other end)
 
-run-effect : (ss : List (List ℕ)) (p : Pen) → All Setter ss → AreLatest ss → AreQuiet p ss
+run-effect : (ss : List (List ℕ)) (p : Pen) → All Setter ss → AreLatest ss → All (IsQuiet p) ss
     → pen_by p (in_effect ss) ≡ pen_by p ss
 run-effect [] p are latest quiet = refl
-run-effect (s ∷ ss) p are (none, latest) (one, others) =
+run-effect (s ∷ ss) p are (none, latest) quiet =
     let rest = All-tail Setter s ss are in
+    let others = All-tail (IsQuiet p) s ss quiet in
     let sets = λ (known : is_unknown (kind_of s) ≡ false). run-effect ss (apply s p) rest latest
     (stay-quiet s ss p (All-head Setter s ss are) known rest none others) in
-    grind (arith, cases_Bool, sets, run-effect ss p rest latest others, one)
+    grind (arith, cases_Bool, sets, run-effect ss p rest latest others, All-head (IsQuiet p) s ss quiet)
 
 -- ---- since all were taken back
 
@@ -196,7 +183,9 @@ open-pen before are =
     let settings : All IsSetting (after_last resets before) = All-drop IsSetting _ before are in
     let setters : All Setter (after_last resets before) =
     λ k d within. record { setting = settings k d within; sets = all-since before k d within } in
-    search (rules, arith, run-effect, all-latest, are-latest, plain-quiet, run-latest, since, settings, setters)
+    let quiet : All (IsQuiet plain_pen) (latest (after_last resets before)) =
+    λ k d within known end. (all-known _ (all-latest IsSetting _ settings k d within) known).ends end in
+    search (rules, arith, run-effect, all-latest, are-latest, run-latest, since, settings, setters, quiet)
 
 taken-known : (t : List ℕ) → (taken_fields t == 0) ≡ false → is_unknown (kind_of t) ≡ false
 unfolding kind_of taken_fields is_color_code is_unknown kind_of_code

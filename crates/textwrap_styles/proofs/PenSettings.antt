@@ -16,8 +16,6 @@ use Rattle.textwrap_text.proofs.Common.{cases_Bool, drop, eqb-true, false, fold,
 use Rattle.textwrap_text.proofs.Common.{List, map, min, nat_tests, prefix_len, refl, rules, sym, true}
 use Rattle.textwrap_text.proofs.Common.{true≢false}
 
--- ---- one field
-
 -- what a number that stands by itself, or that colons join to others, does
 abbrev pub alone : Pen → Reading
 alone pen = record { pen = pen; color = [] }
@@ -47,10 +45,8 @@ among P c is a b d = grind (arith, cases_Bool, nat_tests, eqb-true)
 -- each of them sets its own field
 pub color-sets : (c : ℕ) (color : Color) → is_color_code c ≡ true → (p : Pen)
     → with_color c color p ≡ mix (sets (number (kind_of_code c))) (with_color c color plain_pen) p
-unfolding with_color kind_of_code number
-color-sets c color is p =
-    among (λ c. with_color c color p
-    ≡ mix (sets (number (kind_of_code c))) (with_color c color plain_pen) p) c is refl refl refl
+unfolding with_color kind_of_code number is_color_code
+color-sets c color is p = grind (arith, cases_Bool, nat_tests)
 
 -- none of them is the terminal's own
 direct-own : (numbers : List ℕ) → is_own (direct_color numbers) ≡ false
@@ -64,10 +60,8 @@ color-own numbers = grind (arith, cases_Bool, direct-own (drop 1 numbers))
 
 color-differs : (c : ℕ) (color : Color) → is_color_code c ≡ true → is_own color ≡ false
     → differs_at (with_color c color plain_pen) (number (kind_of_code c)) ≡ true
-unfolding with_color kind_of_code number differs_at
-color-differs c color is other =
-    among (λ c. differs_at (with_color c color plain_pen) (number (kind_of_code c)) ≡ true) c is
-    (rw other refl) (rw other refl) (rw other refl)
+unfolding with_color kind_of_code number differs_at is_color_code
+color-differs c color is other = grind (arith, cases_Bool, nat_tests, other)
 
 -- ---- what is known of a setting that the table knows
 
@@ -108,11 +102,11 @@ module _ (t : List ℕ) (is : IsSetting t) where
   pub field-len : length (numbers_of (first_field t)) ≡ length (between 0x3A (first_field t))
   field-len = length-map (between 0x3A (first_field t)) (digits_value 10)
 
-  one-field : taken_fields t ≡ 1 → between 0x3B t ≡ first_field t ∷ []
-  one-field taken = grind (arith, cases_Bool, nat_tests, one-of, between-some, fields-few, own-fields)
-
   pub read-one : taken_fields t ≡ 1 → (p : Pen) → read t p ≡ with_field (alone p) (numbers_of (first_field t))
-  read-one taken p = ap (λ fs. fold with_field (alone p) (map numbers_of fs)) (one-field taken)
+  read-one taken p =
+      let one : between 0x3B t ≡ first_field t ∷ [] =
+      grind (arith, cases_Bool, nat_tests, one-of, between-some, fields-few, own-fields) in
+      ap (λ fs. fold with_field (alone p) (map numbers_of fs)) one
 
 pub kind-code : (t : List ℕ) → is_unknown (kind_of t) ≡ false → kind_of t ≡ kind_of_code (code t)
 unfolding kind_of is_unknown

@@ -124,10 +124,7 @@ one-sequence s false is = All-cons IsSequence s [] is (All-nil IsSequence)
 
 pub closing-sequences : (before : List (List ℕ)) → All IsSequence (closing_sequences before)
 closing-sequences before =
-    let plain = length (open_styles before) == 0 in
-    let unlinked = length (open_link before) == 0 in
-    All-append IsSequence (cond plain [] (style_end ∷ [])) (cond unlinked [] (link_end ∷ []))
-    (one-sequence style_end plain style_end-is) (one-sequence link_end unlinked link_end-is)
+    search (rules, arith, All-append, one-sequence, style_end-is, link_end-is)
 
 -- ---- what units show
 
@@ -146,10 +143,6 @@ sequences-show (s ∷ xs) now = sequences-show xs (with_sequence now (encode_utf
 
 -- ---- what stands before a text, and the text, between sequences: its units, and what it shows
 
-flat_map-four : {X A : Type 0} (f : X → List A) (xs ys zs ws : List X) → flat_map f (xs ++ ys ++ zs ++ ws)
-    ≡ flat_map f xs ++ flat_map f ys ++ flat_map f zs ++ flat_map f ws
-flat_map-four f xs ys zs ws = simp flat_map-append
-
 module _ (front text : List ℕ) (starts ends : List (List ℕ)) (front_whole : IsWholeText front)
     (text_whole : IsWholeText text) (are_starts : All IsSequence starts)
     (are_ends : All IsSequence ends) where
@@ -159,12 +152,12 @@ module _ (front text : List ℕ) (starts ends : List (List ℕ)) (front_whole : 
 
   pub parts-sequences : sequences (front ++ concat starts ++ text ++ concat ends)
       ≡ sequences front ++ starts ++ sequences text ++ ends
-  parts-sequences = grind (arith, parts-units, flat_map-four, units-again)
+  parts-sequences = grind (arith, parts-units, flat_map-append, units-again)
 
   pub parts-visible : visible (chars (front ++ concat starts ++ text ++ concat ends))
       ≡ visible (chars (front ++ text))
   parts-visible =
-      search (rules, arith, parts-units, flat_map-four, none-visible, flat_map-append, text_units-append)
+      search (rules, arith, parts-units, none-visible, flat_map-append, text_units-append)
 
   -- where what sets anew what is open gives this
   pub parts-penned : (now : Rendition) → rendition_of (sequences front ++ starts) ≡ now

@@ -25,17 +25,6 @@ use Rattle.textwrap_text.proofs.Lists.Parts.{all-right, starts_with-rest}
 
 -- ---- one line more that sets anew what is open, and ends plain
 
--- a line with these texts after its indent and at its end
-abbrev enclosed : List ℕ → ℕ → List ℕ → List ℕ → Line
-enclosed line n start end =
-    cond (length (start ++ end) == 0) (Slice line) (Built (take n line ++ start ++ drop n line ++ end))
-
-pub line-is : (indent line : List ℕ) (n : ℕ) (before : List (List ℕ)) (start end : List ℕ)
-    (view : Line) → n ≡ indent_end indent line → start ≡ opening before
-    → end ≡ closing (before ++ sequences (drop n line))
-    → view ≡ enclosed line n start end → view ≡ carried_line indent before line
-line-is indent line n before start end view is starts ends whole = cc
-
 -- one more of the lines
 pub carries-more : {Z : Type 0} (lines : List (CowStr Z)) (n : ℕ) (line added : CowStr Z)
     (indent later bytes text : List ℕ) (before : List (List ℕ)) (old new : List (CowStr Z))
@@ -47,8 +36,7 @@ pub carries-more : {Z : Type 0} (lines : List (CowStr Z)) (n : ℕ) (line added 
     (texts_of (drop (n + 1) lines)) ≡ all
 carries-more lines n line added indent later bytes text before old new all within is same after
     push view whole =
-    let left = drop_more lines n line within in
-    grind (arith, append_assoc, line_bytes-line_view, map-append, left)
+    grind (arith, append_assoc, line_bytes-line_view, map-append, drop_more lines n line within)
 
 -- ---- the bytes of a line whose styles are carried
 
@@ -65,11 +53,10 @@ pub carried-len : (indent : List ℕ) (before : List (List ℕ)) (line : List �
     → length (line_bytes (carried_line indent before line))
     ≤ length line + length (opening before) + length style_end + length link_end
 carried-len indent before line =
-    let whole = carried-parts indent before line in
     let own = take-append-drop (indent_end indent line) line in
     let ends : length (closing (before ++ sequences (after_indent indent line)))
     ≤ length style_end + length link_end = search (rules, arith) in
-    grind (arith, length-append, whole, own, ends)
+    grind (arith, length-append, carried-parts indent before line, own, ends)
 
 pub carried-bytes : (indent : List ℕ) (before : List (List ℕ)) (line : List ℕ)
     → line_bytes (carried_line indent before line)
@@ -105,9 +92,9 @@ module _ (indent : List ℕ) (before : List (List ℕ)) (line : List ℕ) (are :
 
   pub carried-plain : EndsPlain (line_bytes (carried_line indent before line))
   carried-plain =
-      let all = parts-sequences front text starts ends may.front may.text all-starts (closing-sequences (before ++ sequences text)) in
-      let end = ended (before ++ sequences text) in
-      grind (arith, carried-bytes indent before line, all, fold-append, begun, end)
+      let closed = closing-sequences (before ++ sequences text) in
+      let all = parts-sequences front text starts ends may.front may.text all-starts closed in
+      grind (arith, carried-bytes indent before line, all, fold-append, begun, ended (before ++ sequences text))
 
   pub carried-wide : text_width (line_bytes (carried_line indent before line)) ≡ text_width line
   carried-wide =
@@ -119,8 +106,7 @@ module _ (indent : List ℕ) (before : List (List ℕ)) (line : List ℕ) (are :
 indented-later : (Is : List ℕ → List ℕ → Type 0) (later : List ℕ) (lines : List (List ℕ))
     → All (Is later) lines → EachWithIndent Is later later lines
 indented-later Is later [] all = tt
-indented-later Is later (line ∷ lines) all =
-    (All-head (Is later) line lines all, All-tail (Is later) line lines all)
+indented-later Is later (line ∷ lines) all = (all 0 line (omega arith), All-tail (Is later) line lines all)
 
 -- what the lines show, that they end plain, and how wide they are
 pub record AreCarried (indent later : List ℕ) (before lines : List (List ℕ)) : Type 0 where
@@ -173,12 +159,10 @@ nil-plain = ap (λ cs. rendition_of (flat_map sequence_of (units cs))) chars-nil
 -- what follows a whole text in one
 whole_text-rest : (xs ys : List ℕ) → IsWholeText xs → IsWholeText (xs ++ ys) → IsWholeText ys
 whole_text-rest xs ys front whole =
-    let n = length xs in (
-      subst IsUtf8 (drop_at xs ys n refl) (IsUtf8-drop (xs ++ ys) n whole.0
-          (StartsWith-boundary (xs ++ ys) xs whole.0 front.0 (take_at xs ys n refl))),
-      all-right IsWhole (units (chars xs)) (units (chars ys))
-          (subst (All IsWhole) (text_units-append xs ys front) whole.1),
-    )
+    let starts = StartsWith-boundary (xs ++ ys) xs whole.0 front.0 (take_at xs ys (length xs) refl) in
+    let utf8 = IsUtf8-drop (xs ++ ys) (length xs) whole.0 starts in
+    let all = rw (text_units-append xs ys front) at whole.1 in
+    (rw (drop_at xs ys (length xs) refl) at utf8, all-right IsWhole (units (chars xs)) (units (chars ys)) all)
 
 may-carry : (indent line : List ℕ) → IsWholeText indent → EndsPlain indent
     → IsWholeText line → MayCarry indent line
@@ -222,6 +206,5 @@ pub bare-carried : (lines : List (List ℕ)) → All IsWholeText lines
     → flat_map (λ l. penned_text plain_rendition (line_bytes l)) (carried_lines [] [] [] lines)
     ≡ penned_text plain_rendition (concat lines)
 bare-carried lines whole =
-    let may = all-may_carry [] [] lines nil-whole nil-plain nil-whole nil-plain whole in
-    let all = carried [] [] lines may in
+    let all = carried [] [] lines (all-may_carry [] [] lines nil-whole nil-plain nil-whole nil-plain whole) in
     grind (arith, flat_map-map, all.shown, bare-shown lines plain_rendition whole)

@@ -106,10 +106,9 @@ fewest before others nothing more same =
     let now = open_settings all in
     let rest = flat_map settings_of others in
     let is = all-settings before in
-    let own = all-open IsSetting all is in
     let are : All Open now =
     λ k d within. record {
-      told = record { setting = own k d within; nothing = nothing k d within };
+      told = record { setting = (all-open IsSetting all is) k d within; nothing = nothing k d within };
       sets = all-set all k d within;
     } in
     let told : All Told rest =

@@ -137,10 +137,9 @@ whole-ends body whole =
 
 ends-whole : (body : List ℕ) → EndsBefore body → IsWhole (Sequence (escape ∷ body))
 ends-whole body ends =
-    let one = take_at body (65 ∷ []) (length body) refl in
     let rest = units_past-skip (length body) (followed body)
     ∙ ap units (drop_at body (65 ∷ []) (length body) refl) in
-    ((apart body).1 (sym (rw (ends, one, rest) refl))).1.0
+    ((apart body).1 (sym (rw (ends, take_at body (65 ∷ []) (length body) refl, rest) refl))).1.0
 
 link_start-ascii : IsAscii link_start
 link_start-ascii = IsAscii-from_all link_start (search (rules, arith))
@@ -168,17 +167,13 @@ id-sequence n s fits is own =
     let whole : IsWhole (Sequence (link_start ++ cs)) =
     rw (ap chars shape ∙ link_start-chars rest) at own.whole in
     let len = command-plain 59 id (followed cs) refl (id-plain n rest fits) in
+    let ends = whole-ends (93 ∷ 56 ∷ 59 ∷ cs) whole in
     with-id IsSequence n s is (λ has. own)
     (unit-sequence (link_start ++ id ++ rest) (link_start ++ (id ++ cs))
     (IsUtf8-append link_start (id ++ rest) link_start-utf8 (IsUtf8-append id rest id_utf8 utf8))
     (link_start-chars (id ++ rest) ∙ ap (λ l. link_start ++ l) (chars-append id rest id_utf8
-    ∙ ap (λ l. l ++ cs) (chars-IsAscii id ascii))) (ends-whole (93 ∷ 56 ∷ 59 ∷ id ++ cs) (omega (
-      arith,
-      len,
-      whole-ends (93 ∷ 56 ∷ 59 ∷ cs) whole,
-      length-append id cs,
-      ap (command_len 59) (append_assoc id cs (65 ∷ [])),
-    ))))
+    ∙ ap (λ l. l ++ cs) (chars-IsAscii id ascii))) (ends-whole (93 ∷ 56 ∷ 59 ∷ id ++ cs)
+    (omega (arith, len, ends, length-append id cs, ap (command_len 59) (append_assoc id cs (65 ∷ []))))))
 
 -- ---- the link that is open
 
@@ -237,8 +232,7 @@ ids-kept before more none = grind (arith, filter-append is_link before more, non
 -- the link that is kept is a link, and this sets it anew
 pub kept-link : (before : List (List ℕ)) (n : ℕ) (link : List ℕ) → link ∷ [] ≡ open_link before
     → n ≡ count before → (is_link link ≡ true) × (concat (reopened_link before) ≡ with_id n link)
-kept-link before n link kept number = (
-  open_link-cases Any (λ ls. (l : List ℕ) → l ∷ [] ≡ ls → is_link l ≡ true) before (λ k d within. tt)
-      (λ l e. cc) (λ s is _ l e. cc) link kept,
-  rw (sym kept, sym number) (append-nil (with_id n link)),
-)
+kept-link before n link kept number =
+    let are = open_link-cases Any (λ ls. (l : List ℕ) → l ∷ [] ≡ ls → is_link l ≡ true) before in
+    let is = are (λ k d within. tt) (λ l e. cc) (λ s is _ l e. cc) link kept in
+    (is, rw (sym kept, sym number) (append-nil (with_id n link)))

@@ -22,8 +22,7 @@ first-begins : (text fields : List ℕ) → signs text ≡ false
 first-begins [] fields none = refl
 first-begins (t ∷ text) [] none = refl
 first-begins (t ∷ text) (c ∷ fields) none =
-    let rest = first-begins text fields in
-    grind (arith, cases_Bool, nat_tests, parameters-cons c fields, rest)
+    grind (arith, cases_Bool, nat_tests, parameters-cons c fields, first-begins text fields)
 
 abbrev pub is_id : List ℕ → Bool
 is_id parameter = starts_with nat_eq parameter (codes "id=")

@@ -150,8 +150,7 @@ pub mix-differs : (m : Mask) (v p : Pen) (i : ℕ)
     → differs_at (mix m v p) i ≡ cond (m i) (differs_at v i) (differs_at p i)
 unfolding differs_at
 mix-differs m v p i =
-    let colors = pick-at (λ c. not (is_own c)) m i in
-    simp (pick-at (λ b. b) m i, pick-at (λ n. not (n == 0)) m i, colors, pick-or)
+    simp (pick-at (λ b. b) m i, pick-at (λ n. not (n == 0)) m i, (pick-at (λ c. not (is_own c)) m i), pick-or)
 
 -- ---- the laws
 

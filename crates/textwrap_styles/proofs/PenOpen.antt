@@ -33,9 +33,7 @@ run-changes (s ∷ ss) = changes-then (apply s) (λ p. pen_by p ss) (apply-chang
 -- once more, one makes the first time do nothing
 again : (s : List ℕ) (ss : List (List ℕ)) (p : Pen) → apply s (pen_by (apply s p) ss) ≡ apply s (pen_by p ss)
 again s ss p =
-    let one = apply-changes s in
-    let others = run-changes ss in
-    grind (arith, one.is, others.is, mix-again)
+    grind (arith, (apply-changes s).is, (run-changes ss).is, mix-again)
 
 -- ---- a later one takes back an earlier one
 
@@ -214,8 +212,7 @@ first-read t range more p =
 settings-pen : (n : ℕ) (t : List ℕ) → length t ≤ n → InRange t → (p : Pen) → apply t p ≡ pen_by p (settings t)
 settings-pen zero t short range p = search (rules, arith, pen_by, settings-one)
 settings-pen (suc n) t short range p =
-    let rest = settings-pen n in
-    search (rules, arith, rest, first-read, length-drop, drop-all, settings-next, settings-one)
+    search (rules, arith, settings-pen n, first-read, length-drop, drop-all, settings-next, settings-one)
 
 pub parameters-pen : (t : List ℕ) → InRange t → (p : Pen) → apply t p ≡ pen_by p (settings t)
 parameters-pen t = settings-pen (length t) t (omega arith)

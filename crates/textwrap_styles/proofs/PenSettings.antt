@@ -150,8 +150,7 @@ colon-end : (t : List ℕ) → InRange t → has_colon t ≡ true → (code t ==
     → is_end t ≡ (first_of (drop 1 (numbers_of (first_field t))) == 0)
 unfolding is_end
 colon-end t range colon four =
-    let rest = drop 1 (details t) in
-    let value = code-first rest (rest-range t range) in
+    let value = code-first (drop 1 (details t)) (rest-range t range) in
     grind (arith, cases_Bool, nat_tests, value, second-first t range colon)
 
 colon-other : (t : List ℕ) → has_colon t ≡ true → (code t == 4) ≡ false → is_end t ≡ false
@@ -189,9 +188,7 @@ module _ (t : List ℕ) (is : IsSetting t) (known : is_unknown (kind_of t) ≡ f
   plain-differs : has_colon t ≡ false → is_color_code (code t) ≡ false → is_end t ≡ false
       → differs_at (with_code (code t) plain_pen) (number (kind_of t)) ≡ true
   plain-differs none plain stays =
-      let all = (row (code t)).known in
-      let end = plain-end none in
-      grind (arith, cases_Bool, all, kind-code t known, end)
+      grind (arith, cases_Bool, (row (code t)).known, kind-code t known, plain-end none)
 
   plain-known : has_colon t ≡ false → is_color_code (code t) ≡ false → Known t
   unfolding with_field is_color_code

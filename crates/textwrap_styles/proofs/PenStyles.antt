@@ -36,17 +36,15 @@ both a b pens links =
 no-settings : (ss : List (List ℕ)) → All (λ s. is_style s ≡ false) ss → flat_map settings_of ss ≡ []
 no-settings [] none = refl
 no-settings (s ∷ ss) none =
-    let one = All-head (λ t. is_style t ≡ false) s ss none in
     let rest = no-settings ss (All-tail (λ t. is_style t ≡ false) s ss none) in
-    grind (arith, cases_Bool, one, rest)
+    grind (arith, cases_Bool, (All-head (λ t. is_style t ≡ false) s ss none), rest)
 
 links-stay : (ss : List (List ℕ)) (link : List ℕ) → All (λ s. is_link s ≡ false) ss
     → fold with_link link ss ≡ link
 links-stay [] link none = refl
 links-stay (s ∷ ss) link none =
-    let one = All-head (λ t. is_link t ≡ false) s ss none in
     let rest = links-stay ss link (All-tail (λ t. is_link t ≡ false) s ss none) in
-    grind (arith, cases_Bool, one, rest)
+    grind (arith, cases_Bool, (All-head (λ t. is_link t ≡ false) s ss none), rest)
 
 -- ---- what is open
 

@@ -23,11 +23,9 @@ text_units-append xs ys whole =
     ap units (chars-append xs ys whole.0) ∙ units-append (chars xs) (chars ys) whole.1
 
 pub whole_text-append : (xs ys : List ℕ) → IsWholeText xs → IsWholeText ys → IsWholeText (xs ++ ys)
-whole_text-append xs ys first second = (
-  IsUtf8-append xs ys first.0 second.0,
-  subst (All IsWhole) (sym (text_units-append xs ys first))
-      (All-append IsWhole (units (chars xs)) (units (chars ys)) first.1 second.1),
-)
+whole_text-append xs ys first second =
+    let all = All-append IsWhole (units (chars xs)) (units (chars ys)) first.1 second.1 in
+    (IsUtf8-append xs ys first.0 second.0, rw (text_units-append xs ys first) all)
 
 -- ---- a sequence of a text, as a text by itself, and such sequences in a row
 

@@ -47,8 +47,7 @@ pub style-is : (parameters : List ℕ) → is_style (codes "\u{1b}[" ++ (paramet
     ≡ list_all (is_in_range 0x30 0x3B) parameters
 style-is parameters =
     let whole = style_start ++ (parameters ++ codes "m") in
-    let ended = ends_with-true (codes "m") whole (style_start ++ parameters) refl in
-    grind (arith, style_parameters-is, ended)
+    grind (arith, style_parameters-is, ends_with-true (codes "m") whole (style_start ++ parameters) refl)
 
 -- ---- links
 
@@ -67,12 +66,8 @@ pub not_link : (rest : List ℕ) → ((before : List ℕ) → rest ≢ before ++
 not_link [] no_bell none = refl
 not_link (c ∷ []) no_bell none = grind (arith, ends_with-after link_start (c ∷ []) bell (omega arith) no_bell)
 not_link (c ∷ d ∷ rest) no_bell none =
-    let whole = c ∷ d ∷ rest in
-    grind (
-      arith,
-      ends_with-after link_start whole bell (omega arith) no_bell,
-      ends_with-after link_start whole terminator (omega arith) none,
-    )
+    let after = ends_with-after link_start (c ∷ d ∷ rest) in
+    grind (arith, after bell (omega arith) no_bell, after terminator (omega arith) none)
 
 -- these are the fields of a link's command, and a semicolon makes it a link
 pub record IsAround (sequence fields : List ℕ) : Type 0 where
@@ -142,27 +137,18 @@ module _ (text : List ℕ) where
   module _ (place : ℕ) (rest : List ℕ) (state : State) (h : IsReadTo text place rest state) where
     pub read_to-step : (end c : ℕ) (after : List ℕ) → state ≢ Text → rest ≡ encode_utf8 c ++ after
         → end ≡ place + length (encode_utf8 c) → IsReadTo text end after (next_of state c)
-    read_to-step end c after inside is past = record {
-      read = read-next h.read c after is end past;
-      tail = omega (
-        arith,
-        h.tail,
-        past,
-        ap (tail_in state) (read-ahead h.read c after is),
-        tail-step state c (chars after) inside,
-      );
-    }
+    read_to-step end c after inside is past =
+        let ahead = ap (tail_in state) (read-ahead h.read c after is) in
+        let step = tail-step state c (chars after) inside in
+        let tail : tail_len text ≡ end + tail_in (next_of state c) (chars after) =
+        omega (arith, h.tail, past, ahead, step) in
+        record { read = read-next h.read c after is end past; tail = tail }
 
     pub read_to-end : length rest ≡ 0 → length text ≡ tail_len text
     read_to-end none =
-        let nothing = take_all (taken_in state []) [] (omega arith) in
-        omega (
-          arith,
-          h.tail,
-          read-all h.read none,
-          ap (tail_in state) (read-none h.read none),
-          ap (λ cs. length (encode_utf8_all cs)) nothing,
-        )
+        let ahead = ap (tail_in state) (read-none h.read none) in
+        let nothing = ap (λ cs. length (encode_utf8_all cs)) (take_all (taken_in state []) [] (omega arith)) in
+        omega (arith, h.tail, read-all h.read none, ahead, nothing)
 
 -- ---- among characters
 

@@ -23,6 +23,5 @@ loop-byte-preserved c =
     let is = digit-at c.args.parameters.now c.digits_len.result c.loop-byte.byte-index
     c.digits_len.ensures c.loop-byte-test.true in
     let more = digits_value_more 10 bs c.loop-byte.byte-index c.loop-byte-test.true in
-    let product = c.saturating_mul.ensures in
     let sum = c.saturating_add-code.ensures in
-    grind (arith, cases_Bool, nat_tests, more, is, c.loop-byte.invariant, product, sum)
+    grind (arith, cases_Bool, nat_tests, more, is, c.loop-byte.invariant, c.saturating_mul.ensures, sum)

@@ -117,9 +117,6 @@ written-bytes (s ∷ ss) most short =
     let own : length (written s) ≡ length s + 3 = omega (arith, length-append s (codes "m")) in
     omega (arith, one, others, length-append (written s) (concat (map written ss)), own)
 
-unknown : (s : List ℕ) → is_unknown (kind_of s) ≡ not (known s)
-unknown s = grind (arith, cases_Bool)
-
 pub styles-short : (indent : List ℕ) (before : List (List ℕ)) (line : List ℕ) (most : ℕ)
     → All (λ s. length s ≤ most) before → length (line_bytes (carried_line indent before line))
     ≤ length line + (18 + length (unknown_settings before)) * most + 25 + length style_end
@@ -133,5 +130,5 @@ styles-short indent before line most short =
     (omega arith) (λ s is few. omega (arith, few, length-append s [])) in
     let styles = written-bytes now most (all-open (IsShort most) all (all-short before most short)) in
     let count : length now ≤ 17 + length (unknown_settings before) =
-    omega (arith, length-filter_both known (λ s. is_unknown (kind_of s)) unknown now, few-known before) in
+    omega (arith, length-filter_both known (λ s. is_unknown (kind_of s)) (λ s. grind (arith, cases_Bool)) now, few-known before) in
     omega (arith, line_len, len, reopened-len before, link, styles, mul-le-mul_left most count)

@@ -19,9 +19,8 @@ use Rattle.textwrap_text.proofs.Common.{true≢false}
 -- ---- the fields of a pen that are not plain
 
 -- a setting that the table knows, or that does nothing
-record Told (t : List ℕ) : Type 0 where
-  setting : IsSetting t
-  nothing : NothingIfUnknown t
+abbrev Told : List ℕ → Type 0
+Told t = IsSetting t × NothingIfUnknown t
 
 -- a kind sets its own field, and others only if it ends something
 sets-own : (k : ℕ) → sets k k ≡ true
@@ -32,17 +31,17 @@ module _ (t : List ℕ) (told : Told t) (p : Pen) (i : ℕ) where
   changed : differs_at (apply t p) i ≡ cond (not (is_unknown (kind_of t)) && sets (number (kind_of t)) i)
       (differs_at (apply t plain_pen) i) (differs_at p i)
   changed = elim (cases_Bool (is_unknown (kind_of t))) [
-    | inl unknown ↦ rw unknown (ap (λ q. differs_at q i) (told.nothing unknown p))
+    | inl unknown ↦ rw unknown (ap (λ q. differs_at q i) (told.1 unknown p))
     | inr known ↦
-        rw (known, (all-known t told.setting known).sets p)
+        rw (known, (all-known t told.0 known).sets p)
         (mix-differs (sets (number (kind_of t))) (apply t plain_pen) p i)
   ]
 
   -- it leaves the fields of other kinds plain
   plain-stays : eqb i (number (kind_of t)) ≡ false → differs_at p i ≡ false → differs_at (apply t p) i ≡ false
   plain-stays other plain =
-      let end = λ (known : is_unknown (kind_of t) ≡ false). (all-known t told.setting known).ends in
-      grind (arith, cases_Bool, changed, end, many-end t told.setting, nat_tests, plain-differs i)
+      let end = λ (known : is_unknown (kind_of t) ≡ false). (all-known t told.0 known).ends in
+      grind (arith, cases_Bool, changed, end, many-end t told.0, nat_tests, plain-differs i)
 
 -- so settings of other kinds do
 run-plain : (ss : List (List ℕ)) (p : Pen) (i : ℕ) → All Told ss
@@ -52,12 +51,9 @@ run-plain (t ∷ ss) p i told none plain =
     let rest = run-plain ss (apply t p) i (All-tail Told t ss told) in
     grind (arith, cases_Bool, rest, plain-stays t (All-head Told t ss told) p i)
 
--- ---- those that are open
-
 -- one of them: none of these takes back all
-record Open (t : List ℕ) : Type 0 where
-  told : Told t
-  sets : Sets t
+abbrev Open : List ℕ → Type 0
+Open t = Told t × Sets t
 
 abbrev setters_of : List (List ℕ) → List (List ℕ)
 setters_of ss = filter (λ s. not (is_end s)) (filter known ss)
@@ -75,22 +71,20 @@ run-stays s [] p known are none = refl
 run-stays s (t ∷ ss) p known are none =
     let own = All-head Open t ss are in
     let rest = run-stays s ss (apply t p) known (All-tail Open t ss are) in
-    grind (arith, cases_Bool, changed t own.told p (number (kind_of s)), apart t s own.sets known, rest)
+    grind (arith, cases_Bool, changed t own.0 p (number (kind_of s)), apart t s own.1 known, rest)
 
 -- the field of each differs
 each-differs : (ss : List (List ℕ)) (p : Pen) (i : ℕ) → All Open ss → AreLatest ss
     → is_member eqb (kinds (setters_of ss)) i ≡ true → differs_at (pen_by p ss) i ≡ true
 each-differs [] p i are latest is = absurd (true≢false (sym is))
 each-differs (s ∷ ss) p i are (none, latest) is =
-    let own = (All-head Open s ss are).told in
+    let own = (All-head Open s ss are).0 in
     let rest = All-tail Open s ss are in
     let kind = number (kind_of s) in
     let differs = λ (known : is_unknown (kind_of s) ≡ false) (stays : is_end s ≡ false).
     run-stays s ss (apply s p) known rest none ∙ (rw (known, sets-own) at (changed s own p kind))
-    ∙ (all-known s own.setting known).differs stays in
+    ∙ (all-known s own.0 known).differs stays in
     grind (arith, cases_Bool, nat_tests, each-differs ss (apply s p) i rest latest, differs, eqb-true)
-
--- ---- the laws
 
 all-set_something : (ss : List (List ℕ)) → filter (λ s. is_unknown (kind_of s)) (in_effect ss) ≡ []
     → setters_of (in_effect ss) ≡ in_effect ss
@@ -107,12 +101,8 @@ fewest before others nothing more same =
     let rest = flat_map settings_of others in
     let is = all-settings before in
     let are : All Open now =
-    λ k d within. record {
-      told = record { setting = (all-open IsSetting all is) k d within; nothing = nothing k d within };
-      sets = all-set all k d within;
-    } in
-    let told : All Told rest =
-    λ k d within. record { setting = all-settings others k d within; nothing = more k d within } in
+    λ k d within. ((all-open IsSetting all is k d within, nothing k d within), all-set all k d within) in
+    let told : All Told rest = λ k d within. (all-settings others k d within, more k d within) in
     let latest = open-latest all in
     let pens : pen_by plain_pen now ≡ pen_by plain_pen rest =
     open-pen all is ∙ sym (all-given before plain_rendition) ∙ sym same ∙ all-given others plain_rendition in

@@ -22,8 +22,6 @@ use Rattle.textwrap_text.proofs.{Texts.StartsWith-boundary, Units.Texts.units_un
 use Rattle.textwrap_text.specs.{LentText.as_len, Units.{command_len, ends, IsInUnits, IsWhole, Sequence}}
 use Rattle.textwrap_words.proofs.Word.Breaking.{units_past-skip}
 
--- ---- the id
-
 -- a character that ends neither parameters nor a command
 abbrev is_plain : ℕ → Bool
 is_plain c = is_in_range 0x30 0x7F c && not (c == 0x3B)
@@ -68,8 +66,6 @@ with-id : (P : List ℕ → Type 0) (n : ℕ) (s : List ℕ) → is_link s ≡ t
     → P (with_id n s)
 with-id P n s is own new =
     rw (with_id-is n s (drop 4 s) (link-rest s is)) (cond_both (names_id (drop 4 s)) s _ P own (λ _. new))
-
--- ---- the target
 
 after-plain : (xs fields : List ℕ) → ArePlain xs
     → after_first (λ c. c == 0x3B) (xs ++ fields) ≡ after_first (λ c. c == 0x3B) fields

@@ -61,8 +61,6 @@ after-more now next push before (s ∷ more) =
 abbrev pub not_replaced : List ℕ → List (List ℕ) → List (List ℕ)
 not_replaced t ss = filter (λ s. not (replaces t s)) ss
 
--- ---- the latest
-
 pub latest-push : (ss : List (List ℕ)) (t : List ℕ)
     → latest (ss ++ t ∷ []) ≡ not_replaced t (latest ss) ++ t ∷ []
 latest-push [] t = refl
@@ -76,8 +74,6 @@ none-latest test (s ∷ ss) none = grind (arith, cases_Bool, none-latest test ss
 latest-again : (ss : List (List ℕ)) → latest (latest ss) ≡ latest ss
 latest-again [] = refl
 latest-again (s ∷ ss) = grind (arith, cases_Bool, nat_tests, latest-again ss, none-latest)
-
--- ---- those in effect
 
 none-in_effect : (test : List ℕ → Bool) (ss : List (List ℕ)) → list_any test ss ≡ false
     → list_any test (in_effect ss) ≡ false

@@ -152,8 +152,6 @@ unfolding differs_at
 mix-differs m v p i =
     simp (pick-at (λ b. b) m i, pick-at (λ n. not (n == 0)) m i, (pick-at (λ c. not (is_own c)) m i), pick-or)
 
--- ---- the laws
-
 -- what the table does not know does nothing
 pub unknown-nothing : (c : ℕ) → is_unknown (kind_of_code c) ≡ true → (p : Pen) → with_code c p ≡ p
 unknown-nothing c is p = ap (λ b. cond b (with_code c p) p) (sym is) ∙ (row c).unknown p
@@ -188,8 +186,6 @@ either : {X : Type 0} (F : (Pen → X) → Type 0) (b : Bool) {act other : Pen �
     → F (λ p. cond b (act p) (other p))
 either F true one two = one
 either F false one two = two
-
--- ---- fields of parameters
 
 code-changes : (c : ℕ) → Changes (with_code c)
 code-changes c = record { fields = touches c; values = with_code c plain_pen; is = (row c).sets }

@@ -20,8 +20,6 @@ use Rattle.textwrap_text.proofs.Common.{true≢false}
 abbrev pub alone : Pen → Reading
 alone pen = record { pen = pen; color = [] }
 
--- ---- a colour behind semicolons
-
 -- the fields behind 38, 48 or 58 that make a colour: 5 and a number, or 2 and three
 abbrev pub IsColor : List (List ℕ) → Type 0
 IsColor fs =
@@ -124,8 +122,6 @@ far-unknown = refl
 kind-many : (c : ℕ) → is_many (number (kind_of_code c)) ≡ ((c == 0) || (c == 22) || (c == 23))
 unfolding kind_of_code number
 kind-many c = grind (arith, cases_Bool, nat_tests)
-
--- ---- the number behind a colon
 
 -- one more character of the first number does not change the later ones
 later-values : (c : ℕ) (texts : List (List ℕ))

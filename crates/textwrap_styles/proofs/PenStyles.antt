@@ -46,8 +46,6 @@ links-stay (s ∷ ss) link none =
     let rest = links-stay ss link (All-tail (λ t. is_link t ≡ false) s ss none) in
     grind (arith, cases_Bool, (All-head (λ t. is_link t ≡ false) s ss none), rest)
 
--- ---- what is open
-
 -- the styles give the pen that all sequences gave
 open-styles-pen : (before : List (List ℕ))
     → pen_by plain_pen (flat_map settings_of (open_styles before)) ≡ (rendition_of before).pen
@@ -78,8 +76,6 @@ styles-pen before =
     (links-apart (starts ++ open_styles before) plain_rendition
     ∙ fold-append with_link [] starts (open_styles before)
     ∙ links-stay (open_styles before) _ (styles-no_link before) ∙ reopened-link before ∙ open-link before)
-
--- ---- what ends them
 
 ends-plain : (now : Rendition) (plain unlinked : Bool) → (plain ≡ true → now.pen ≡ plain_pen)
     → (unlinked ≡ true → now.link ≡ [])

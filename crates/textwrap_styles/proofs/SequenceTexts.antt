@@ -59,8 +59,6 @@ units-sequences (Sequence cs ∷ us) utf8 whole =
 pub text-sequences : (text : List ℕ) → IsWholeText text → All IsSequence (sequences text)
 text-sequences text whole = search (rules, arith, units-sequences, units-tile, encodes-chars)
 
--- ---- sequences in a row
-
 abbrev pub sequence_units : List (List ℕ) → List TextUnit
 sequence_units xs = map (λ s. Sequence (chars s)) xs
 
@@ -123,8 +121,6 @@ one-sequence s false is = All-cons IsSequence s [] is (All-nil IsSequence)
 pub closing-sequences : (before : List (List ℕ)) → All IsSequence (closing_sequences before)
 closing-sequences before =
     search (rules, arith, All-append, one-sequence, style_end-is, link_end-is)
-
--- ---- what units show
 
 pub penned-append : (us vs : List TextUnit) (now : Rendition)
     → penned_units now (us ++ vs) ≡ penned_units now us

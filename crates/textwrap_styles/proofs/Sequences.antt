@@ -150,8 +150,6 @@ module _ (text : List ℕ) where
         let nothing = ap (λ cs. length (encode_utf8_all cs)) (take_all (taken_in state []) [] (omega arith)) in
         omega (arith, h.tail, read-all h.read none, ahead, nothing)
 
--- ---- among characters
-
 abbrev sequences_in : List ℕ → List (List ℕ)
 sequences_in cs = flat_map sequence_of (units cs)
 
@@ -167,8 +165,6 @@ sequences_in-escape : (cs : List ℕ) → sequences_in (27 ∷ cs)
 sequences_in-escape cs =
     ap (λ us. encode_utf8_all (27 ∷ take (escape_len cs) cs) ∷ flat_map sequence_of us)
     (units_past-skip (escape_len cs) cs)
-
--- ---- in a text
 
 pub no_sequences : (text : List ℕ) → IsUtf8 text → NoCharPasses (λ c. eqb c 27) text → sequences text ≡ []
 no_sequences text utf8 plain =

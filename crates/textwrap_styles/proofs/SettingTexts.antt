@@ -173,8 +173,6 @@ pub between-append : (a b : List ℕ) → between 0x3B (a ++ 0x3B ∷ b) ≡ bet
 between-append [] b = refl
 between-append (c ∷ a) b = search (rules, arith, between-append a b, between-some, first-append)
 
--- ---- how many there are
-
 pub fields-few : (n : ℕ) (t : List ℕ) → 1 ≤ n → fields n t ≡ t → length (between 0x3B t) ≤ n
 fields-few n [] some all = omega arith
 fields-few n (c ∷ cs) some all =

@@ -53,8 +53,6 @@ others-set : Give ((codes "3;20;6;7;8", record plain_pen { italic = true; gothic
 unfolding with_field with_code
 others-set = refl
 
--- ---- what the table leaves open
-
 -- an end is open behind what the table does not know, and this may end what it knows; of an
 -- attribute the last setting is open, and none that ended
 left-open : (open_settings (settings (codes "4:3;4:0:3;38:5:1;39;48:5:1;49;58:2:1:2:3;59;38;5;1;39"
@@ -67,13 +65,6 @@ left-open : (open_settings (settings (codes "4:3;4:0:3;38:5:1;39;48:5:1;49;58:2:
     × (has_target (codes "\u{1b}]8;;\u{1b}\\") ≡ false)
 unfolding first_setting taken_fields code details kind_of kind_of_code is_color_code is_unknown color_fields takes_back replaces is_end is_ending_code number
 left-open = (refl, refl, refl, refl, refl, refl, refl)
-
-bold-carried : carried_lines (codes "> ") (codes "> ") [] (codes "> a \u{1b}[1mb" ∷ codes "> c"
-    ∷ codes "> d\u{1b}[m" ∷ codes "> e" ∷ [])
-    ≡ Built (codes "> a \u{1b}[1mb\u{1b}[0m") ∷ Built (codes "> \u{1b}[1mc\u{1b}[0m")
-    ∷ Built (codes "> \u{1b}[1md\u{1b}[m") ∷ Slice (codes "> e") ∷ []
-unfolding chars encode first_setting taken_fields code details kind_of kind_of_code is_color_code is_unknown color_fields takes_back replaces is_end is_ending_code number
-bold-carried = refl
 
 -- the indent shows nothing of the styles; a link goes on as its address
 abbrev shown : ℕ → Rendition → PennedCharacter

@@ -35,8 +35,6 @@ pub all-settings : (before : List (List ℕ)) → All IsSetting (flat_map settin
 all-settings [] = All-nil IsSetting
 all-settings (s ∷ before) = search (rules, arith, All-append, sequence-settings, all-settings before)
 
--- ---- the styles that are open
-
 abbrev settings_at : List (List ℕ) → List (List ℕ)
 settings_at before = open_settings (flat_map settings_of before)
 

@@ -2,7 +2,7 @@
 use Rattle.std.{proofs.lemmas.List.Folds.{concat-append, flat_map-map}, specs.Cow.cow_str_bytes}
 use Rattle.std.specs.declared.borrow.CowStr.{CowStr}
 use Rattle.textwrap_layout.proofs.Text.Lines.{line_bytes-line_view}
-use Rattle.textwrap_layout.specs.Paragraph.{Built, Line, line_bytes, line_view, Slice}
+use Rattle.textwrap_layout.specs.Paragraph.{Line, line_bytes, line_view, Slice}
 use Rattle.textwrap_styles.proofs.Common.{carried_lines, chars, closing, concat, fold-append, IsWhole}
 use Rattle.textwrap_styles.proofs.Common.{link_end, open_styles, penned_lines, penned_text, plain_rendition}
 use Rattle.textwrap_styles.proofs.Common.{Rendition, rendition_of, sequence_of, sequences, style_end}
@@ -14,10 +14,10 @@ use Rattle.textwrap_styles.proofs.SequenceTexts.{penned-append, text-sequences, 
 use Rattle.textwrap_styles.specs.{Indents.{after_indent, before_text, indent_end}, Penned.penned_units}
 use Rattle.textwrap_styles.specs.Styled.{EachWithIndent, EndsPlain, IsWholeText, MayCarry}
 use Rattle.textwrap_styles.specs.Styles.{carried_line, opening, reopened_link, texts_of}
-use Rattle.textwrap_text.proofs.Common.{◌+◌, ◌++◌, ◌<◌, ◌==◌, [], All, All-append, All-cons, All-head}
+use Rattle.textwrap_text.proofs.Common.{◌+◌, ◌++◌, ◌<◌, [], All, All-append, All-cons, All-head}
 use Rattle.textwrap_text.proofs.Common.{All-nil, All-tail, All-weaker, ap, append-nil, append_assoc, arith}
-use Rattle.textwrap_text.proofs.Common.{cases_Bool, chars-nil, cond, drop, drop_at, drop_more, flat_map, fold}
-use Rattle.textwrap_text.proofs.Common.{get_or, inl, inr, IsUtf8, IsUtf8-drop, length, length-append, List}
+use Rattle.textwrap_text.proofs.Common.{cases_Bool, chars-nil, drop, drop_at, drop_more, flat_map, fold}
+use Rattle.textwrap_text.proofs.Common.{get_or, inl, inr, IsUtf8-drop, length, length-append, List}
 use Rattle.textwrap_text.proofs.Common.{map, map-append, nat_eq, nat_tests, nil_from_length, refl, rules}
 use Rattle.textwrap_text.proofs.Common.{starts_with, subst, sym, take, take-append-drop, take_at, text_width}
 use Rattle.textwrap_text.proofs.{Common.{units, ℕ, ◌∙◌, ◌∷◌, ◌≡◌, ◌≤◌}, Texts.StartsWith-boundary}

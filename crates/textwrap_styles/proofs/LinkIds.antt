@@ -9,7 +9,7 @@ use Rattle.textwrap_styles.proofs.Sequences.{around-bell, around-terminator, bel
 use Rattle.textwrap_styles.proofs.Sequences.{link_start, not_link, open_link-cases, terminator}
 use Rattle.textwrap_styles.specs.Penned.{with_link}
 use Rattle.textwrap_styles.specs.Styles.{id_before, link_target, names_id, reopened_link, with_id}
-use Rattle.textwrap_text.proofs.Common.{◌&&◌, ◌+◌, ◌++◌, ◌-◌, ◌<◌, ◌==◌, [], ◌^◌, All, All-cons, All-head}
+use Rattle.textwrap_text.proofs.Common.{◌&&◌, ◌+◌, ◌++◌, ◌-◌, ◌<◌, ◌==◌, [], ◌^◌, All, All-cons}
 use Rattle.textwrap_text.proofs.Common.{All-nil, All-weaker, ap, append-nil, append_assoc, arith, Bool}
 use Rattle.textwrap_text.proofs.Common.{cases_Bool, chars-append, chars-IsAscii, codes, cond, cond_both, drop}
 use Rattle.textwrap_text.proofs.Common.{drop_at, ends_with, escape, escape_len, false, filter, filter-append}

@@ -6,7 +6,7 @@ use Rattle.textwrap_styles.specs.Pen.{with_field, with_parts}
 use Rattle.textwrap_styles.specs.Settings.{is_color_code, is_ending_code, is_unknown, kind_of_code, number}
 use Rattle.textwrap_text.proofs.Common.{◌&&◌, ◌+◌, ◌++◌, ◌<◌, ◌==◌, [], ap, arith, Bool, cases_Bool, cases_lt}
 use Rattle.textwrap_text.proofs.Common.{cond, drop, eqb-true, false, fold, inl, inr, length, List, map}
-use Rattle.textwrap_text.proofs.Common.{nat_tests, not, refl, subst, suc, sym, true, true≢false, zero, ◌||◌}
+use Rattle.textwrap_text.proofs.Common.{nat_tests, not, refl, subst, suc, sym, true, zero, ◌||◌}
 use Rattle.textwrap_text.proofs.Common.{ℕ, ◌∙◌, ◌∷◌, ◌≡◌, ◌≢◌, ◌≤◌, ⊤}
 
 -- ---- a pen that takes some of its fields from one pen and the others from another

@@ -1,17 +1,15 @@
 -- The fields of parameters, as the table of the settings and as a pen read them, and settings, each
 -- of which is its own first one.
 use Rattle.std.proofs.lemmas.List.Sums.{AllPass-from_list_all, list_all-from_AllPass, take_while-cons}
-use Rattle.std.specs.Prelude.{nat_le}
 use Rattle.textwrap_styles.proofs.Common.{between, digits_value, fields, first_of, is_ascii_digit}
 use Rattle.textwrap_styles.{proofs.Common.{is_in_range, numbers_of, settings}, specs.Pen.with_first}
 use Rattle.textwrap_styles.specs.Settings.{code, color_fields, details, first_setting, settings_past}
 use Rattle.textwrap_styles.specs.Settings.{taken_fields}
 use Rattle.textwrap_text.proofs.Common.{[], ℕ, ◌++◌, ◌+◌, ◌-◌, ◌<◌, ◌==◌, ◌∙◌, ◌∷◌, ◌≡◌, ◌≢◌, ◌≤◌, All}
-use Rattle.textwrap_text.proofs.Common.{All-cons, All-drop, All-nil, All-take, and_parts, ap, arith, Bool}
-use Rattle.textwrap_text.proofs.Common.{cases_Bool, codes, cond, cond_both, drop, drop_all, drop_more, false}
-use Rattle.textwrap_text.proofs.Common.{length, length-take, List, list_all, map, min, nat_eq, nat_tests, not}
-use Rattle.textwrap_text.proofs.Common.{refl, rules, starts_with, subst, suc, sym, take, take_all, take_while}
-use Rattle.textwrap_text.proofs.Common.{true, zero}
+use Rattle.textwrap_text.proofs.Common.{All-cons, All-drop, All-nil, All-take, ap, arith, Bool, cases_Bool}
+use Rattle.textwrap_text.proofs.Common.{codes, cond, drop, drop_all, drop_more, false, length, length-take}
+use Rattle.textwrap_text.proofs.Common.{List, list_all, map, min, nat_eq, nat_tests, not, refl, rules}
+use Rattle.textwrap_text.proofs.Common.{starts_with, subst, suc, sym, take, take_all, take_while, true, zero}
 
 -- ---- the first fields of parameters
 

@@ -2,12 +2,10 @@
 -- visible characters of a text are written with. In a text `\u{1b}` is ESC.
 use lib.Utf8.{encode}
 use Rattle.std.specs.Str.{chars}
-use Rattle.textwrap_layout.specs.Paragraph.{Built, Slice}
-use Rattle.textwrap_styles.proofs.Common.{apply, carried_lines, has_target, is_link, is_style, open_settings}
-use Rattle.textwrap_styles.proofs.Common.{open_styles, Pen, penned_lines, plain_pen, plain_rendition, Rendition}
-use Rattle.textwrap_styles.specs.Penned.{PennedCharacter}
-use Rattle.textwrap_styles.{proofs.Common.settings, specs.Pen.{color_of, Direct, Indexed, is_whole_color}}
-use Rattle.textwrap_styles.specs.{Pen.{Other, with_code, with_color, with_field, with_parts}, Settings.code}
+use Rattle.textwrap_styles.proofs.Common.{apply, has_target, is_link, is_style, open_settings, open_styles}
+use Rattle.textwrap_styles.proofs.Common.{Pen, penned_lines, plain_pen, plain_rendition, Rendition, settings}
+use Rattle.textwrap_styles.specs.Pen.{color_of, Direct, Indexed, is_whole_color, Other, with_code, with_color}
+use Rattle.textwrap_styles.specs.{Pen.{with_field, with_parts}, Penned.PennedCharacter, Settings.code}
 use Rattle.textwrap_styles.specs.Settings.{color_fields, details, first_setting, is_color_code, is_end}
 use Rattle.textwrap_styles.specs.Settings.{is_ending_code, is_unknown, kind_of, kind_of_code, number}
 use Rattle.textwrap_styles.specs.Settings.{replaces, taken_fields, takes_back}

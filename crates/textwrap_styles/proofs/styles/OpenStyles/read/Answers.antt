@@ -1,10 +1,10 @@
 use Rattle.textwrap_styles.proofs.styles.OpenStyles.read.Goals as goal
 use Rattle.textwrap_layout.proofs.Text.Sinks.{on_ok_both}
-use Rattle.textwrap_styles.proofs.Common.{in_effect, is_link, IsKeptAfter, latest, open_link, open_settings}
-use Rattle.textwrap_styles.proofs.{Common.{sequences, settings_of}, OpenSettings.{effect-again, resets}}
+use Rattle.textwrap_styles.proofs.Common.{is_link, IsKeptAfter, open_link, open_settings}
+use Rattle.textwrap_styles.proofs.{Common.{sequences, settings_of}, OpenSettings.{effect-again}}
 use Rattle.textwrap_styles.specs.{OpenStyles.IsReadTo, declared.styles.OpenStyles.OpenStyles}
-use Rattle.textwrap_text.proofs.Common.{◌++◌, [], after_last, ap, append-nil, append_assoc, arith, filter, flat_map}
-use Rattle.textwrap_text.proofs.Common.{length, List, refl, rules, subst, sym, ℕ, ◌∙◌, ◌∷◌, ◌≡◌}
+use Rattle.textwrap_text.proofs.Common.{◌++◌, [], ap, append-nil, append_assoc, arith, filter, flat_map}
+use Rattle.textwrap_text.proofs.Common.{length, List, refl, rules, sym, ℕ, ◌∙◌, ◌∷◌, ◌≡◌}
 use Rattle.textwrap_text.specs.LentText.{as_len}
 
 -- what is kept where a line begins is read up to there

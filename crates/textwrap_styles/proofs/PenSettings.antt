@@ -35,10 +35,9 @@ behind p c (m ∷ r ∷ g ∷ b ∷ []) (inr (is, len)) = grind (arith, cases_Bo
 behind p c _ (inl (is, len)) = absurd (omega arith)
 behind p c _ (inr (is, len)) = absurd (omega arith)
 
--- one of the numbers that a colour follows, or an underline's
-pub among : (P : ℕ → Type 0) (c : ℕ) → is_color_code c ≡ true → P 38 → P 48 → P 58 → P c
-unfolding is_color_code
-among P c is a b d = grind (arith, cases_Bool, nat_tests, eqb-true)
+color-stays : (c : ℕ) → is_color_code c ≡ true → is_ending_code c ≡ false
+unfolding is_color_code is_ending_code
+color-stays c is = grind (arith, cases_Bool, nat_tests)
 
 -- each of them sets its own field
 pub color-sets : (c : ℕ) (color : Color) → is_color_code c ≡ true → (p : Pen)
@@ -270,7 +269,7 @@ module _ (t : List ℕ) (is : IsSetting t) (known : is_unknown (kind_of t) ≡ f
       let all = between-rest t is.range none (omega arith) in
       let len : length (between 0x3B t) ≡ length (between 0x3B rest) + 1 = ap length all ∙ omega arith in
       color-by (map (λ f. first_of (numbers_of f)) (between 0x3B rest)) color
-      (plain-end none ∙ among (λ c. is_ending_code c ≡ false) (code t) color refl refl refl)
+      (plain-end none ∙ color-stays (code t) color)
       (λ p. ap (λ fs. fold with_field (alone p) (map numbers_of fs)) all
       ∙ ap (λ r. fold with_field r (map numbers_of (between 0x3B rest))) (color-first none color p)
       ∙ behind p (code t) (between 0x3B rest) (makes (omega arith)))

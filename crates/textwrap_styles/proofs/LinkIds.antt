@@ -1,9 +1,10 @@
 -- A link that is set anew with an id: it is a link to the same target, and one sequence.
+use lib.Utf8.{encode}
 use Rattle.std.proofs.lemmas.{Fmt.{decimal_is_IsNumeral, length-decimal-le}, List.Elements.All-from_get_or}
 use Rattle.std.proofs.lemmas.{List.Folds.{list_all-append, list_any-append}, Str.Ascii.IsAscii-from_all}
 use Rattle.std.proofs.lemmas.{List.Sums.{AllPass-from_list_all, list_all-from_AllPass}, Str.Parse.digit_at}
-use Rattle.std.specs.{Fmt.decimal, List.{after_first, concat}, Str.IsAscii}
-use Rattle.textwrap_styles.proofs.Common.{chars, is_in_range, is_link, is_style, open_link}
+use Rattle.std.specs.{Fmt.decimal, List.{after_first, concat}, Str.{chars, IsAscii}}
+use Rattle.textwrap_styles.proofs.Common.{is_in_range, is_link, is_style, open_link}
 use Rattle.textwrap_styles.proofs.{LinkParameters.id-begins, SequenceTexts.{IsSequence, unit-sequence}}
 use Rattle.textwrap_styles.proofs.Sequences.{around-bell, around-terminator, bell, IsAround, link-no_style}
 use Rattle.textwrap_styles.proofs.Sequences.{link_start, not_link, open_link-cases, terminator}
@@ -137,16 +138,13 @@ ends-whole body ends =
     ∙ ap units (drop_at body (65 ∷ []) (length body) refl) in
     ((apart body).1 (sym (rw (ends, take_at body (65 ∷ []) (length body) refl, rest) refl))).1.0
 
-link_start-ascii : IsAscii link_start
-link_start-ascii = IsAscii-from_all link_start (search (rules, arith))
-
 link_start-utf8 : IsUtf8 link_start
-link_start-utf8 = IsUtf8-from_ascii link_start link_start-ascii
+unfolding encode
+link_start-utf8 = (link_start, (refl, refl))
 
 link_start-chars : (rest : List ℕ) → chars (link_start ++ rest) ≡ link_start ++ chars rest
-link_start-chars rest =
-    chars-append link_start rest link_start-utf8
-    ∙ ap (λ l. l ++ chars rest) (chars-IsAscii link_start link_start-ascii)
+unfolding encode chars
+link_start-chars rest = chars-append link_start rest link_start-utf8
 
 id-sequence : (n : ℕ) (s : List ℕ) → n < 2 ^ 64 → is_link s ≡ true → IsSequence s → IsSequence (with_id n s)
 id-sequence n s fits is own =

@@ -32,8 +32,7 @@ run-changes (s ∷ ss) = changes-then (apply s) (λ p. pen_by p ss) (apply-chang
 
 -- once more, one makes the first time do nothing
 again : (s : List ℕ) (ss : List (List ℕ)) (p : Pen) → apply s (pen_by (apply s p) ss) ≡ apply s (pen_by p ss)
-again s ss p =
-    grind (arith, (apply-changes s).is, (run-changes ss).is, mix-again)
+again s ss p = grind (arith, (apply-changes s).is, (run-changes ss).is, mix-again)
 
 -- ---- a later one takes back an earlier one
 

@@ -119,8 +119,7 @@ one-sequence s true is = All-nil IsSequence
 one-sequence s false is = All-cons IsSequence s [] is (All-nil IsSequence)
 
 pub closing-sequences : (before : List (List ℕ)) → All IsSequence (closing_sequences before)
-closing-sequences before =
-    search (rules, arith, All-append, one-sequence, style_end-is, link_end-is)
+closing-sequences before = search (rules, arith, All-append, one-sequence, style_end-is, link_end-is)
 
 pub penned-append : (us vs : List TextUnit) (now : Rendition)
     → penned_units now (us ++ vs) ≡ penned_units now us
@@ -150,8 +149,7 @@ module _ (front text : List ℕ) (starts ends : List (List ℕ)) (front_whole : 
 
   pub parts-visible : visible (chars (front ++ concat starts ++ text ++ concat ends))
       ≡ visible (chars (front ++ text))
-  parts-visible =
-      search (rules, arith, parts-units, none-visible, flat_map-append, text_units-append)
+  parts-visible = search (rules, arith, parts-units, none-visible, flat_map-append, text_units-append)
 
   -- where what sets anew what is open gives this
   pub parts-penned : (now : Rendition) → rendition_of (sequences front ++ starts) ≡ now

@@ -138,17 +138,15 @@ module _ (text : List ℕ) where
     pub read_to-step : (end c : ℕ) (after : List ℕ) → state ≢ Text → rest ≡ encode_utf8 c ++ after
         → end ≡ place + length (encode_utf8 c) → IsReadTo text end after (next_of state c)
     read_to-step end c after inside is past =
-        let ahead = ap (tail_in state) (read-ahead h.read c after is) in
         let step = tail-step state c (chars after) inside in
         let tail : tail_len text ≡ end + tail_in (next_of state c) (chars after) =
-        omega (arith, h.tail, past, ahead, step) in
+        omega (arith, h.tail, past, ap (tail_in state) (read-ahead h.read c after is), step) in
         record { read = read-next h.read c after is end past; tail = tail }
 
     pub read_to-end : length rest ≡ 0 → length text ≡ tail_len text
     read_to-end none =
-        let ahead = ap (tail_in state) (read-none h.read none) in
         let nothing = ap (λ cs. length (encode_utf8_all cs)) (take_all (taken_in state []) [] (omega arith)) in
-        omega (arith, h.tail, read-all h.read none, ahead, nothing)
+        omega (arith, h.tail, read-all h.read none, ap (tail_in state) (read-none h.read none), nothing)
 
 abbrev sequences_in : List ℕ → List (List ℕ)
 sequences_in cs = flat_map sequence_of (units cs)

@@ -94,7 +94,7 @@ module _ (indent : List ℕ) (before : List (List ℕ)) (line : List ℕ) (are :
   carried-plain =
       let closed = closing-sequences (before ++ sequences text) in
       let all = parts-sequences front text starts ends may.front may.text all-starts closed in
-      grind (arith, carried-bytes indent before line, all, fold-append, begun, ended (before ++ sequences text))
+      grind (arith, carried-bytes, all, fold-append, begun, ended (before ++ sequences text))
 
   pub carried-wide : text_width (line_bytes (carried_line indent before line)) ≡ text_width line
   carried-wide =

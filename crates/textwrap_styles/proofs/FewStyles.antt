@@ -130,5 +130,6 @@ styles-short indent before line most short =
     (omega arith) (λ s is few. omega (arith, few, length-append s [])) in
     let styles = written-bytes now most (all-open (IsShort most) all (all-short before most short)) in
     let count : length now ≤ 17 + length (unknown_settings before) =
-    omega (arith, length-filter_both known (λ s. is_unknown (kind_of s)) (λ s. grind (arith, cases_Bool)) now, few-known before) in
+    let parts = length-filter_both known (λ s. is_unknown (kind_of s)) (λ s. grind (arith, cases_Bool)) now in
+    omega (arith, parts, few-known before) in
     omega (arith, line_len, len, reopened-len before, link, styles, mul-le-mul_left most count)

@@ -81,8 +81,8 @@ link-shape s is =
     elim (cases_Bool (ends_with nat_eq rest bell)) [
       | inl rings ↦ (take (length rest - 1) rest, bell, around-bell, ends_with-front bell rest rings)
       | inr silent ↦ elim (cases_Bool (ends_with nat_eq rest terminator)) [
-        | inl ended ↦
-            (take (length rest - 2) rest, terminator, around-terminator, ends_with-front terminator rest ended)
+        | inl ends ↦
+            (take (length rest - 2) rest, terminator, around-terminator, ends_with-front terminator rest ends)
         | inr lacks ↦ absurd (true≢false (sym is ∙ ap is_link (link-rest s is) ∙ not_link rest
             (λ before same. true≢false (sym (ends_with-true bell rest before same) ∙ silent))
             (λ before same. true≢false (sym (ends_with-true terminator rest before same) ∙ lacks))))
@@ -212,7 +212,8 @@ reopened-len before =
     open_link-cases Any (λ ls. length (concat (map (with_id n) ls)) ≤ length (concat ls) + 25)
     before (λ k d within. tt) (omega arith) (λ s is _.
     with-id (λ l. length (l ++ []) ≤ length (s ++ []) + 25) n s is (λ has. omega arith)
-    (simp length-append (omega (arith, simp length-append at (id-len n (drop 4 s) (omega arith)), ap length (link-rest s is)))))
+    (let few = simp length-append at (id-len n (drop 4 s) (omega arith)) in
+    simp length-append (omega (arith, few, ap length (link-rest s is)))))
 
 pub ids-named : (before : List (List ℕ)) → All (λ s. names_id (drop 4 s) ≡ true) (reopened_link before)
 ids-named before =
@@ -221,7 +222,7 @@ ids-named before =
 
 pub ids-kept : (before more : List (List ℕ)) → filter is_link more ≡ []
     → reopened_link (before ++ more) ≡ reopened_link before
-ids-kept before more none = grind (arith, filter-append is_link before more, none, append-nil (filter is_link before))
+ids-kept before more none = grind (arith, filter-append, none, append-nil)
 
 -- the link that is kept is a link, and this sets it anew
 pub kept-link : (before : List (List ℕ)) (n : ℕ) (link : List ℕ) → link ∷ [] ≡ open_link before

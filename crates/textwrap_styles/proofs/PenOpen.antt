@@ -2,21 +2,22 @@
 -- open give the pen that all of them gave.
 use Rattle.std.proofs.lemmas.{List.Folds.list_any_at, Slice.Eq.bytes_eq-Decides}
 use Rattle.textwrap_styles.proofs.Common.{apply, fields, fold-append, in_effect, Kind, latest, open_settings}
-use Rattle.textwrap_styles.proofs.{Common.{Pen, plain_pen, Reset, settings}, OpenSettings.unknown-number}
-use Rattle.textwrap_styles.proofs.OpenSettings.{all-latest, all-since, known-below, latest-in_effect}
-use Rattle.textwrap_styles.proofs.OpenSettings.{left-after, next_left, none-latest, resets, Sets}
-use Rattle.textwrap_styles.proofs.PenCodes.{apply-changes, Changes, changes-then, mix, mix-again, mix-swap}
-use Rattle.textwrap_styles.{proofs.PenCodes.{is_many, is_shared, mix-within, nothing, sets}, specs.Pen.read}
-use Rattle.textwrap_styles.proofs.PenSettings.{all-known, kind-code, many-end}
-use Rattle.textwrap_styles.proofs.SettingTexts.{between-append, first-again, first-all, drop-all, fields-split, InRange}
+use Rattle.textwrap_styles.proofs.{Common.{Pen, plain_pen, Reset, settings}, OpenSettings.all-latest}
+use Rattle.textwrap_styles.proofs.OpenSettings.{all-since, known-below, latest-in_effect, left-after}
+use Rattle.textwrap_styles.proofs.OpenSettings.{next_left, none-latest, resets, Sets, unknown-number}
+use Rattle.textwrap_styles.proofs.PenCodes.{apply-changes, Changes, changes-then, is_many, is_shared, mix}
+use Rattle.textwrap_styles.proofs.PenCodes.{mix-again, mix-swap, mix-within, nothing, sets}
+use Rattle.textwrap_styles.proofs.{PenSettings.{all-known, kind-code, many-end}, SettingTexts.between-append}
+use Rattle.textwrap_styles.proofs.SettingTexts.{drop-all, fields-split, first-again, first-all, InRange}
 use Rattle.textwrap_styles.proofs.SettingTexts.{IsSetting, settings-next, settings-one, taken-again}
-use Rattle.textwrap_styles.specs.Settings.{first_setting, is_color_code, is_end, is_ending_code, is_unknown}
-use Rattle.textwrap_styles.specs.Settings.{kind_of, kind_of_code, number, replaces, taken_fields, takes_back}
-use Rattle.textwrap_text.proofs.Common.{◌&&◌, ◌+◌, ◌++◌, ◌<◌, ◌==◌, [], after_last, All, All-drop, All-head}
-use Rattle.textwrap_text.proofs.Common.{All-tail, ap, arith, cases_Bool, cond_both, drop, eqb-true, false}
-use Rattle.textwrap_text.proofs.Common.{fold, get_or, inl, inr, length, length-drop, List, list_any, map-append}
-use Rattle.textwrap_text.proofs.Common.{nat_tests, refl, rules, subst, suc, sym, true, true≢false, zero, ◌||◌}
-use Rattle.textwrap_text.proofs.Common.{ℕ, ◌∙◌, ◌∷◌, ◌≡◌, ◌≤◌, ⊤}
+use Rattle.textwrap_styles.specs.{Pen.read, Settings.{first_setting, is_color_code, is_end, is_ending_code}}
+use Rattle.textwrap_styles.specs.Settings.{is_unknown, kind_of, kind_of_code, number, replaces, taken_fields}
+use Rattle.textwrap_styles.specs.Settings.{takes_back}
+use Rattle.textwrap_text.proofs.Common.{[], ℕ, ⊤, ◌&&◌, ◌++◌, ◌+◌, ◌<◌, ◌==◌, ◌||◌, ◌∙◌, ◌∷◌, ◌≡◌, ◌≤◌}
+use Rattle.textwrap_text.proofs.Common.{after_last, All, All-drop, All-head, All-tail, ap, arith, cases_Bool}
+use Rattle.textwrap_text.proofs.Common.{cond_both, drop, eqb-true, false, fold, get_or, inl, inr, length}
+use Rattle.textwrap_text.proofs.Common.{length-drop, List, list_any, map-append, nat_tests, refl, rules}
+use Rattle.textwrap_text.proofs.Common.{subst, suc, sym, true, true≢false, zero}
 
 -- ---- settings one after another, of which each sets its own fields
 
@@ -205,7 +206,8 @@ first-read : (t : List ℕ) → InRange t → length (first_setting t) < length 
     → read t p ≡ read (drop (length (first_setting t) + 1) t) (apply (first_setting t) p)
 first-read t range more p =
     let is : IsSetting (first_setting t) = search (rules, first-again, first-all) in
-    let known = all-known (first_setting t) is (grind (arith, nat_tests, first-fields t more, taken-known, taken-again)) in
+    let known = all-known (first_setting t) is
+    (grind (arith, nat_tests, first-fields t more, taken-known, taken-again)) in
     grind (arith, first-split t more, between-append, map-append, fold-append, known.settled)
 
 settings-pen : (n : ℕ) (t : List ℕ) → length t ≤ n → InRange t → (p : Pen) → apply t p ≡ pen_by p (settings t)

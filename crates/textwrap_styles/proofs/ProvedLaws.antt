@@ -4,6 +4,6 @@ use Rattle.textwrap_styles.proofs.{FewStyles.{few-known, styles-short}, FewestSe
 use Rattle.textwrap_styles.proofs.{LinkIds.{ids-kept, ids-named}, PenCodes.{other-something, unknown-nothing}}
 use Rattle.textwrap_styles.proofs.{PenStyles.styles-pen, WrittenSettings.styles-anew}
 
-pub ruleset lines = (all-may_carry, bare-carried, carried, ids-kept, ids-named, plain-stay, styles-anew, styles-short)
+pub ruleset few = (all-may_carry, bare-carried, carried, few-known, fewest, ids-kept, ids-named, styles-short)
 
-pub ruleset laws = (few-known, fewest, lines, open-setters, other-something, styles-pen, unknown-nothing)
+pub ruleset laws = (few, open-setters, other-something, plain-stay, styles-anew, styles-pen, unknown-nothing)

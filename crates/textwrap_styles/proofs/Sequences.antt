@@ -145,8 +145,8 @@ module _ (text : List ℕ) where
 
     pub read_to-end : length rest ≡ 0 → length text ≡ tail_len text
     read_to-end none =
-        let nothing = ap (λ cs. length (encode_utf8_all cs)) (take_all (taken_in state []) [] (omega arith)) in
-        omega (arith, h.tail, read-all h.read none, ap (tail_in state) (read-none h.read none), nothing)
+        let empty = ap (λ cs. length (encode_utf8_all cs)) (take_all (taken_in state []) [] (omega arith)) in
+        omega (arith, h.tail, read-all h.read none, ap (tail_in state) (read-none h.read none), empty)
 
 abbrev sequences_in : List ℕ → List (List ℕ)
 sequences_in cs = flat_map sequence_of (units cs)

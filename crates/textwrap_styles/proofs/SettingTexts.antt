@@ -30,7 +30,8 @@ fields-digits : (n : ℕ) (t : List ℕ) → take_while is_ascii_digit (fields n
 fields-digits n [] = refl
 fields-digits n (c ∷ cs) =
     let cons = take_while-cons is_ascii_digit c in
-    grind (arith, cases_Bool, semicolon-no_digit c, cons cs, cons (fields n cs), cons (fields (n - 1) cs), fields-digits n cs)
+    let rest = fields-digits n cs in
+    grind (arith, cases_Bool, semicolon-no_digit, cons cs, cons (fields n cs), cons (fields (n - 1) cs), rest)
 
 fields-code : (n : ℕ) (t : List ℕ) → code (fields n t) ≡ code t
 unfolding code
@@ -218,7 +219,8 @@ digits-first : (t : List ℕ) → InRange t
 digits-first [] all = refl
 digits-first (c ∷ cs) all =
     let cons = take_while-cons is_ascii_digit c cs in
-    grind (arith, cases_Bool, nat_tests, cons, text-cons 0x3B c cs, text-cons 0x3A c (first_field cs), digits-first cs)
+    let rest = digits-first cs in
+    grind (arith, cases_Bool, nat_tests, cons, text-cons 0x3B c cs, text-cons 0x3A c (first_field cs), rest)
 
 pub first-value : (texts : List (List ℕ))
     → first_of (map (digits_value 10) texts) ≡ digits_value 10 (first_text texts)

@@ -36,7 +36,7 @@ ended = (refl, refl)
 -- follows. 90 to 107 are the eight colours behind the first
 colors : Give ((codes "38;5;196;1", record plain_pen { foreground = Indexed 196; bold = true })
     ∷ (codes "48;2;1;2;3;7", record plain_pen { background = Direct 1 2 3; inverse = true })
-    ∷ (codes "38:2::1:2:3;58:5:7", record plain_pen { foreground = Direct 1 2 3; underline_color = Indexed 7 })
+    ∷ (codes "38:2::1:2:3;58:5:7", record plain_pen { underline_color = Indexed 7; foreground = Direct 1 2 3 })
     ∷ (codes "48:2:4:5:6", record plain_pen { background = Direct 4 5 6 })
     ∷ (codes "38:3:1:2:3", record plain_pen { foreground = Other (3 ∷ 1 ∷ 2 ∷ 3 ∷ []) })
     ∷ (codes "1;38;2;31", record plain_pen { bold = true })
@@ -45,8 +45,9 @@ unfolding with_field with_code with_parts is_whole_color with_color color_of
 colors = refl
 
 -- the others, each set and ended
-others-set : Give ((codes "3;20;6;7;8", record plain_pen { italic = true; gothic = true; blink = 2; inverse = true; hidden = true })
-    ∷ (codes "9;12;52;53;2", record plain_pen { crossed_out = true; font = 2; framed = 2; overlined = true; faint = true })
+others-set : Give ((codes "3;20;6", record plain_pen { italic = true; gothic = true; blink = 2 })
+    ∷ (codes "8;9;12;52", record plain_pen { hidden = true; crossed_out = true; font = 2; framed = 2 })
+    ∷ (codes "7;53;2", record plain_pen { inverse = true; overlined = true; faint = true })
     ∷ (codes "3;20;6;7;8;9;12;52;53;2;23;25;27;28;29;10;54;55;22", plain_pen) ∷ [])
 unfolding with_field with_code
 others-set = refl

@@ -17,5 +17,6 @@ loop-at-preserved c =
 
 pub returns : goal.returns
 returns c =
-    let none = at_drop_all (prefix_len is_ascii_digit) c.args.parameters.now c.loop-at.at c.loop-at-test.false in
+    let bytes = c.args.parameters.now in
+    let none = at_drop_all (prefix_len is_ascii_digit) bytes c.loop-at.at c.loop-at-test.false in
     omega (arith, none, c.loop-at.invariant)

@@ -16,7 +16,7 @@ returns-then-is_unknown-clause-added g c = λ later are.
     let s = c.args.setting.now in
     let unknown = sym (rw c.kind_of-kind.ensures at c.if-is_unknown.ensures) in
     record {
-      kinds = λ n below. grind (arith, cases_Bool, nat_tests, unknown, are.kinds n below, unknown-number (kind_of s));
+      kinds = λ n below. grind (arith, cases_Bool, nat_tests, unknown, are.kinds n below, unknown-number);
       unknown = λ t.
           let same = is_eq-slice_cmp s t.now in
           grind (arith, cases_Bool, c.in_ok-insert.ensures.updates.0 t, same, are.unknown t, unknown);

@@ -5,7 +5,8 @@ use Rattle.textwrap_text.proofs.Common.{arith, cases_Bool, ◌∙◌}
 pub returns-then-self-number : goal.returns-then-self-number
 returns-then-self-number g c = λ later are.
     let end = c.common_end-end in
-    let any = any-known c.args.kind end.result c.requires (end.ensures.known ∙ c.requires) end.ensures.takes later in
+    let known = end.ensures.known ∙ c.requires in
+    let any = any-known c.args.kind end.result c.requires known end.ensures.takes later in
     let one = are.kinds (number c.args.kind) (known-below c.args.kind c.requires) in
     grind (arith, cases_Bool, any, one, c.number.ensures.place, c.if-self-number.true)
 

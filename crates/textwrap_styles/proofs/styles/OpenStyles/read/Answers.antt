@@ -17,7 +17,7 @@ loop-sequence-preserved g c = record {
   takes = λ before state.
       let old = c.loop-sequence.invariant.takes before state in
       let one = c.in-Some.sequence.now ∷ [] in
-      let read = rw (append_assoc before old.0 one) at (c.in_ok-read_sequence.ensures (before ++ old.0) old.1) in
+      let read = rw append_assoc at (c.in_ok-read_sequence.ensures (before ++ old.0) old.1) in
       (old.0 ++ one, read, grind (arith, old.2, c.in-Some.ensures.sequences, append_assoc));
   utf8 = c.in-Some.ensures.utf8;
 }

@@ -5,15 +5,14 @@ import functools
 # ---- What parameters set
 
 # What one sets, beside colours, and what one ends. A terminal may know settings that the library does not (26,
-# 60 to 64, 73, 74): they are to be kept. Gothic letters (20) are left out, which 23 ends, with italics: of a 23
-# that another 3 follows the library keeps the 3 alone, and so 20 is set anew.
+# 60 to 64, 73, 74): they are to be kept.
 SETS = {1: "bold", 2: "faint", 3: "italic", 4: "underline", 5: "blink", 6: "blink", 7: "inverse",
-        8: "hidden", 9: "crossed out", 21: "underline", 26: "spacing", 51: "frame", 52: "frame", 53: "overline",
-        73: "height", 74: "height", **dict.fromkeys(range(11, 20), "font"),
+        8: "hidden", 9: "crossed out", 20: "gothic", 21: "underline", 26: "spacing", 51: "frame", 52: "frame",
+        53: "overline", 73: "height", 74: "height", **dict.fromkeys(range(11, 20), "font"),
         **dict.fromkeys((*range(30, 38), *range(90, 98)), "foreground"),
         **dict.fromkeys((*range(40, 48), *range(100, 108)), "background"),
         **dict.fromkeys(range(60, 65), "ideogram")}
-ENDS = {10: ("font",), 22: ("bold", "faint"), 23: ("italic",), 24: ("underline",), 25: ("blink",),
+ENDS = {10: ("font",), 22: ("bold", "faint"), 23: ("italic", "gothic"), 24: ("underline",), 25: ("blink",),
         27: ("inverse",), 28: ("hidden",), 29: ("crossed out",), 39: ("foreground",), 49: ("background",),
         50: ("spacing",), 54: ("frame",), 55: ("overline",), 59: ("line colour",), 65: ("ideogram",),
         75: ("height",)}
@@ -46,8 +45,7 @@ def rendition_after(rendition, parameters):
 
 # ---- The settings that the library takes them for
 
-KNOWN = frozenset((*range(20), *range(21, 26), *range(27, 50), *range(51, 56), 58, 59, *range(90, 98),
-                   *range(100, 108)))
+KNOWN = frozenset((*range(26), *range(27, 50), *range(51, 56), 58, 59, *range(90, 98), *range(100, 108)))
 
 
 def number(field):

@@ -2,7 +2,7 @@
 use Rattle.std.{proofs.lemmas.List.Folds.{concat-append, flat_map-map}, specs.Cow.cow_str_bytes}
 use Rattle.std.specs.declared.borrow.CowStr.{CowStr}
 use Rattle.textwrap_layout.proofs.Text.Lines.{line_bytes-line_view}
-use Rattle.textwrap_layout.specs.Paragraph.{Built, Line, line_bytes, line_view, Slice}
+use Rattle.textwrap_layout.specs.Paragraph.{Line, line_bytes, line_view, Slice}
 use Rattle.textwrap_styles.proofs.Common.{carried_lines, chars, closing, concat, fold-append, IsWhole}
 use Rattle.textwrap_styles.proofs.Common.{link_end, open_styles, penned_lines, penned_text, plain_rendition}
 use Rattle.textwrap_styles.proofs.Common.{Rendition, rendition_of, sequence_of, sequences, style_end}
@@ -14,10 +14,10 @@ use Rattle.textwrap_styles.proofs.SequenceTexts.{penned-append, text-sequences, 
 use Rattle.textwrap_styles.specs.{Indents.{after_indent, before_text, indent_end}, Penned.penned_units}
 use Rattle.textwrap_styles.specs.Styled.{EachWithIndent, EndsPlain, IsWholeText, MayCarry}
 use Rattle.textwrap_styles.specs.Styles.{carried_line, opening, reopened_link, texts_of}
-use Rattle.textwrap_text.proofs.Common.{◌+◌, ◌++◌, ◌<◌, ◌==◌, [], All, All-append, All-cons, All-head}
+use Rattle.textwrap_text.proofs.Common.{◌+◌, ◌++◌, ◌<◌, [], All, All-append, All-cons, All-head}
 use Rattle.textwrap_text.proofs.Common.{All-nil, All-tail, All-weaker, ap, append-nil, append_assoc, arith}
-use Rattle.textwrap_text.proofs.Common.{cases_Bool, chars-nil, cond, drop, drop_at, drop_more, flat_map, fold}
-use Rattle.textwrap_text.proofs.Common.{get_or, inl, inr, IsUtf8, IsUtf8-drop, length, length-append, List}
+use Rattle.textwrap_text.proofs.Common.{cases_Bool, chars-nil, drop, drop_at, drop_more, flat_map, fold}
+use Rattle.textwrap_text.proofs.Common.{get_or, inl, inr, IsUtf8-drop, length, length-append, List}
 use Rattle.textwrap_text.proofs.Common.{map, map-append, nat_eq, nat_tests, nil_from_length, refl, rules}
 use Rattle.textwrap_text.proofs.Common.{starts_with, subst, sym, take, take-append-drop, take_at, text_width}
 use Rattle.textwrap_text.proofs.{Common.{units, ℕ, ◌∙◌, ◌∷◌, ◌≡◌, ◌≤◌}, Texts.StartsWith-boundary}
@@ -25,32 +25,18 @@ use Rattle.textwrap_text.proofs.Lists.Parts.{all-right, starts_with-rest}
 
 -- ---- one line more that sets anew what is open, and ends plain
 
--- a line with these texts after its indent and at its end
-abbrev enclosed : List ℕ → ℕ → List ℕ → List ℕ → Line
-enclosed line n start end =
-    cond (length (start ++ end) == 0) (Slice line)
-    (Built (take n line ++ start ++ drop n line ++ end))
-
-pub line-is : (indent line : List ℕ) (n : ℕ) (before : List (List ℕ)) (start end : List ℕ)
-    (view : Line) → n ≡ indent_end indent line → start ≡ opening before
-    → end ≡ closing (before ++ sequences (drop n line))
-    → view ≡ enclosed line n start end → view ≡ carried_line indent before line
-line-is indent line n before start end view is starts ends whole = cc
-
 -- one more of the lines
 pub carries-more : {Z : Type 0} (lines : List (CowStr Z)) (n : ℕ) (line added : CowStr Z)
     (indent later bytes text : List ℕ) (before : List (List ℕ)) (old new : List (CowStr Z))
     (all : List Line) → n < length lines → line ≡ get_or lines n line
     → bytes ≡ cow_str_bytes line → text ≡ after_indent indent bytes → new ≡ old ++ added ∷ []
-    → line_view added ≡ carried_line indent before bytes
-    → map line_view old
+    → line_view added ≡ carried_line indent before bytes → map line_view old
     ++ carried_lines indent later before (texts_of (drop n lines)) ≡ all
     → map line_view new ++ carried_lines later later (before ++ sequences text)
     (texts_of (drop (n + 1) lines)) ≡ all
 carries-more lines n line added indent later bytes text before old new all within is same after
     push view whole =
-    let left = drop_more lines n line within in
-    grind (arith, append_assoc, line_bytes-line_view, map-append, left)
+    grind (arith, append_assoc, line_bytes-line_view, map-append, drop_more lines n line within)
 
 -- ---- the bytes of a line whose styles are carried
 
@@ -62,24 +48,20 @@ carried-parts indent before line =
     let own = take-append-drop (indent_end indent line) line in
     grind (arith, nat_tests, append-nil, nil_from_length, length-append, own)
 
-closing-short : (before : List (List ℕ)) → length (closing before) ≤ length style_end + length link_end
-closing-short before = search (rules, arith)
-
 -- it is longer by what sets anew what is open, and what ends that, at most
 pub carried-len : (indent : List ℕ) (before : List (List ℕ)) (line : List ℕ)
     → length (line_bytes (carried_line indent before line))
     ≤ length line + length (opening before) + length style_end + length link_end
 carried-len indent before line =
-    let whole = carried-parts indent before line in
     let own = take-append-drop (indent_end indent line) line in
-    let ends = closing-short (before ++ sequences (after_indent indent line)) in
-    grind (arith, length-append, whole, own, ends)
+    let ends : length (closing (before ++ sequences (after_indent indent line)))
+    ≤ length style_end + length link_end = search (rules, arith) in
+    grind (arith, length-append, carried-parts indent before line, own, ends)
 
 pub carried-bytes : (indent : List ℕ) (before : List (List ℕ)) (line : List ℕ)
     → line_bytes (carried_line indent before line)
     ≡ before_text indent line ++ concat (reopened_link before ++ open_styles before)
-    ++ after_indent indent line
-    ++ concat (closing_sequences (before ++ sequences (after_indent indent line)))
+    ++ after_indent indent line ++ concat (closing_sequences (before ++ sequences (after_indent indent line)))
 carried-bytes indent before line = grind (arith, carried-parts, concat-append, closing-is)
 
 -- ---- one line whose styles are carried: what it shows, what it leaves open and how wide it is
@@ -110,9 +92,9 @@ module _ (indent : List ℕ) (before : List (List ℕ)) (line : List ℕ) (are :
 
   pub carried-plain : EndsPlain (line_bytes (carried_line indent before line))
   carried-plain =
-      let all = parts-sequences front text starts ends may.front may.text all-starts (closing-sequences (before ++ sequences text)) in
-      let end = ended (before ++ sequences text) in
-      grind (arith, carried-bytes indent before line, all, fold-append, begun, end)
+      let closed = closing-sequences (before ++ sequences text) in
+      let all = parts-sequences front text starts ends may.front may.text all-starts closed in
+      grind (arith, carried-bytes, all, fold-append, begun, ended (before ++ sequences text))
 
   pub carried-wide : text_width (line_bytes (carried_line indent before line)) ≡ text_width line
   carried-wide =
@@ -124,13 +106,11 @@ module _ (indent : List ℕ) (before : List (List ℕ)) (line : List ℕ) (are :
 indented-later : (Is : List ℕ → List ℕ → Type 0) (later : List ℕ) (lines : List (List ℕ))
     → All (Is later) lines → EachWithIndent Is later later lines
 indented-later Is later [] all = tt
-indented-later Is later (line ∷ lines) all =
-    (All-head (Is later) line lines all, All-tail (Is later) line lines all)
+indented-later Is later (line ∷ lines) all = (all 0 line (omega arith), All-tail (Is later) line lines all)
 
 -- what the lines show, that they end plain, and how wide they are
 pub record AreCarried (indent later : List ℕ) (before lines : List (List ℕ)) : Type 0 where
-  pub shown : map (λ l. penned_text plain_rendition (line_bytes l))
-      (carried_lines indent later before lines)
+  pub shown : map (λ l. penned_text plain_rendition (line_bytes l)) (carried_lines indent later before lines)
       ≡ penned_lines indent later (rendition_of before) lines
   pub plain : All (λ l. EndsPlain (line_bytes l)) (carried_lines indent later before lines)
   pub wide : map (λ l. text_width (line_bytes l)) (carried_lines indent later before lines)
@@ -168,8 +148,7 @@ IsPlainLine indent line = sequences (after_indent indent line) ≡ []
 -- ---- where no sequence is, and whole lines under indents that leave nothing open
 
 pub plain-stay : (indent later : List ℕ) (lines : List (List ℕ))
-    → EachWithIndent IsPlainLine indent later lines
-    → carried_lines indent later [] lines ≡ map Slice lines
+    → EachWithIndent IsPlainLine indent later lines → carried_lines indent later [] lines ≡ map Slice lines
 plain-stay indent later [] all = refl
 plain-stay indent later (line ∷ lines) (none, rest) =
     grind (arith, none, plain-stay later later lines (indented-later IsPlainLine later lines rest))
@@ -180,12 +159,10 @@ nil-plain = ap (λ cs. rendition_of (flat_map sequence_of (units cs))) chars-nil
 -- what follows a whole text in one
 whole_text-rest : (xs ys : List ℕ) → IsWholeText xs → IsWholeText (xs ++ ys) → IsWholeText ys
 whole_text-rest xs ys front whole =
-    let n = length xs in (
-      subst IsUtf8 (drop_at xs ys n refl) (IsUtf8-drop (xs ++ ys) n whole.0
-          (StartsWith-boundary (xs ++ ys) xs whole.0 front.0 (take_at xs ys n refl))),
-      all-right IsWhole (units (chars xs)) (units (chars ys))
-          (subst (All IsWhole) (text_units-append xs ys front) whole.1),
-    )
+    let starts = StartsWith-boundary (xs ++ ys) xs whole.0 front.0 (take_at xs ys (length xs) refl) in
+    let utf8 = IsUtf8-drop (xs ++ ys) (length xs) whole.0 starts in
+    let all = rw (text_units-append xs ys front) at whole.1 in
+    (rw (drop_at xs ys (length xs) refl) at utf8, all-right IsWhole (units (chars xs)) (units (chars ys)) all)
 
 may-carry : (indent line : List ℕ) → IsWholeText indent → EndsPlain indent
     → IsWholeText line → MayCarry indent line
@@ -200,8 +177,7 @@ may-carry indent line own plain whole = elim (cases_Bool (starts_with nat_eq lin
         plain = rw (starts, front) plain;
         text = rw starts (whole_text-rest indent rest own (subst IsWholeText shape whole));
       }
-  | inr other ↦
-      record { front = rw other nil-whole; plain = rw other nil-plain; text = rw other whole }
+  | inr other ↦ record { front = rw other nil-whole; plain = rw other nil-plain; text = rw other whole }
 ]
 
 pub all-may_carry : (indent later : List ℕ) (lines : List (List ℕ)) → IsWholeText indent
@@ -230,6 +206,5 @@ pub bare-carried : (lines : List (List ℕ)) → All IsWholeText lines
     → flat_map (λ l. penned_text plain_rendition (line_bytes l)) (carried_lines [] [] [] lines)
     ≡ penned_text plain_rendition (concat lines)
 bare-carried lines whole =
-    let may = all-may_carry [] [] lines nil-whole nil-plain nil-whole nil-plain whole in
-    let all = carried [] [] lines may in
+    let all = carried [] [] lines (all-may_carry [] [] lines nil-whole nil-plain nil-whole nil-plain whole) in
     grind (arith, flat_map-map, all.shown, bare-shown lines plain_rendition whole)

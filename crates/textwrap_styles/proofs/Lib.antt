@@ -15,4 +15,3 @@ pub mod PenCodes
 pub mod PenSettings
 pub mod PenOpen
 pub mod PenStyles
-pub mod Refuted

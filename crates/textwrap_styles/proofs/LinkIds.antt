@@ -1,15 +1,16 @@
 -- A link that is set anew with an id: it is a link to the same target, and one sequence.
+use lib.Utf8.{encode}
 use Rattle.std.proofs.lemmas.{Fmt.{decimal_is_IsNumeral, length-decimal-le}, List.Elements.All-from_get_or}
 use Rattle.std.proofs.lemmas.{List.Folds.{list_all-append, list_any-append}, Str.Ascii.IsAscii-from_all}
 use Rattle.std.proofs.lemmas.{List.Sums.{AllPass-from_list_all, list_all-from_AllPass}, Str.Parse.digit_at}
-use Rattle.std.specs.{Fmt.decimal, List.{after_first, concat}, Str.IsAscii}
-use Rattle.textwrap_styles.proofs.Common.{chars, is_in_range, is_link, is_style, open_link}
+use Rattle.std.specs.{Fmt.decimal, List.{after_first, concat}, Str.{chars, IsAscii}}
+use Rattle.textwrap_styles.proofs.Common.{is_in_range, is_link, is_style, open_link}
 use Rattle.textwrap_styles.proofs.{LinkParameters.id-begins, SequenceTexts.{IsSequence, unit-sequence}}
 use Rattle.textwrap_styles.proofs.Sequences.{around-bell, around-terminator, bell, IsAround, link-no_style}
 use Rattle.textwrap_styles.proofs.Sequences.{link_start, not_link, open_link-cases, terminator}
 use Rattle.textwrap_styles.specs.Penned.{with_link}
 use Rattle.textwrap_styles.specs.Styles.{id_before, link_target, names_id, reopened_link, with_id}
-use Rattle.textwrap_text.proofs.Common.{◌&&◌, ◌+◌, ◌++◌, ◌-◌, ◌<◌, ◌==◌, [], ◌^◌, All, All-cons, All-head}
+use Rattle.textwrap_text.proofs.Common.{◌&&◌, ◌+◌, ◌++◌, ◌-◌, ◌<◌, ◌==◌, [], ◌^◌, All, All-cons}
 use Rattle.textwrap_text.proofs.Common.{All-nil, All-weaker, ap, append-nil, append_assoc, arith, Bool}
 use Rattle.textwrap_text.proofs.Common.{cases_Bool, chars-append, chars-IsAscii, codes, cond, cond_both, drop}
 use Rattle.textwrap_text.proofs.Common.{drop_at, ends_with, escape, escape_len, false, filter, filter-append}
@@ -21,8 +22,6 @@ use Rattle.textwrap_text.proofs.Lists.Parts.{ends_with-front, ends_with-true, st
 use Rattle.textwrap_text.proofs.{Texts.StartsWith-boundary, Units.Texts.units_unique}
 use Rattle.textwrap_text.specs.{LentText.as_len, Units.{command_len, ends, IsInUnits, IsWhole, Sequence}}
 use Rattle.textwrap_words.proofs.Word.Breaking.{units_past-skip}
-
--- ---- the id
 
 -- a character that ends neither parameters nor a command
 abbrev is_plain : ℕ → Bool
@@ -69,8 +68,6 @@ with-id : (P : List ℕ → Type 0) (n : ℕ) (s : List ℕ) → is_link s ≡ t
 with-id P n s is own new =
     rw (with_id-is n s (drop 4 s) (link-rest s is)) (cond_both (names_id (drop 4 s)) s _ P own (λ _. new))
 
--- ---- the target
-
 after-plain : (xs fields : List ℕ) → ArePlain xs
     → after_first (λ c. c == 0x3B) (xs ++ fields) ≡ after_first (λ c. c == 0x3B) fields
 after-plain [] fields all = refl
@@ -78,15 +75,14 @@ after-plain (x ∷ xs) fields all = grind (arith, cases_Bool, nat_tests, after-p
 
 -- the fields of a link, before whichever end
 link-shape : (s : List ℕ) → is_link s ≡ true → (fields : List ℕ) × (ending : List ℕ)
-    × ((fs : List ℕ) → IsAround (link_start ++ (fs ++ ending)) fs)
-    × (drop 4 s ≡ fields ++ ending)
+    × ((fs : List ℕ) → IsAround (link_start ++ (fs ++ ending)) fs) × (drop 4 s ≡ fields ++ ending)
 link-shape s is =
     let rest = drop 4 s in
     elim (cases_Bool (ends_with nat_eq rest bell)) [
       | inl rings ↦ (take (length rest - 1) rest, bell, around-bell, ends_with-front bell rest rings)
       | inr silent ↦ elim (cases_Bool (ends_with nat_eq rest terminator)) [
-        | inl ended ↦
-            (take (length rest - 2) rest, terminator, around-terminator, ends_with-front terminator rest ended)
+        | inl ends ↦
+            (take (length rest - 2) rest, terminator, around-terminator, ends_with-front terminator rest ends)
         | inr lacks ↦ absurd (true≢false (sym is ∙ ap is_link (link-rest s is) ∙ not_link rest
             (λ before same. true≢false (sym (ends_with-true bell rest before same) ∙ silent))
             (λ before same. true≢false (sym (ends_with-true terminator rest before same) ∙ lacks))))
@@ -138,35 +134,26 @@ whole-ends body whole =
 
 ends-whole : (body : List ℕ) → EndsBefore body → IsWhole (Sequence (escape ∷ body))
 ends-whole body ends =
-    let one = take_at body (65 ∷ []) (length body) refl in
     let rest = units_past-skip (length body) (followed body)
     ∙ ap units (drop_at body (65 ∷ []) (length body) refl) in
-    ((apart body).1 (sym (rw (ends, one, rest) refl))).1.0
-
-link_start-ascii : IsAscii link_start
-link_start-ascii = IsAscii-from_all link_start (search (rules, arith))
+    ((apart body).1 (sym (rw (ends, take_at body (65 ∷ []) (length body) refl, rest) refl))).1.0
 
 link_start-utf8 : IsUtf8 link_start
-link_start-utf8 = IsUtf8-from_ascii link_start link_start-ascii
+unfolding encode
+link_start-utf8 = (link_start, (refl, refl))
 
 link_start-chars : (rest : List ℕ) → chars (link_start ++ rest) ≡ link_start ++ chars rest
-link_start-chars rest =
-    chars-append link_start rest link_start-utf8
-    ∙ ap (λ l. l ++ chars rest) (chars-IsAscii link_start link_start-ascii)
-
-id-ascii : (n : ℕ) (fields : List ℕ) → n < 2 ^ 64 → IsAscii (id_before n fields)
-id-ascii n fields fits =
-    let id = id_before n fields in
-    IsAscii-from_all id (All-weaker (λ c. is_plain c ≡ true) (λ b. b < 128)
-    (λ c plain. grind (arith, cases_Bool, nat_tests, plain)) id
-    (AllPass-from_list_all is_plain id (id-plain n fields fits)))
+unfolding encode chars
+link_start-chars rest = chars-append link_start rest link_start-utf8
 
 id-sequence : (n : ℕ) (s : List ℕ) → n < 2 ^ 64 → is_link s ≡ true → IsSequence s → IsSequence (with_id n s)
 id-sequence n s fits is own =
     let rest = drop 4 s in
     let id = id_before n rest in
     let shape = link-rest s is in
-    let ascii = id-ascii n rest fits in
+    let ascii : IsAscii id = IsAscii-from_all id (All-weaker (λ c. is_plain c ≡ true) (λ b. b < 128)
+    (λ c plain. grind (arith, cases_Bool, nat_tests, plain)) id
+    (AllPass-from_list_all is_plain id (id-plain n rest fits))) in
     let id_utf8 = IsUtf8-from_ascii id ascii in
     let utf8 = IsUtf8-drop s 4 own.utf8
     (StartsWith-boundary s link_start own.utf8 link_start-utf8 (ap (take 4) shape)) in
@@ -174,18 +161,13 @@ id-sequence n s fits is own =
     let whole : IsWhole (Sequence (link_start ++ cs)) =
     rw (ap chars shape ∙ link_start-chars rest) at own.whole in
     let len = command-plain 59 id (followed cs) refl (id-plain n rest fits) in
+    let ends = whole-ends (93 ∷ 56 ∷ 59 ∷ cs) whole in
     with-id IsSequence n s is (λ has. own)
     (unit-sequence (link_start ++ id ++ rest) (link_start ++ (id ++ cs))
     (IsUtf8-append link_start (id ++ rest) link_start-utf8 (IsUtf8-append id rest id_utf8 utf8))
     (link_start-chars (id ++ rest) ∙ ap (λ l. link_start ++ l) (chars-append id rest id_utf8
-    ∙ ap (λ l. l ++ cs) (chars-IsAscii id ascii)))
-    (ends-whole (93 ∷ 56 ∷ 59 ∷ id ++ cs) (omega (
-      arith,
-      len,
-      whole-ends (93 ∷ 56 ∷ 59 ∷ cs) whole,
-      length-append id cs,
-      ap (command_len 59) (append_assoc id cs (65 ∷ [])),
-    ))))
+    ∙ ap (λ l. l ++ cs) (chars-IsAscii id ascii))) (ends-whole (93 ∷ 56 ∷ 59 ∷ id ++ cs)
+    (omega (arith, len, ends, length-append id cs, ap (command_len 59) (append_assoc id cs (65 ∷ []))))))
 
 -- ---- the link that is open
 
@@ -204,16 +186,13 @@ reopened-all Q P before all each =
 abbrev Any : List ℕ → Type 0
 Any s = ⊤
 
-any : (ss : List (List ℕ)) → All Any ss
-any ss = λ k d within. tt
-
 pub reopened-sequences : (before : List (List ℕ)) → All IsSequence before
     → All IsSequence (reopened_link before)
 reopened-sequences before all = reopened-all IsSequence IsSequence before all id-sequence
 
 pub reopened-plain : (before : List (List ℕ)) → All (λ s. is_style s ≡ false) (reopened_link before)
 reopened-plain before =
-    reopened-all Any (λ s. is_style s ≡ false) before (any before)
+    reopened-all Any (λ s. is_style s ≡ false) before (λ k d within. tt)
     (λ n s fits is _. link-no_style (with_id n s) (set-anew n s fits is).0)
 
 -- it leads where it led
@@ -221,7 +200,7 @@ pub reopened-link : (before : List (List ℕ))
     → fold with_link [] (reopened_link before) ≡ fold with_link [] (open_link before)
 reopened-link before =
     open_link-cases Any (λ ls. fold with_link [] (map (with_id (count before)) ls) ≡ fold with_link [] ls)
-    before (any before) refl (λ s is _.
+    before (λ k d within. tt) refl (λ s is _.
     let own = set-anew (count before) s (omega arith) is in
     grind (arith, cases_Bool, own.0, own.1, is))
 
@@ -231,32 +210,24 @@ pub reopened-len : (before : List (List ℕ))
 reopened-len before =
     let n = count before in
     open_link-cases Any (λ ls. length (concat (map (with_id n) ls)) ≤ length (concat ls) + 25)
-    before (any before) (omega arith) (λ s is _.
-    let rest = drop 4 s in
-    let id = id_before n rest in
-    let few = id-len n rest (omega arith) in
-    let whole = ap length (link-rest s is) in
-    let len : length (with_id n s) ≤ length s + 25 =
-    with-id (λ l. length l ≤ length s + 25) n s is (λ has. omega arith)
-    (omega (arith, few, whole, length-append id rest)) in
-    omega (arith, len, length-append s [], length-append (with_id n s) []))
+    before (λ k d within. tt) (omega arith) (λ s is _.
+    with-id (λ l. length (l ++ []) ≤ length (s ++ []) + 25) n s is (λ has. omega arith)
+    (let few = simp length-append at (id-len n (drop 4 s) (omega arith)) in
+    simp length-append (omega (arith, few, ap length (link-rest s is)))))
 
-pub ids-kept : (before more : List (List ℕ))
-    → All (λ s. names_id (drop 4 s) ≡ true) (reopened_link before)
-    × (filter is_link more ≡ [] → reopened_link (before ++ more) ≡ reopened_link before)
-ids-kept before more = (
-  reopened-all Any (λ s. names_id (drop 4 s) ≡ true) before (any before) (λ n s fits is _.
-      with-id (λ l. names_id (drop 4 l) ≡ true) n s is (λ has. has) (id-begins (id_before n (drop 4 s) ++ drop 4 s))),
-  λ none. grind (arith, filter-append is_link before more, none, append-nil (filter is_link before)),
-)
+pub ids-named : (before : List (List ℕ)) → All (λ s. names_id (drop 4 s) ≡ true) (reopened_link before)
+ids-named before =
+    reopened-all Any (λ s. names_id (drop 4 s) ≡ true) before (λ k d within. tt) (λ n s fits is _.
+    with-id (λ l. names_id (drop 4 l) ≡ true) n s is (λ has. has) (id-begins (id_before n (drop 4 s) ++ drop 4 s)))
+
+pub ids-kept : (before more : List (List ℕ)) → filter is_link more ≡ []
+    → reopened_link (before ++ more) ≡ reopened_link before
+ids-kept before more none = grind (arith, filter-append, none, append-nil)
 
 -- the link that is kept is a link, and this sets it anew
 pub kept-link : (before : List (List ℕ)) (n : ℕ) (link : List ℕ) → link ∷ [] ≡ open_link before
     → n ≡ count before → (is_link link ≡ true) × (concat (reopened_link before) ≡ with_id n link)
-kept-link before n link kept number = (
-  All-head (λ s. is_link s ≡ true) link []
-      (subst (All (λ s. is_link s ≡ true)) (sym kept)
-      (open_link-cases Any (All (λ s. is_link s ≡ true)) before (any before) (All-nil (λ s. is_link s ≡ true))
-      (λ s is _. All-cons (λ s. is_link s ≡ true) s [] is (All-nil (λ s. is_link s ≡ true))))),
-  rw (sym kept, sym number) (append-nil (with_id n link)),
-)
+kept-link before n link kept number =
+    let are = open_link-cases Any (λ ls. (l : List ℕ) → l ∷ [] ≡ ls → is_link l ≡ true) before in
+    let is = are (λ k d within. tt) (λ l e. cc) (λ s is _ l e. cc) link kept in
+    (is, rw (sym kept, sym number) (append-nil (with_id n link)))

@@ -1,10 +1,10 @@
 -- The parameters of a link, as they are read from the left, and whether one of them is an id.
 use Rattle.std.specs.{List.before_first, Prelude.slice_index_or}
 use Rattle.textwrap_styles.specs.Styles.{names_id}
-use Rattle.textwrap_text.proofs.Common.{◌&&◌, ◌-◌, ◌<◌, ◌==◌, [], arith, Bool, cases_Bool, codes, cond, drop}
-use Rattle.textwrap_text.proofs.Common.{false, get_or, length, List, list_any, nat_eq, nat_tests, onto_first}
-use Rattle.textwrap_text.proofs.Common.{refl, slice_split, starts_with, take, take_all, true, ◌||◌, ℕ, ◌∷◌}
-use Rattle.textwrap_text.proofs.Common.{◌≡◌}
+use Rattle.textwrap_text.proofs.Common.{[], ℕ, ◌&&◌, ◌-◌, ◌<◌, ◌==◌, ◌||◌, ◌∷◌, ◌≡◌, arith, Bool, cases_Bool}
+use Rattle.textwrap_text.proofs.Common.{codes, cond, drop, false, get_or, length, List, list_any, nat_eq}
+use Rattle.textwrap_text.proofs.Common.{nat_tests, onto_first, refl, slice_split, starts_with, take, take_all}
+use Rattle.textwrap_text.proofs.Common.{true}
 
 abbrev pub parameters : List ℕ → List (List ℕ)
 parameters fields = slice_split (λ c. c == 0x3A) (before_first (λ c. c == 0x3B) fields)
@@ -22,8 +22,7 @@ first-begins : (text fields : List ℕ) → signs text ≡ false
 first-begins [] fields none = refl
 first-begins (t ∷ text) [] none = refl
 first-begins (t ∷ text) (c ∷ fields) none =
-    let rest = first-begins text fields in
-    grind (arith, cases_Bool, nat_tests, parameters-cons c fields, rest)
+    grind (arith, cases_Bool, nat_tests, parameters-cons c fields, first-begins text fields)
 
 abbrev pub is_id : List ℕ → Bool
 is_id parameter = starts_with nat_eq parameter (codes "id=")
@@ -41,8 +40,7 @@ id-begins fields = grind (arith, any-first (parameters fields), first-begins (co
 
 -- one character further, where no parameter that begins here is an id
 pub id-next : (begins : Bool) (left : List ℕ) → 0 < length left
-    → (slice_index_or left 0 0 == 0x3B) ≡ false → (begins && is_id left) ≡ false
-    → id_left begins left
+    → (slice_index_or left 0 0 == 0x3B) ≡ false → (begins && is_id left) ≡ false → id_left begins left
     ≡ id_left (slice_index_or left 0 0 == 0x3A) (take (length left - 1) (drop 1 left))
 id-next begins [] some on none = absurd (omega arith)
 id-next begins (c ∷ left) some on none =

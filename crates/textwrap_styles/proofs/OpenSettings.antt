@@ -1,71 +1,48 @@
 -- Which settings a later one takes back, by their kinds, and settings that are open: with one more,
 -- once more, and what holds of each of them.
-use Rattle.std.proofs.lemmas.{List.Folds.list_any-append, Slice.Eq.bytes_eq-Decides}
-use Rattle.std.specs.Str.{bytes_eq}
+use Rattle.std.{proofs.lemmas.{List.Folds.list_any-append, Slice.Eq.bytes_eq-Decides}, specs.Str.bytes_eq}
 use Rattle.textwrap_styles.proofs.Common.{in_effect, Kind, kind_of, latest, open_settings, Reset}
 use Rattle.textwrap_styles.specs.Settings.{is_unknown, number, replaces, takes_back}
-use Rattle.textwrap_text.proofs.Common.{◌&&◌, ◌++◌, ◌<◌, ◌==◌, [], after_last, All, All-append, All-cons}
-use Rattle.textwrap_text.proofs.Common.{All-drop, All-head, All-nil, All-tail, ap, append-nil, append_assoc}
-use Rattle.textwrap_text.proofs.Common.{arith, Bool, Bor, cases_Bool, cond, cond_both, false, filter, fold}
-use Rattle.textwrap_text.proofs.Common.{List, list_any, map, nat_tests, not, refl, rules, sym, true, ◌||◌, ℕ}
-use Rattle.textwrap_text.proofs.{Common.{◌∙◌, ◌∷◌, ◌≡◌}, Lists.Parts.after_last-push}
+use Rattle.textwrap_text.proofs.Common.{[], ℕ, ◌&&◌, ◌++◌, ◌<◌, ◌==◌, ◌||◌, ◌∙◌, ◌∷◌, ◌≡◌, after_last, All}
+use Rattle.textwrap_text.proofs.Common.{All-append, All-cons, All-drop, All-head, All-nil, All-tail, ap}
+use Rattle.textwrap_text.proofs.Common.{append-nil, append_assoc, arith, Bool, Bor, cases_Bool, cond}
+use Rattle.textwrap_text.proofs.Common.{cond_both, false, filter, fold, List, list_any, map, nat_tests, not}
+use Rattle.textwrap_text.proofs.{Common.{refl, rules, sym, true}, Lists.Parts.after_last-push}
 
-pub unknown-number : (k : Kind) → is_unknown k ≡ (number k == 16)
+pub unknown-number : (k : Kind) → is_unknown k ≡ (number k == 18)
 unfolding is_unknown number
 unknown-number _ = grind (arith, cases_Bool, nat_tests)
 
-pub known-below : (k : Kind) → is_unknown k ≡ false → number k < 16
+pub known-below : (k : Kind) → is_unknown k ≡ false → number k < 18
 unfolding is_unknown number
 known-below _ known = grind (arith, cases_Bool, nat_tests)
 
-pub unknown-other : (k : Kind) (n : ℕ) → is_unknown k ≡ true → n < 16 → (number k == n) ≡ false
-unknown-other k n unknown below = grind (arith, cases_Bool, nat_tests, unknown-number)
-
--- tests that are the same of each are the same of all
-any-same : (f g : List ℕ → Bool) → ((t : List ℕ) → f t ≡ g t) → (xs : List (List ℕ))
-    → list_any f xs ≡ list_any g xs
-any-same f g same [] = refl
-any-same f g same (x ∷ xs) = grind (arith, same x, any-same f g same xs)
-
-any-or : (f g : List ℕ → Bool) (b : Bool) (xs : List (List ℕ))
-    → list_any (λ t. f t || b && g t) xs ≡ (list_any f xs || b && list_any g xs)
-any-or f g true [] = refl
-any-or f g false [] = refl
-any-or f g b (x ∷ xs) = grind (arith, cases_Bool, any-or f g b xs)
-
--- one that is known is taken back by its kind, and bold and faint by both
-takes_back-known : (j k : Kind) → is_unknown k ≡ false
-    → (not (is_unknown j) && takes_back j k)
-    ≡ ((number j == number k) || ((number k == 1) || (number k == 2)) && (number j == 3))
-unfolding takes_back number
-takes_back-known j k known = grind (arith, cases_Bool, nat_tests, unknown-number, known-below)
-
-pub any-known : (k : Kind) (later : List (List ℕ)) → is_unknown k ≡ false
-    → list_any (λ t. not (is_unknown (kind_of t)) && takes_back (kind_of t) k) later
+-- two kinds take back one that is known, if these are its own and its end
+pub any-known : (k end : Kind) → is_unknown k ≡ false → is_unknown end ≡ false
+    → ((j : Kind) → takes_back j k ≡ ((number j == number k) || (number j == number end)))
+    → (later : List (List ℕ)) → list_any (λ t. not (is_unknown (kind_of t)) && takes_back (kind_of t) k) later
     ≡ (list_any (λ t. number (kind_of t) == number k) later
-    || ((number k == 1) || (number k == 2)) && list_any (λ t. number (kind_of t) == 3) later)
-any-known k later known = search (rules, arith, any-same, takes_back-known, any-or)
+    || list_any (λ t. number (kind_of t) == number end) later)
+any-known k end known too takes [] = refl
+any-known k end known too takes (t ∷ later) =
+    let rest = any-known k end known too takes later in
+    grind (arith, cases_Bool, nat_tests, rest, takes (kind_of t), unknown-number, known-below)
 
 -- one that is unknown is taken back by the same
-replaces-unknown : (t s : List ℕ) → is_unknown (kind_of s) ≡ true
-    → replaces t s ≡ (is_unknown (kind_of t) && bytes_eq t s)
-unfolding replaces takes_back number
-replaces-unknown t s unknown = grind (arith, cases_Bool, nat_tests, unknown-number)
-
-replaces-known : (t s : List ℕ) → is_unknown (kind_of s) ≡ false
-    → replaces t s ≡ (not (is_unknown (kind_of t)) && takes_back (kind_of t) (kind_of s))
-unfolding replaces
-replaces-known t s known = grind (arith, cases_Bool, nat_tests, bytes_eq-Decides)
-
 pub any-unknown : (s : List ℕ) (later : List (List ℕ)) → is_unknown (kind_of s) ≡ true
-    → list_any (λ t. replaces t s) later
-    ≡ list_any (λ t. is_unknown (kind_of t) && bytes_eq t s) later
-any-unknown s later unknown = grind (arith, cases_Bool, nat_tests, any-same, replaces-unknown)
+    → list_any (λ t. replaces t s) later ≡ list_any (λ t. is_unknown (kind_of t) && bytes_eq t s) later
+unfolding replaces takes_back number
+any-unknown s [] unknown = refl
+any-unknown s (t ∷ later) unknown =
+    grind (arith, cases_Bool, nat_tests, unknown-number, any-unknown s later unknown)
 
 pub any-replaces : (s : List ℕ) (later : List (List ℕ)) → is_unknown (kind_of s) ≡ false
     → list_any (λ t. replaces t s) later
     ≡ list_any (λ t. not (is_unknown (kind_of t)) && takes_back (kind_of t) (kind_of s)) later
-any-replaces s later known = grind (arith, cases_Bool, nat_tests, any-same, replaces-known)
+unfolding replaces
+any-replaces s [] known = refl
+any-replaces s (t ∷ later) known =
+    grind (arith, cases_Bool, nat_tests, bytes_eq-Decides t s, any-replaces s later known)
 
 -- the texts of a list
 abbrev pub texts : List (Bor (List ℕ)) → List (List ℕ)
@@ -73,8 +50,7 @@ texts ss = map (λ s. s.now) ss
 
 -- ---- what is so after some sequences, where a step says what is so after one more
 
-pub after-more : (now : List (List ℕ) → List (List ℕ))
-    (next : List (List ℕ) → List ℕ → List (List ℕ))
+pub after-more : (now : List (List ℕ) → List (List ℕ)) (next : List (List ℕ) → List ℕ → List (List ℕ))
     → ((before : List (List ℕ)) (s : List ℕ) → now (before ++ s ∷ []) ≡ next (now before) s)
     → (before more : List (List ℕ)) → now (before ++ more) ≡ fold next (now before) more
 after-more now next push before [] = ap now (append-nil before)
@@ -84,8 +60,6 @@ after-more now next push before (s ∷ more) =
 -- those that this setting does not take back
 abbrev pub not_replaced : List ℕ → List (List ℕ) → List (List ℕ)
 not_replaced t ss = filter (λ s. not (replaces t s)) ss
-
--- ---- the latest
 
 pub latest-push : (ss : List (List ℕ)) (t : List ℕ)
     → latest (ss ++ t ∷ []) ≡ not_replaced t (latest ss) ++ t ∷ []
@@ -100,8 +74,6 @@ none-latest test (s ∷ ss) none = grind (arith, cases_Bool, none-latest test ss
 latest-again : (ss : List (List ℕ)) → latest (latest ss) ≡ latest ss
 latest-again [] = refl
 latest-again (s ∷ ss) = grind (arith, cases_Bool, nat_tests, latest-again ss, none-latest)
-
--- ---- those in effect
 
 none-in_effect : (test : List ℕ → Bool) (ss : List (List ℕ)) → list_any test ss ≡ false
     → list_any test (in_effect ss) ≡ false
@@ -141,8 +113,7 @@ pub effect-push : (ss : List (List ℕ)) (t : List ℕ)
 effect-push ss t = grind (arith, cases_Bool, nat_tests, latest-push, in_effect-filter)
 
 -- those in effect are in effect
-pub effect-again : (ss : List (List ℕ))
-    → in_effect (latest (in_effect (latest ss))) ≡ in_effect (latest ss)
+pub effect-again : (ss : List (List ℕ)) → in_effect (latest (in_effect (latest ss))) ≡ in_effect (latest ss)
 effect-again ss = ap in_effect (latest-in_effect ss) ∙ in_effect-again (latest ss)
 
 pub open_settings-push : (before : List (List ℕ)) (t : List ℕ)
@@ -165,8 +136,7 @@ all-in_effect P (s ∷ ss) all =
     search (rules, arith, all-in_effect P ss (All-tail P s ss all), All-tail, All-cons, All-head)
 
 -- what holds of all settings holds of those that are open
-pub all-open : (P : List ℕ → Type 0) (before : List (List ℕ)) → All P before
-    → All P (open_settings before)
+pub all-open : (P : List ℕ → Type 0) (before : List (List ℕ)) → All P before → All P (open_settings before)
 all-open P before all = search (rules, arith, all-in_effect, all-latest, All-drop)
 
 -- since all were taken back, none takes back all

@@ -6,7 +6,7 @@ use Rattle.textwrap_styles.specs.Pen.{with_field, with_parts}
 use Rattle.textwrap_styles.specs.Settings.{is_color_code, is_ending_code, is_unknown, kind_of_code, number}
 use Rattle.textwrap_text.proofs.Common.{◌&&◌, ◌+◌, ◌++◌, ◌<◌, ◌==◌, [], ap, arith, Bool, cases_Bool, cases_lt}
 use Rattle.textwrap_text.proofs.Common.{cond, drop, eqb-true, false, fold, inl, inr, length, List, map}
-use Rattle.textwrap_text.proofs.Common.{nat_tests, not, refl, subst, suc, sym, true, true≢false, zero, ◌||◌}
+use Rattle.textwrap_text.proofs.Common.{nat_tests, not, refl, subst, suc, sym, true, zero, ◌||◌}
 use Rattle.textwrap_text.proofs.Common.{ℕ, ◌∙◌, ◌∷◌, ◌≡◌, ◌≢◌, ◌≤◌, ⊤}
 
 -- ---- a pen that takes some of its fields from one pen and the others from another
@@ -20,17 +20,18 @@ mix m v p = record {
   bold = cond (m 1) v.bold p.bold;
   faint = cond (m 2) v.faint p.faint;
   italic = cond (m 4) v.italic p.italic;
-  underline = cond (m 5) v.underline p.underline;
-  blink = cond (m 6) v.blink p.blink;
-  inverse = cond (m 7) v.inverse p.inverse;
-  hidden = cond (m 8) v.hidden p.hidden;
-  crossed_out = cond (m 9) v.crossed_out p.crossed_out;
-  font = cond (m 10) v.font p.font;
-  foreground = cond (m 11) v.foreground p.foreground;
-  background = cond (m 12) v.background p.background;
-  framed = cond (m 13) v.framed p.framed;
-  overlined = cond (m 14) v.overlined p.overlined;
-  underline_color = cond (m 15) v.underline_color p.underline_color;
+  gothic = cond (m 5) v.gothic p.gothic;
+  underline = cond (m 7) v.underline p.underline;
+  blink = cond (m 8) v.blink p.blink;
+  inverse = cond (m 9) v.inverse p.inverse;
+  hidden = cond (m 10) v.hidden p.hidden;
+  crossed_out = cond (m 11) v.crossed_out p.crossed_out;
+  font = cond (m 12) v.font p.font;
+  foreground = cond (m 13) v.foreground p.foreground;
+  background = cond (m 14) v.background p.background;
+  framed = cond (m 15) v.framed p.framed;
+  overlined = cond (m 16) v.overlined p.overlined;
+  underline_color = cond (m 17) v.underline_color p.underline_color;
 }
 
 module _ {X : Type 0} (b c : Bool) (v w p : X) where
@@ -52,8 +53,7 @@ mix-again m n v w p = simp pick-again
 pub mix-both : (m n : Mask) (v w p : Pen) → mix m v (mix n w p) ≡ mix (λ i. m i || n i) (mix m v w) p
 mix-both m n v w p = simp pick-both
 
-pub mix-within : (m n : Mask) (v w p : Pen) → ((i : ℕ) → (m i || n i) ≡ m i)
-    → mix m v (mix n w p) ≡ mix m v p
+pub mix-within : (m n : Mask) (v w p : Pen) → ((i : ℕ) → (m i || n i) ≡ m i) → mix m v (mix n w p) ≡ mix m v p
 mix-within m n v w p within = grind (arith, pick-within, within)
 
 pub mix-swap : (m n : Mask) (v w p : Pen) → ((i : ℕ) → (m i && n i) ≡ false)
@@ -62,9 +62,17 @@ mix-swap m n v w p none = grind (arith, pick-swap, none)
 
 -- ---- the rows of the table
 
--- the fields that a kind sets, by the numbers of their own kinds: all, or for 3 bold and faint
+-- the fields that a kind sets, by the numbers of their own kinds: all, for 3 bold and faint, or for 6
+-- italic and Gothic
 abbrev pub sets : ℕ → Mask
-sets k i = (k == 0) || (k == i) || (k == 3) && ((i == 1) || (i == 2))
+sets k i = (k == 0) || (k == i) || (k == 3) && ((i == 1) || (i == 2)) || (k == 6) && ((i == 4) || (i == 5))
+
+-- the kinds that set more than one field, and those whose field another kind sets too
+abbrev pub is_many : ℕ → Bool
+is_many k = (k == 0) || (k == 3) || (k == 6)
+
+abbrev pub is_shared : ℕ → Bool
+is_shared k = (k == 1) || (k == 2) || (k == 4) || (k == 5)
 
 -- those that a number by itself sets: none where a colour has to follow
 abbrev pub touches : ℕ → Mask
@@ -77,12 +85,12 @@ is_own _ = false
 -- the field that a kind sets is not plain
 unfoldable pub differs_at : Pen → ℕ → Bool
 differs_at p i =
-    p.bold && (i == 1) || p.faint && (i == 2) || p.italic && (i == 4)
-    || not (p.underline == 0) && (i == 5) || not (p.blink == 0) && (i == 6)
-    || p.inverse && (i == 7) || p.hidden && (i == 8) || p.crossed_out && (i == 9)
-    || not (p.font == 0) && (i == 10) || not (is_own p.foreground) && (i == 11)
-    || not (is_own p.background) && (i == 12) || not (p.framed == 0) && (i == 13)
-    || p.overlined && (i == 14) || not (is_own p.underline_color) && (i == 15)
+    p.bold && (i == 1) || p.faint && (i == 2) || p.italic && (i == 4) || p.gothic && (i == 5)
+    || not (p.underline == 0) && (i == 7) || not (p.blink == 0) && (i == 8)
+    || p.inverse && (i == 9) || p.hidden && (i == 10) || p.crossed_out && (i == 11)
+    || not (p.font == 0) && (i == 12) || not (is_own p.foreground) && (i == 13)
+    || not (is_own p.background) && (i == 14) || not (p.framed == 0) && (i == 15)
+    || p.overlined && (i == 16) || not (is_own p.underline_color) && (i == 17)
 
 pub plain-differs : (i : ℕ) → differs_at plain_pen i ≡ false
 unfolding differs_at
@@ -100,13 +108,9 @@ abbrev Rows : ℕ → ℕ → Type 0
 Rows zero c = ⊤
 Rows (suc n) c = Row c × Rows n (c + 1)
 
-first-rows : Rows 54 0
+all-rows : Rows 54 0 × Rows 54 54
 unfolding with_code kind_of_code is_ending_code number is_color_code is_unknown differs_at
-first-rows = search arith
-
-last-rows : Rows 54 54
-unfolding with_code kind_of_code is_ending_code number is_color_code is_unknown differs_at
-last-rows = search arith
+all-rows = (search arith, search arith)
 
 rows-at : (n c at : ℕ) → Rows n at → at ≤ c → c < at + n → Row c
 rows-at zero c at rows from to = absurd (omega arith)
@@ -127,9 +131,9 @@ far-row c far = record {
 
 pub row : (c : ℕ) → Row c
 row c = elim (cases_lt c 54) [
-  | inl below ↦ rows-at 54 c 0 first-rows (omega arith) below
+  | inl below ↦ rows-at 54 c 0 all-rows.0 (omega arith) below
   | inr from ↦ elim (cases_lt c 108) [
-    | inl below ↦ rows-at 54 c 54 last-rows from below
+    | inl below ↦ rows-at 54 c 54 all-rows.1 from below
     | inr far ↦ far-row c far
   ]
 ]
@@ -146,10 +150,7 @@ pub mix-differs : (m : Mask) (v p : Pen) (i : ℕ)
     → differs_at (mix m v p) i ≡ cond (m i) (differs_at v i) (differs_at p i)
 unfolding differs_at
 mix-differs m v p i =
-    let colors = pick-at (λ c. not (is_own c)) m i in
-    simp (pick-at (λ b. b) m i, pick-at (λ n. not (n == 0)) m i, colors, pick-or)
-
--- ---- the laws
+    simp (pick-at (λ b. b) m i, pick-at (λ n. not (n == 0)) m i, (pick-at (λ c. not (is_own c)) m i), pick-or)
 
 -- what the table does not know does nothing
 pub unknown-nothing : (c : ℕ) → is_unknown (kind_of_code c) ≡ true → (p : Pen) → with_code c p ≡ p
@@ -159,10 +160,7 @@ unknown-nothing c is p = ap (λ b. cond b (with_code c p) p) (sym is) ∙ (row c
 pub other-something : (c : ℕ) → is_unknown (kind_of_code c) ≡ false → is_color_code c ≡ false
     → is_ending_code c ≡ false → with_code c plain_pen ≢ plain_pen
 other-something c known plain other same =
-    let kind = number (kind_of_code c) in
-    let all = (row c).known in
-    let differ : differs_at (with_code c plain_pen) kind ≡ true = grind (arith, cases_Bool) in
-    true≢false (sym differ ∙ ap (λ p. differs_at p kind) same ∙ plain-differs kind)
+    grind (arith, cases_Bool, (row c).known, plain-differs (number (kind_of_code c)))
 
 -- ---- changes that set some fields and leave the others
 
@@ -183,12 +181,11 @@ changes-then act later one two = record {
       ∙ mix-both two.fields one.fields two.values one.values p;
 }
 
-pub changes-if : (b : Bool) {act other : Pen → Pen} → Changes act → Changes other
-    → Changes (λ p. cond b (act p) (other p))
-changes-if true one two = one
-changes-if false one two = two
-
--- ---- fields of parameters
+-- one of two, by a test
+either : {X : Type 0} (F : (Pen → X) → Type 0) (b : Bool) {act other : Pen → X} → F act → F other
+    → F (λ p. cond b (act p) (other p))
+either F true one two = one
+either F false one two = two
 
 code-changes : (c : ℕ) → Changes (with_code c)
 code-changes c = record { fields = touches c; values = with_code c plain_pen; is = (row c).sets }
@@ -196,7 +193,7 @@ code-changes c = record { fields = touches c; values = with_code c plain_pen; is
 color-changes : (c : ℕ) (color : Color) → Changes (with_color c color)
 unfolding with_color
 color-changes c color = record {
-  fields = λ i. cond (c == 38) (11 == i) (cond (c == 48) (12 == i) (15 == i));
+  fields = λ i. cond (c == 38) (13 == i) (cond (c == 48) (14 == i) (17 == i));
   values = with_color c color plain_pen;
   is = λ p. grind (arith, cases_Bool);
 }
@@ -205,12 +202,12 @@ parts-changes : (c : ℕ) (parts : List ℕ) → Changes (with_parts c parts)
 unfolding with_parts
 parts-changes c parts =
     let underline : Changes (λ p. record p { underline = first_of parts }) = record {
-      fields = λ i. 5 == i;
+      fields = λ i. 7 == i;
       values = record plain_pen { underline = first_of parts };
       is = λ p. refl;
     } in
-    changes-if (c == 4) underline
-    (changes-if ((c == 38) || (c == 48) || (c == 58)) (color-changes c (color_of parts)) nothing)
+    either Changes (c == 4) underline
+    (either Changes ((c == 38) || (c == 48) || (c == 58)) (color-changes c (color_of parts)) nothing)
 
 -- with a field more: the colour that has begun does not hang on the pen
 pub record Steps (act : Pen → Reading) : Type 0 where
@@ -218,11 +215,6 @@ pub record Steps (act : Pen → Reading) : Type 0 where
   pub pen : Pen → Pen
   pub changes : Changes pen
   pub is : (p : Pen) → act p ≡ record { pen = pen p; color = color }
-
-steps-if : (b : Bool) {act other : Pen → Reading} → Steps act → Steps other
-    → Steps (λ p. cond b (act p) (other p))
-steps-if true one two = one
-steps-if false one two = two
 
 abbrev at : List ℕ → Pen → Reading
 at color p = record { pen = p; color = color }
@@ -236,10 +228,10 @@ field-steps color field =
     let code = first_of field in
     let numbers = color ++ code ∷ [] in
     let whole = color-changes (first_of numbers) (color_of (drop 1 numbers)) in
-    steps-if (not (length color == 0))
-    (steps-if (is_whole_color (drop 1 numbers)) (steps-by [] whole) (steps-by numbers nothing))
-    (steps-if (not (length field == 1)) (steps-by [] (parts-changes code (drop 1 field)))
-    (steps-if ((code == 38) || (code == 48) || (code == 58)) (steps-by numbers nothing)
+    either Steps (not (length color == 0))
+    (either Steps (is_whole_color (drop 1 numbers)) (steps-by [] whole) (steps-by numbers nothing))
+    (either Steps (not (length field == 1)) (steps-by [] (parts-changes code (drop 1 field)))
+    (either Steps ((code == 38) || (code == 48) || (code == 58)) (steps-by numbers nothing)
     (steps-by [] (code-changes code))))
 
 fields-steps : (fs : List (List ℕ)) (color : List ℕ) → Steps (λ p. fold with_field (at color p) fs)

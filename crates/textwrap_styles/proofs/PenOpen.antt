@@ -1,22 +1,23 @@
 -- Pens after parameters are pens after their settings, one after another, and the settings that are
 -- open give the pen that all of them gave.
-use Rattle.std.proofs.lemmas.Slice.Eq.{bytes_eq-Decides}
+use Rattle.std.proofs.lemmas.{List.Folds.list_any_at, Slice.Eq.bytes_eq-Decides}
 use Rattle.textwrap_styles.proofs.Common.{apply, fields, fold-append, in_effect, Kind, latest, open_settings}
-use Rattle.textwrap_styles.proofs.{Common.{Pen, plain_pen, Reset, settings}, OpenSettings.unknown-number}
-use Rattle.textwrap_styles.proofs.OpenSettings.{all-latest, all-since, known-below, latest-in_effect}
-use Rattle.textwrap_styles.proofs.OpenSettings.{left-after, next_left, none-latest, resets, Sets}
-use Rattle.textwrap_styles.proofs.PenCodes.{apply-changes, Changes, changes-then, mix, mix-again, mix-swap}
-use Rattle.textwrap_styles.{proofs.PenCodes.{mix-within, nothing, sets}, specs.Pen.read}
-use Rattle.textwrap_styles.proofs.PenSettings.{all-known, kind-code, many-end}
-use Rattle.textwrap_styles.proofs.SettingTexts.{are-settings, between-append, drop-all, fields-split, InRange}
+use Rattle.textwrap_styles.proofs.{Common.{Pen, plain_pen, Reset, settings}, OpenSettings.all-latest}
+use Rattle.textwrap_styles.proofs.OpenSettings.{all-since, known-below, latest-in_effect, left-after}
+use Rattle.textwrap_styles.proofs.OpenSettings.{next_left, none-latest, resets, Sets, unknown-number}
+use Rattle.textwrap_styles.proofs.PenCodes.{apply-changes, Changes, changes-then, is_many, is_shared, mix}
+use Rattle.textwrap_styles.proofs.PenCodes.{mix-again, mix-swap, mix-within, nothing, sets}
+use Rattle.textwrap_styles.proofs.{PenSettings.{all-known, kind-code, many-end}, SettingTexts.between-append}
+use Rattle.textwrap_styles.proofs.SettingTexts.{drop-all, fields-split, first-again, first-all, InRange}
 use Rattle.textwrap_styles.proofs.SettingTexts.{IsSetting, settings-next, settings-one, taken-again}
-use Rattle.textwrap_styles.specs.Settings.{first_setting, is_color_code, is_end, is_ending_code, is_unknown}
-use Rattle.textwrap_styles.specs.Settings.{kind_of, kind_of_code, number, replaces, taken_fields, takes_back}
-use Rattle.textwrap_text.proofs.Common.{◌&&◌, ◌+◌, ◌++◌, ◌<◌, ◌==◌, [], after_last, All, All-drop, All-head}
-use Rattle.textwrap_text.proofs.Common.{All-tail, ap, arith, cases_Bool, cond_both, drop, eqb-true, false}
-use Rattle.textwrap_text.proofs.Common.{fold, inl, inr, length, length-drop, List, list_any, map-append}
-use Rattle.textwrap_text.proofs.Common.{nat_tests, refl, rules, subst, suc, sym, true, true≢false, zero, ◌||◌}
-use Rattle.textwrap_text.proofs.Common.{ℕ, ◌∙◌, ◌∷◌, ◌≡◌, ◌≤◌, ⊤}
+use Rattle.textwrap_styles.specs.{Pen.read, Settings.{first_setting, is_color_code, is_end, is_ending_code}}
+use Rattle.textwrap_styles.specs.Settings.{is_unknown, kind_of, kind_of_code, number, replaces, taken_fields}
+use Rattle.textwrap_styles.specs.Settings.{takes_back}
+use Rattle.textwrap_text.proofs.Common.{[], ℕ, ⊤, ◌&&◌, ◌++◌, ◌+◌, ◌<◌, ◌==◌, ◌||◌, ◌∙◌, ◌∷◌, ◌≡◌, ◌≤◌}
+use Rattle.textwrap_text.proofs.Common.{after_last, All, All-drop, All-head, All-tail, ap, arith, cases_Bool}
+use Rattle.textwrap_text.proofs.Common.{cond_both, drop, eqb-true, false, fold, get_or, inl, inr, length}
+use Rattle.textwrap_text.proofs.Common.{length-drop, List, list_any, map-append, nat_tests, refl, rules}
+use Rattle.textwrap_text.proofs.Common.{subst, suc, sym, true, true≢false, zero}
 
 -- ---- settings one after another, of which each sets its own fields
 
@@ -31,12 +32,8 @@ run-changes [] = nothing
 run-changes (s ∷ ss) = changes-then (apply s) (λ p. pen_by p ss) (apply-changes s) (run-changes ss)
 
 -- once more, one makes the first time do nothing
-again : (s : List ℕ) (ss : List (List ℕ)) (p : Pen)
-    → apply s (pen_by (apply s p) ss) ≡ apply s (pen_by p ss)
-again s ss p =
-    let one = apply-changes s in
-    let others = run-changes ss in
-    grind (arith, one.is, others.is, mix-again)
+again : (s : List ℕ) (ss : List (List ℕ)) (p : Pen) → apply s (pen_by (apply s p) ss) ≡ apply s (pen_by p ss)
+again s ss p = grind (arith, (apply-changes s).is, (run-changes ss).is, mix-again)
 
 -- ---- a later one takes back an earlier one
 
@@ -48,19 +45,17 @@ kinds-within later earlier back i = grind (arith, cases_Bool, nat_tests)
 
 kinds-apart : (later earlier : Kind) → takes_back later earlier ≡ false
     → (number later == number Reset) ≡ false → (number earlier == number Reset) ≡ false
-    → ((number later == 1) || (number later == 2)) ≡ false → (i : ℕ)
-    → (sets (number later) i && sets (number earlier) i) ≡ false
+    → is_shared (number later) ≡ false → (i : ℕ) → (sets (number later) i && sets (number earlier) i) ≡ false
 unfolding takes_back number
 kinds-apart later earlier other some one own i = grind (arith, cases_Bool, nat_tests)
 
-ending-code : (c : ℕ) → (is_ending_code c || (c == 4)) ≡ true
-    → ((number (kind_of_code c) == 1) || (number (kind_of_code c) == 2)) ≡ false
+ending-code : (c : ℕ) → (is_ending_code c || (c == 4)) ≡ true → is_shared (number (kind_of_code c)) ≡ false
 unfolding is_ending_code kind_of_code number
 ending-code c is = grind (arith, cases_Bool, nat_tests)
 
--- what ends something is of another kind than bold and faint
+-- what ends something is of another kind than bold, faint, italic and Gothic
 end-kind : (t : List ℕ) → is_unknown (kind_of t) ≡ false → is_end t ≡ true
-    → ((number (kind_of t) == 1) || (number (kind_of t) == 2)) ≡ false
+    → is_shared (number (kind_of t)) ≡ false
 unfolding is_end
 end-kind t known end = grind (arith, cases_Bool, nat_tests, kind-code, ending-code)
 
@@ -85,8 +80,7 @@ module _ (s t : List ℕ) (first : IsSetting s) (second : IsSetting t) where
 
   -- one that ends something, and one that sets something else, in either order
   commute : is_unknown (kind_of t) ≡ false → is_unknown (kind_of s) ≡ false → is_end t ≡ true
-      → Sets t → Sets s → replaces t s ≡ false → (p : Pen)
-      → apply t (apply s p) ≡ apply s (apply t p)
+      → Sets t → Sets s → replaces t s ≡ false → (p : Pen) → apply t (apply s p) ≡ apply s (apply t p)
   unfolding replaces
   commute known other end sets-t sets-s none p =
       let later = (all-known t second known).sets in
@@ -132,43 +126,30 @@ open-latest before =
 abbrev IsQuiet : Pen → List ℕ → Type 0
 IsQuiet p t = is_unknown (kind_of t) ≡ false → is_end t ≡ true → apply t p ≡ p
 
-abbrev AreQuiet : Pen → List (List ℕ) → Type 0
-AreQuiet p [] = ⊤
-AreQuiet p (t ∷ ts) = IsQuiet p t × AreQuiet p ts
-
-plain-quiet : (ts : List (List ℕ)) → All IsSetting ts → AreQuiet plain_pen ts
-plain-quiet [] are = tt
-plain-quiet (t ∷ ts) are = (
-  λ known end. (all-known t (All-head IsSetting t ts are) known).ends end,
-  plain-quiet ts (All-tail IsSetting t ts are),
-)
-
 -- those that the table knows, and that set something
 record Setter (t : List ℕ) : Type 0 where
   setting : IsSetting t
   sets : Sets t
 
 stay-quiet : (s : List ℕ) (ts : List (List ℕ)) (p : Pen) → Setter s
-    → is_unknown (kind_of s) ≡ false → All Setter ts
-    → list_any (λ t. replaces t s) ts ≡ false → AreQuiet p ts → AreQuiet (apply s p) ts
-stay-quiet s [] p is known are none quiet = tt
-stay-quiet s (t ∷ ts) p is known are none (one, others) =
-    let own = All-head Setter t ts are in
-    let first : replaces t s ≡ false = grind (arith, cases_Bool) in
-    let rest : list_any (λ t. replaces t s) ts ≡ false = grind (arith, cases_Bool) in (
-      λ other end. commute s t is.setting own.setting other known end own.sets is.sets first p
-          ∙ ap (apply s) (one other end),
-      stay-quiet s ts p is known (All-tail Setter t ts are) rest others,
-    )
+    → is_unknown (kind_of s) ≡ false → All Setter ts → list_any (λ t. replaces t s) ts ≡ false
+    → All (IsQuiet p) ts → All (IsQuiet (apply s p)) ts
+stay-quiet s ts p is known are none quiet = λ k d within other end.
+    let own = are k d within in
+    let left : replaces (get_or ts k d) s ≡ false =
+    grind (arith, cases_Bool, list_any_at (λ t. replaces t s) ts k d within) in
+    commute s (get_or ts k d) is.setting own.setting other known end own.sets is.sets left p
+    ∙ ap (apply s) (quiet k d within other end)
 
-run-effect : (ss : List (List ℕ)) (p : Pen) → All Setter ss → AreLatest ss → AreQuiet p ss
+run-effect : (ss : List (List ℕ)) (p : Pen) → All Setter ss → AreLatest ss → All (IsQuiet p) ss
     → pen_by p (in_effect ss) ≡ pen_by p ss
 run-effect [] p are latest quiet = refl
-run-effect (s ∷ ss) p are (none, latest) (one, others) =
+run-effect (s ∷ ss) p are (none, latest) quiet =
     let rest = All-tail Setter s ss are in
+    let others = All-tail (IsQuiet p) s ss quiet in
     let sets = λ (known : is_unknown (kind_of s) ≡ false). run-effect ss (apply s p) rest latest
     (stay-quiet s ss p (All-head Setter s ss are) known rest none others) in
-    grind (arith, cases_Bool, sets, run-effect ss p rest latest others, one)
+    grind (arith, cases_Bool, sets, run-effect ss p rest latest others, All-head (IsQuiet p) s ss quiet)
 
 -- ---- since all were taken back
 
@@ -178,8 +159,9 @@ reset-plain t is reset p =
     let known : is_unknown (kind_of t) ≡ false =
     grind (arith, cases_Bool, nat_tests, unknown-number (kind_of t)) in
     let all = all-known t is known in
-    all.sets p ∙ ap (λ n. mix (sets n) (apply t plain_pen) p) (eqb-true (number (kind_of t)) 0 reset)
-    ∙ all.ends (many-end t is known (ap (λ b. b || (number (kind_of t) == 3)) reset))
+    let zero = eqb-true (number (kind_of t)) 0 reset in
+    all.sets p ∙ ap (λ n. mix (sets n) (apply t plain_pen) p) zero
+    ∙ all.ends (many-end t is known (ap is_many zero))
 
 -- those since then give the pen that all give
 since-reset : (more before : List (List ℕ)) (p : Pen) → All IsSetting more → pen_by plain_pen before ≡ p
@@ -189,8 +171,7 @@ since-reset (t ∷ more) before p are same =
     let is = All-head IsSetting t more are in
     since-reset more (next_left before t) (apply t p) (All-tail IsSetting t more are)
     (cond_both (resets t) [] (before ++ t ∷ []) (λ ss. pen_by plain_pen ss ≡ apply t p)
-    (λ all. sym (reset-plain t is all p))
-    (λ other. run-append plain_pen before (t ∷ []) ∙ ap (apply t) same))
+    (λ all. sym (reset-plain t is all p)) (λ other. run-append plain_pen before (t ∷ []) ∙ ap (apply t) same))
 
 -- what is open gives the pen that all gave
 pub open-pen : (before : List (List ℕ)) → All IsSetting before
@@ -200,7 +181,9 @@ open-pen before are =
     let settings : All IsSetting (after_last resets before) = All-drop IsSetting _ before are in
     let setters : All Setter (after_last resets before) =
     λ k d within. record { setting = settings k d within; sets = all-since before k d within } in
-    search (rules, arith, run-effect, all-latest, are-latest, plain-quiet, run-latest, since, settings, setters)
+    let quiet : All (IsQuiet plain_pen) (latest (after_last resets before)) =
+    λ k d within known end. (all-known _ (all-latest IsSetting _ settings k d within) known).ends end in
+    search (rules, arith, run-effect, all-latest, are-latest, run-latest, since, settings, setters, quiet)
 
 taken-known : (t : List ℕ) → (taken_fields t == 0) ≡ false → is_unknown (kind_of t) ≡ false
 unfolding kind_of taken_fields is_color_code is_unknown kind_of_code
@@ -218,28 +201,19 @@ first-split : (t : List ℕ) → length (first_setting t) < length t
 unfolding first_setting
 first-split t more = search (rules, arith, first-fields, fields-split)
 
-first-known : (t : List ℕ) → length (first_setting t) < length t
-    → is_unknown (kind_of (first_setting t)) ≡ false
-first-known t more = grind (arith, nat_tests, first-fields t more, taken-known, taken-again)
-
-first-is : (t : List ℕ) → InRange t → length (first_setting t) < length t → IsSetting (first_setting t)
-first-is t range more =
-    All-head IsSetting (first_setting t) (settings (drop (length (first_setting t) + 1) t))
-    (subst (All IsSetting) (settings-next t more) (are-settings t range))
-
 -- what is read of the first one, and of the rest behind it
 first-read : (t : List ℕ) → InRange t → length (first_setting t) < length t → (p : Pen)
     → read t p ≡ read (drop (length (first_setting t) + 1) t) (apply (first_setting t) p)
 first-read t range more p =
-    let known = all-known (first_setting t) (first-is t range more) (first-known t more) in
+    let is : IsSetting (first_setting t) = search (rules, first-again, first-all) in
+    let known = all-known (first_setting t) is
+    (grind (arith, nat_tests, first-fields t more, taken-known, taken-again)) in
     grind (arith, first-split t more, between-append, map-append, fold-append, known.settled)
 
-settings-pen : (n : ℕ) (t : List ℕ) → length t ≤ n → InRange t → (p : Pen)
-    → apply t p ≡ pen_by p (settings t)
+settings-pen : (n : ℕ) (t : List ℕ) → length t ≤ n → InRange t → (p : Pen) → apply t p ≡ pen_by p (settings t)
 settings-pen zero t short range p = search (rules, arith, pen_by, settings-one)
 settings-pen (suc n) t short range p =
-    let rest = settings-pen n in
-    search (rules, arith, rest, first-read, length-drop, drop-all, settings-next, settings-one)
+    search (rules, arith, settings-pen n, first-read, length-drop, drop-all, settings-next, settings-one)
 
 pub parameters-pen : (t : List ℕ) → InRange t → (p : Pen) → apply t p ≡ pen_by p (settings t)
 parameters-pen t = settings-pen (length t) t (omega arith)

@@ -2,27 +2,23 @@
 -- something as in the plain pen, and any other unlike it.
 use Rattle.textwrap_styles.proofs.Common.{apply, between, Color, digits_value, fields, first_of}
 use Rattle.textwrap_styles.proofs.Common.{is_ascii_digit, is_in_range, numbers_of, Pen, plain_pen}
-use Rattle.textwrap_styles.{proofs.PenCodes.{differs_at, is_own, mix, row, sets}, specs.Settings.taken_fields}
+use Rattle.textwrap_styles.proofs.PenCodes.{differs_at, is_many, is_own, mix, row, sets}
 use Rattle.textwrap_styles.proofs.SettingTexts.{between-rest, between-some, code-first, colon-first}
 use Rattle.textwrap_styles.proofs.SettingTexts.{details-cons, details-nil, drop-all, fields-few, fields-many}
 use Rattle.textwrap_styles.proofs.SettingTexts.{first_field, first_number, first_text, first_text-first}
-use Rattle.textwrap_styles.proofs.SettingTexts.{has_colon, InRange, IsSetting}
-use Rattle.textwrap_styles.specs.Pen.{color_of, direct_color, is_whole_color, read, Reading, with_code}
-use Rattle.textwrap_styles.specs.Pen.{with_color, with_field, with_first, with_parts}
-use Rattle.textwrap_styles.specs.Settings.{code, color_fields, details, first_setting, is_color_code, is_end}
-use Rattle.textwrap_styles.specs.Settings.{is_ending_code, is_unknown, kind_of, kind_of_code, number}
-use Rattle.textwrap_text.proofs.Common.{◌+◌, ◌<◌, ◌==◌, [], ap, arith, cases_Bool, drop, eqb-true, false}
-use Rattle.textwrap_text.proofs.Common.{fold, inl, inr, length, length-map, List, map, min, nat_tests}
-use Rattle.textwrap_text.proofs.Common.{prefix_len, refl, rules, sym, true, true≢false, ◌||◌, ℕ, ◌∙◌, ◌∷◌}
-use Rattle.textwrap_text.proofs.Common.{◌≡◌, ◌≢◌, ◌≤◌, ◌⊎◌}
-
--- ---- one field
+use Rattle.textwrap_styles.{proofs.SettingTexts.{has_colon, InRange, IsSetting}, specs.Pen.color_of}
+use Rattle.textwrap_styles.specs.Pen.{direct_color, is_whole_color, read, Reading, with_code, with_color}
+use Rattle.textwrap_styles.specs.{Pen.{with_field, with_first, with_parts}, Settings.{code, color_fields}}
+use Rattle.textwrap_styles.specs.Settings.{details, first_setting, is_color_code, is_end, is_ending_code}
+use Rattle.textwrap_styles.specs.Settings.{is_unknown, kind_of, kind_of_code, number, taken_fields}
+use Rattle.textwrap_text.proofs.Common.{[], ℕ, ◌+◌, ◌<◌, ◌==◌, ◌||◌, ◌∙◌, ◌∷◌, ◌≡◌, ◌≢◌, ◌≤◌, ◌⊎◌, ap, arith}
+use Rattle.textwrap_text.proofs.Common.{cases_Bool, drop, eqb-true, false, fold, inl, inr, length, length-map}
+use Rattle.textwrap_text.proofs.Common.{List, map, min, nat_tests, prefix_len, refl, rules, sym, true}
+use Rattle.textwrap_text.proofs.Common.{true≢false}
 
 -- what a number that stands by itself, or that colons join to others, does
 abbrev pub alone : Pen → Reading
 alone pen = record { pen = pen; color = [] }
-
--- ---- a colour behind semicolons
 
 -- the fields behind 38, 48 or 58 that make a colour: 5 and a number, or 2 and three
 abbrev pub IsColor : List (List ℕ) → Type 0
@@ -39,18 +35,15 @@ behind p c (m ∷ r ∷ g ∷ b ∷ []) (inr (is, len)) = grind (arith, cases_Bo
 behind p c _ (inl (is, len)) = absurd (omega arith)
 behind p c _ (inr (is, len)) = absurd (omega arith)
 
--- one of the numbers that a colour follows, or an underline's
-pub among : (P : ℕ → Type 0) (c : ℕ) → is_color_code c ≡ true → P 38 → P 48 → P 58 → P c
-unfolding is_color_code
-among P c is a b d = grind (arith, cases_Bool, nat_tests, eqb-true)
+color-stays : (c : ℕ) → is_color_code c ≡ true → is_ending_code c ≡ false
+unfolding is_color_code is_ending_code
+color-stays c is = grind (arith, cases_Bool, nat_tests)
 
 -- each of them sets its own field
 pub color-sets : (c : ℕ) (color : Color) → is_color_code c ≡ true → (p : Pen)
     → with_color c color p ≡ mix (sets (number (kind_of_code c))) (with_color c color plain_pen) p
-unfolding with_color kind_of_code number
-color-sets c color is p =
-    among (λ c. with_color c color p
-    ≡ mix (sets (number (kind_of_code c))) (with_color c color plain_pen) p) c is refl refl refl
+unfolding with_color kind_of_code number is_color_code
+color-sets c color is p = grind (arith, cases_Bool, nat_tests)
 
 -- none of them is the terminal's own
 direct-own : (numbers : List ℕ) → is_own (direct_color numbers) ≡ false
@@ -64,10 +57,8 @@ color-own numbers = grind (arith, cases_Bool, direct-own (drop 1 numbers))
 
 color-differs : (c : ℕ) (color : Color) → is_color_code c ≡ true → is_own color ≡ false
     → differs_at (with_color c color plain_pen) (number (kind_of_code c)) ≡ true
-unfolding with_color kind_of_code number differs_at
-color-differs c color is other =
-    among (λ c. differs_at (with_color c color plain_pen) (number (kind_of_code c)) ≡ true) c is
-    (rw other refl) (rw other refl) (rw other refl)
+unfolding with_color kind_of_code number differs_at is_color_code
+color-differs c color is other = grind (arith, cases_Bool, nat_tests, other)
 
 -- ---- what is known of a setting that the table knows
 
@@ -108,11 +99,11 @@ module _ (t : List ℕ) (is : IsSetting t) where
   pub field-len : length (numbers_of (first_field t)) ≡ length (between 0x3A (first_field t))
   field-len = length-map (between 0x3A (first_field t)) (digits_value 10)
 
-  one-field : taken_fields t ≡ 1 → between 0x3B t ≡ first_field t ∷ []
-  one-field taken = grind (arith, cases_Bool, nat_tests, one-of, between-some, fields-few, own-fields)
-
   pub read-one : taken_fields t ≡ 1 → (p : Pen) → read t p ≡ with_field (alone p) (numbers_of (first_field t))
-  read-one taken p = ap (λ fs. fold with_field (alone p) (map numbers_of fs)) (one-field taken)
+  read-one taken p =
+      let one : between 0x3B t ≡ first_field t ∷ [] =
+      grind (arith, cases_Bool, nat_tests, one-of, between-some, fields-few, own-fields) in
+      ap (λ fs. fold with_field (alone p) (map numbers_of fs)) one
 
 pub kind-code : (t : List ℕ) → is_unknown (kind_of t) ≡ false → kind_of t ≡ kind_of_code (code t)
 unfolding kind_of is_unknown
@@ -126,13 +117,10 @@ far-unknown : is_unknown (kind_of_code 255) ≡ true
 unfolding kind_of_code is_unknown
 far-unknown = refl
 
--- 0 and 22 set more than one field
-kind-many : (c : ℕ) → ((number (kind_of_code c) == 0) || (number (kind_of_code c) == 3))
-    ≡ ((c == 0) || (c == 22))
+-- 0, 22 and 23 set more than one field
+kind-many : (c : ℕ) → is_many (number (kind_of_code c)) ≡ ((c == 0) || (c == 22) || (c == 23))
 unfolding kind_of_code number
 kind-many c = grind (arith, cases_Bool, nat_tests)
-
--- ---- the number behind a colon
 
 -- one more character of the first number does not change the later ones
 later-values : (c : ℕ) (texts : List (List ℕ))
@@ -157,8 +145,7 @@ colon-end : (t : List ℕ) → InRange t → has_colon t ≡ true → (code t ==
     → is_end t ≡ (first_of (drop 1 (numbers_of (first_field t))) == 0)
 unfolding is_end
 colon-end t range colon four =
-    let rest = drop 1 (details t) in
-    let value = code-first rest (rest-range t range) in
+    let value = code-first (drop 1 (details t)) (rest-range t range) in
     grind (arith, cases_Bool, nat_tests, value, second-first t range colon)
 
 colon-other : (t : List ℕ) → has_colon t ≡ true → (code t == 4) ≡ false → is_end t ≡ false
@@ -196,9 +183,7 @@ module _ (t : List ℕ) (is : IsSetting t) (known : is_unknown (kind_of t) ≡ f
   plain-differs : has_colon t ≡ false → is_color_code (code t) ≡ false → is_end t ≡ false
       → differs_at (with_code (code t) plain_pen) (number (kind_of t)) ≡ true
   plain-differs none plain stays =
-      let all = (row (code t)).known in
-      let end = plain-end none in
-      grind (arith, cases_Bool, all, kind-code t known, end)
+      grind (arith, cases_Bool, (row (code t)).known, kind-code t known, plain-end none)
 
   plain-known : has_colon t ≡ false → is_color_code (code t) ≡ false → Known t
   unfolding with_field is_color_code
@@ -206,8 +191,7 @@ module _ (t : List ℕ) (is : IsSetting t) (known : is_unknown (kind_of t) ≡ f
       known-by t (with_code (code t)) (λ p.
       grind (arith, cases_Bool, read-one t is (plain-taken none plain) p, field-one none, number-is, plain))
       (λ p. rw (kind-code t known) (rw plain at (row (code t)).sets p))
-      (λ end. rw (sym (plain-end none) ∙ end) at (row (code t)).ends)
-      (plain-differs none plain)
+      (λ end. rw (sym (plain-end none) ∙ end) at (row (code t)).ends) (plain-differs none plain)
 
   -- a colour, however it is written
   color-by : (numbers : List ℕ) → is_color_code (code t) ≡ true → is_end t ≡ false
@@ -281,13 +265,11 @@ module _ (t : List ℕ) (is : IsSetting t) (known : is_unknown (kind_of t) ≡ f
   unfolding is_ending_code
   color-of n none color taken some more makes =
       let many = fields-many n t some more in
-      let few = fields-few (n + 1) t (omega arith)
-      (own-fields t (n + 1) is taken (omega arith)) in
+      let few = fields-few (n + 1) t (omega arith) (own-fields t (n + 1) is taken (omega arith)) in
       let all = between-rest t is.range none (omega arith) in
-      let len : length (between 0x3B t) ≡ length (between 0x3B rest) + 1 =
-      ap length all ∙ omega arith in
+      let len : length (between 0x3B t) ≡ length (between 0x3B rest) + 1 = ap length all ∙ omega arith in
       color-by (map (λ f. first_of (numbers_of f)) (between 0x3B rest)) color
-      (plain-end none ∙ among (λ c. is_ending_code c ≡ false) (code t) color refl refl refl)
+      (plain-end none ∙ color-stays (code t) color)
       (λ p. ap (λ fs. fold with_field (alone p) (map numbers_of fs)) all
       ∙ ap (λ r. fold with_field r (map numbers_of (between 0x3B rest))) (color-first none color p)
       ∙ behind p (code t) (between 0x3B rest) (makes (omega arith)))
@@ -306,7 +288,8 @@ module _ (t : List ℕ) (is : IsSetting t) (known : is_unknown (kind_of t) ≡ f
   all-known = grind (arith, cases_Bool, nat_tests, has_colon, colon-known, color-known, plain-known)
 
   -- one that sets more than one field is an end
-  pub many-end : ((number (kind_of t) == 0) || (number (kind_of t) == 3)) ≡ true → is_end t ≡ true
+  pub many-end : is_many (number (kind_of t)) ≡ true → is_end t ≡ true
   unfolding is_color_code is_ending_code
   many-end many =
-      grind (arith, cases_Bool, nat_tests, kind-many (code t), kind-code t known, colon-code, plain-end)
+      let code-is = sym (kind-many (code t)) ∙ (rw (kind-code t known) at many) in
+      grind (arith, cases_Bool, nat_tests, code-is, colon-code, plain-end)

@@ -30,34 +30,28 @@ links-apart (s ∷ ss) now = links-apart ss (with_sequence now s)
 
 both : (a b : Rendition) → a.pen ≡ b.pen → a.link ≡ b.link → a ≡ b
 both a b pens links =
-    ap (λ p. record { pen = p; link = a.link }) pens
-    ∙ ap (λ l. record { pen = b.pen; link = l }) links
+    ap (λ p. record { pen = p; link = a.link }) pens ∙ ap (λ l. record { pen = b.pen; link = l }) links
 
 -- sequences of the other kind change nothing
 no-settings : (ss : List (List ℕ)) → All (λ s. is_style s ≡ false) ss → flat_map settings_of ss ≡ []
 no-settings [] none = refl
 no-settings (s ∷ ss) none =
-    let one = All-head (λ t. is_style t ≡ false) s ss none in
     let rest = no-settings ss (All-tail (λ t. is_style t ≡ false) s ss none) in
-    grind (arith, cases_Bool, one, rest)
+    grind (arith, cases_Bool, (All-head (λ t. is_style t ≡ false) s ss none), rest)
 
 links-stay : (ss : List (List ℕ)) (link : List ℕ) → All (λ s. is_link s ≡ false) ss
     → fold with_link link ss ≡ link
 links-stay [] link none = refl
 links-stay (s ∷ ss) link none =
-    let one = All-head (λ t. is_link t ≡ false) s ss none in
     let rest = links-stay ss link (All-tail (λ t. is_link t ≡ false) s ss none) in
-    grind (arith, cases_Bool, one, rest)
-
--- ---- what is open
+    grind (arith, cases_Bool, (All-head (λ t. is_link t ≡ false) s ss none), rest)
 
 -- the styles give the pen that all sequences gave
 open-styles-pen : (before : List (List ℕ))
     → pen_by plain_pen (flat_map settings_of (open_styles before)) ≡ (rendition_of before).pen
 open-styles-pen before = search (rules, arith, all-given, open-back, open-pen, all-settings)
 
-next-link : (s : List ℕ) (link : List (List ℕ)) (address : List ℕ)
-    → fold with_link [] link ≡ address
+next-link : (s : List ℕ) (link : List (List ℕ)) (address : List ℕ) → fold with_link [] link ≡ address
     → fold with_link [] (next_link link s) ≡ with_link address s
 next-link s link address same = search (rules, arith, nil_from_length, ltb-false)
 
@@ -77,14 +71,11 @@ pub styles-pen : (before : List (List ℕ))
     → rendition_of (reopened_link before ++ open_styles before) ≡ rendition_of before
 styles-pen before =
     let starts = reopened_link before in
-    both _ (rendition_of before)
-    (all-given (starts ++ open_styles before) plain_rendition
+    both _ (rendition_of before) (all-given (starts ++ open_styles before) plain_rendition
     ∙ grind (arith, flat_map-append, no-settings starts (reopened-plain before), open-styles-pen before))
     (links-apart (starts ++ open_styles before) plain_rendition
     ∙ fold-append with_link [] starts (open_styles before)
     ∙ links-stay (open_styles before) _ (styles-no_link before) ∙ reopened-link before ∙ open-link before)
-
--- ---- what ends them
 
 ends-plain : (now : Rendition) (plain unlinked : Bool) → (plain ≡ true → now.pen ≡ plain_pen)
     → (unlinked ≡ true → now.link ≡ [])
@@ -93,12 +84,10 @@ ends-plain : (now : Rendition) (plain unlinked : Bool) → (plain ≡ true → n
 unfolding with_field with_code
 ends-plain now x1 x2 pen link = search (rules, arith, both)
 
-pub ended : (before : List (List ℕ))
-    → rendition_of (before ++ closing_sequences before) ≡ plain_rendition
+pub ended : (before : List (List ℕ)) → rendition_of (before ++ closing_sequences before) ≡ plain_rendition
 ended before =
     fold-append with_sequence plain_rendition before (closing_sequences before)
     ∙ ends-plain (rendition_of before) _ _
     (λ none. sym (open-styles-pen before) ∙ ap (λ ss. pen_by plain_pen (flat_map settings_of ss))
-    (nil_from_length (open_styles before) (eqb-true _ 0 none)))
-    (λ none. sym (open-link before)
+    (nil_from_length (open_styles before) (eqb-true _ 0 none))) (λ none. sym (open-link before)
     ∙ ap (fold with_link []) (nil_from_length (open_link before) (eqb-true _ 0 none)))

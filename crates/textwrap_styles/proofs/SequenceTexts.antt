@@ -1,19 +1,19 @@
 -- Texts of whole sequences and texts between them: their units, and what they show.
+use lib.Utf8.{encode}
 use Rattle.std.{proofs.lemmas.Bool.agree_below_at, specs.Str.chars}
 use Rattle.textwrap_layout.proofs.Text.Paragraphs.{units-append}
 use Rattle.textwrap_styles.proofs.Common.{closing, concat, IsWhole, link_end, open_link, open_styles}
 use Rattle.textwrap_styles.proofs.Common.{penned_text, plain_rendition, Rendition, rendition_of, sequence_of}
 use Rattle.textwrap_styles.{proofs.Common.{sequences, style_end, with_sequence}, specs.Penned.penned_units}
 use Rattle.textwrap_styles.specs.Styled.{IsWholeText}
-use Rattle.textwrap_text.proofs.Common.{◌++◌, ◌==◌, [], All, All-append, All-cons, All-head, All-nil}
-use Rattle.textwrap_text.proofs.Common.{All-tail, ap, append-nil, arith, Bool, cases_Bool, characters}
-use Rattle.textwrap_text.proofs.Common.{chars-append, chars-nil, chars_from_encodes, codes, cond}
+use Rattle.textwrap_text.proofs.Common.{[], ℕ, ◌++◌, ◌==◌, ◌∙◌, ◌∷◌, ◌≡◌, All, All-append, All-cons, All-head}
+use Rattle.textwrap_text.proofs.Common.{All-nil, All-tail, ap, append-nil, arith, Bool, cases_Bool}
+use Rattle.textwrap_text.proofs.Common.{characters, chars-append, chars-nil, chars_from_encodes, codes, cond}
 use Rattle.textwrap_text.proofs.Common.{encode_utf8_all, encodes-chars, false, flat_map, flat_map-append}
 use Rattle.textwrap_text.proofs.Common.{fold, inl, IsUtf8, IsUtf8-append, IsUtf8-nil, length, List, map, refl}
 use Rattle.textwrap_text.proofs.Common.{rules, Sequence, subst, sym, take, TextUnit, true, units, Visible}
-use Rattle.textwrap_text.proofs.{Common.{visible_of, ℕ, ◌∙◌, ◌∷◌, ◌≡◌}, Texts.{utf8-back, utf8-front}}
-use Rattle.textwrap_text.{proofs.Units.Texts.{units-tile, units_unique}, specs.Units.{ends, visible}}
-use lib.Utf8.{encode}
+use Rattle.textwrap_text.proofs.{Common.visible_of, Texts.{utf8-back, utf8-front}, Units.Texts.units-tile}
+use Rattle.textwrap_text.{proofs.Units.Texts.units_unique, specs.Units.{ends, visible}}
 
 -- ---- the units of texts of whole sequences that are put together
 
@@ -23,11 +23,9 @@ text_units-append xs ys whole =
     ap units (chars-append xs ys whole.0) ∙ units-append (chars xs) (chars ys) whole.1
 
 pub whole_text-append : (xs ys : List ℕ) → IsWholeText xs → IsWholeText ys → IsWholeText (xs ++ ys)
-whole_text-append xs ys first second = (
-  IsUtf8-append xs ys first.0 second.0,
-  subst (All IsWhole) (sym (text_units-append xs ys first))
-      (All-append IsWhole (units (chars xs)) (units (chars ys)) first.1 second.1),
-)
+whole_text-append xs ys first second =
+    let all = All-append IsWhole (units (chars xs)) (units (chars ys)) first.1 second.1 in
+    (IsUtf8-append xs ys first.0 second.0, rw (text_units-append xs ys first) all)
 
 -- ---- a sequence of a text, as a text by itself, and such sequences in a row
 
@@ -50,8 +48,7 @@ unit-sequence s cs utf8 are whole =
 units-sequences : (us : List TextUnit) → IsUtf8 (encode_utf8_all (flat_map characters us))
     → All IsWhole us → All IsSequence (flat_map sequence_of us)
 units-sequences [] utf8 whole = All-nil IsSequence
-units-sequences (Visible c ∷ us) utf8 whole =
-    search (rules, arith, units-sequences us, utf8-back, All-tail)
+units-sequences (Visible c ∷ us) utf8 whole = search (rules, arith, units-sequences us, utf8-back, All-tail)
 units-sequences (Sequence cs ∷ us) utf8 whole =
     let one : IsUtf8 (encode_utf8_all cs) → IsWhole (Sequence cs) → IsSequence (encode_utf8_all cs) =
     λ own. unit-sequence (encode_utf8_all cs) cs own
@@ -62,16 +59,13 @@ units-sequences (Sequence cs ∷ us) utf8 whole =
 pub text-sequences : (text : List ℕ) → IsWholeText text → All IsSequence (sequences text)
 text-sequences text whole = search (rules, arith, units-sequences, units-tile, encodes-chars)
 
--- ---- sequences in a row
-
 abbrev pub sequence_units : List (List ℕ) → List TextUnit
 sequence_units xs = map (λ s. Sequence (chars s)) xs
 
 sequence-whole : (s : List ℕ) → IsSequence s → IsWholeText s
 sequence-whole s is = search (rules, arith, All-cons)
 
-pub concat-units : (xs : List (List ℕ)) → All IsSequence xs
-    → units (chars (concat xs)) ≡ sequence_units xs
+pub concat-units : (xs : List (List ℕ)) → All IsSequence xs → units (chars (concat xs)) ≡ sequence_units xs
 concat-units [] are = ap units chars-nil
 concat-units (s ∷ xs) are =
     let is = All-head IsSequence s xs are in
@@ -86,8 +80,7 @@ concat-whole [] are = nil-whole
 concat-whole (s ∷ xs) are =
     search (rules, arith, whole_text-append, sequence-whole, concat-whole xs, All-head, All-tail)
 
-pub units-again : (xs : List (List ℕ)) → All IsSequence xs
-    → flat_map sequence_of (sequence_units xs) ≡ xs
+pub units-again : (xs : List (List ℕ)) → All IsSequence xs → flat_map sequence_of (sequence_units xs) ≡ xs
 units-again [] are = refl
 units-again (s ∷ xs) are =
     let own = encodes-chars s (All-head IsSequence s xs are).utf8 in
@@ -126,13 +119,7 @@ one-sequence s true is = All-nil IsSequence
 one-sequence s false is = All-cons IsSequence s [] is (All-nil IsSequence)
 
 pub closing-sequences : (before : List (List ℕ)) → All IsSequence (closing_sequences before)
-closing-sequences before =
-    let plain = length (open_styles before) == 0 in
-    let unlinked = length (open_link before) == 0 in
-    All-append IsSequence (cond plain [] (style_end ∷ [])) (cond unlinked [] (link_end ∷ []))
-    (one-sequence style_end plain style_end-is) (one-sequence link_end unlinked link_end-is)
-
--- ---- what units show
+closing-sequences before = search (rules, arith, All-append, one-sequence, style_end-is, link_end-is)
 
 pub penned-append : (us vs : List TextUnit) (now : Rendition)
     → penned_units now (us ++ vs) ≡ penned_units now us
@@ -149,11 +136,6 @@ sequences-show (s ∷ xs) now = sequences-show xs (with_sequence now (encode_utf
 
 -- ---- what stands before a text, and the text, between sequences: its units, and what it shows
 
-flat_map-four : {X A : Type 0} (f : X → List A) (xs ys zs ws : List X)
-    → flat_map f (xs ++ ys ++ zs ++ ws)
-    ≡ flat_map f xs ++ flat_map f ys ++ flat_map f zs ++ flat_map f ws
-flat_map-four f xs ys zs ws = simp flat_map-append
-
 module _ (front text : List ℕ) (starts ends : List (List ℕ)) (front_whole : IsWholeText front)
     (text_whole : IsWholeText text) (are_starts : All IsSequence starts)
     (are_ends : All IsSequence ends) where
@@ -163,12 +145,11 @@ module _ (front text : List ℕ) (starts ends : List (List ℕ)) (front_whole : 
 
   pub parts-sequences : sequences (front ++ concat starts ++ text ++ concat ends)
       ≡ sequences front ++ starts ++ sequences text ++ ends
-  parts-sequences = grind (arith, parts-units, flat_map-four, units-again)
+  parts-sequences = grind (arith, parts-units, flat_map-append, units-again)
 
   pub parts-visible : visible (chars (front ++ concat starts ++ text ++ concat ends))
       ≡ visible (chars (front ++ text))
-  parts-visible =
-      search (rules, arith, parts-units, flat_map-four, none-visible, flat_map-append, text_units-append)
+  parts-visible = search (rules, arith, parts-units, none-visible, flat_map-append, text_units-append)
 
   -- where what sets anew what is open gives this
   pub parts-penned : (now : Rendition) → rendition_of (sequences front ++ starts) ≡ now

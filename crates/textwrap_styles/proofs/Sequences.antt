@@ -37,8 +37,7 @@ style_start = codes "\u{1b}["
 pub not_style : (rest : List ℕ) → ((before : List ℕ) → rest ≢ before ++ codes "m")
     → is_style (codes "\u{1b}[" ++ rest) ≡ false
 not_style [] lacks = refl
-not_style (c ∷ cs) lacks =
-    grind (arith, ends_with-after style_start (c ∷ cs) (codes "m") (omega arith) lacks)
+not_style (c ∷ cs) lacks = grind (arith, ends_with-after style_start (c ∷ cs) (codes "m") (omega arith) lacks)
 
 pub style_parameters-is : (parameters : List ℕ)
     → style_parameters (codes "\u{1b}[" ++ (parameters ++ codes "m")) ≡ parameters
@@ -48,8 +47,7 @@ pub style-is : (parameters : List ℕ) → is_style (codes "\u{1b}[" ++ (paramet
     ≡ list_all (is_in_range 0x30 0x3B) parameters
 style-is parameters =
     let whole = style_start ++ (parameters ++ codes "m") in
-    let ended = ends_with-true (codes "m") whole (style_start ++ parameters) refl in
-    grind (arith, style_parameters-is, ended)
+    grind (arith, style_parameters-is, ends_with-true (codes "m") whole (style_start ++ parameters) refl)
 
 -- ---- links
 
@@ -66,15 +64,10 @@ terminator = codes "\u{1b}\\"
 pub not_link : (rest : List ℕ) → ((before : List ℕ) → rest ≢ before ++ bell)
     → ((before : List ℕ) → rest ≢ before ++ terminator) → is_link (link_start ++ rest) ≡ false
 not_link [] no_bell none = refl
-not_link (c ∷ []) no_bell none =
-    grind (arith, ends_with-after link_start (c ∷ []) bell (omega arith) no_bell)
+not_link (c ∷ []) no_bell none = grind (arith, ends_with-after link_start (c ∷ []) bell (omega arith) no_bell)
 not_link (c ∷ d ∷ rest) no_bell none =
-    let whole = c ∷ d ∷ rest in
-    grind (
-      arith,
-      ends_with-after link_start whole bell (omega arith) no_bell,
-      ends_with-after link_start whole terminator (omega arith) none,
-    )
+    let after = ends_with-after link_start (c ∷ d ∷ rest) in
+    grind (arith, after bell (omega arith) no_bell, after terminator (omega arith) none)
 
 -- these are the fields of a link's command, and a semicolon makes it a link
 pub record IsAround (sequence fields : List ℕ) : Type 0 where
@@ -99,8 +92,7 @@ around-terminator fields =
     let silent : ends_with nat_eq whole bell ≡ false =
     ends_with-other whole (link_start ++ (fields ++ codes "\u{1b}")) 92 7 (λ e. cc)
     (ap (λ l. link_start ++ l) (sym (append_assoc fields (codes "\u{1b}") (codes "\\")))) in
-    around fields terminator false silent
-    (ends_with-true terminator whole (link_start ++ fields) refl) refl
+    around fields terminator false silent (ends_with-true terminator whole (link_start ++ fields) refl) refl
 
 -- the fields stand before whichever end is found
 pub link-cases : (sequence rest : List ℕ) (first second : Option (Bor (List ℕ)))
@@ -109,14 +101,12 @@ pub link-cases : (sequence rest : List ℕ) (first second : Option (Bor (List �
     (λ fields. StripsSuffix (FindsTextSuffix (codes "\u{7}")) rest fields.now)
     → MatchOption second ((before : List ℕ) → rest ≢ before ++ codes "\u{1b}\\")
     (λ fields. StripsSuffix (FindsTextSuffix (codes "\u{1b}\\")) rest fields.now)
-    → MatchOption (option_or first second) (is_link sequence ≡ false)
-    (λ fields. IsAround sequence fields.now)
+    → MatchOption (option_or first second) (is_link sequence ≡ false) (λ fields. IsAround sequence fields.now)
 link-cases sequence rest (Some fields) second whole strips _ =
     let is = whole ∙ ap (λ l. link_start ++ l) (stripped_suffix bell rest fields.now strips) in
     subst (λ l. IsAround l fields.now) (sym is) (around-bell fields.now)
 link-cases sequence rest None (Some fields) whole none strips =
-    let is = whole
-    ∙ ap (λ l. link_start ++ l) (stripped_suffix terminator rest fields.now strips) in
+    let is = whole ∙ ap (λ l. link_start ++ l) (stripped_suffix terminator rest fields.now strips) in
     subst (λ l. IsAround l fields.now) (sym is) (around-terminator fields.now)
 link-cases sequence rest None None whole no_bell none = ap is_link whole ∙ not_link rest no_bell none
 
@@ -147,29 +137,16 @@ module _ (text : List ℕ) where
   module _ (place : ℕ) (rest : List ℕ) (state : State) (h : IsReadTo text place rest state) where
     pub read_to-step : (end c : ℕ) (after : List ℕ) → state ≢ Text → rest ≡ encode_utf8 c ++ after
         → end ≡ place + length (encode_utf8 c) → IsReadTo text end after (next_of state c)
-    read_to-step end c after inside is past = record {
-      read = read-next h.read c after is end past;
-      tail = omega (
-        arith,
-        h.tail,
-        past,
-        ap (tail_in state) (read-ahead h.read c after is),
-        tail-step state c (chars after) inside,
-      );
-    }
+    read_to-step end c after inside is past =
+        let step = tail-step state c (chars after) inside in
+        let tail : tail_len text ≡ end + tail_in (next_of state c) (chars after) =
+        omega (arith, h.tail, past, ap (tail_in state) (read-ahead h.read c after is), step) in
+        record { read = read-next h.read c after is end past; tail = tail }
 
     pub read_to-end : length rest ≡ 0 → length text ≡ tail_len text
     read_to-end none =
-        let nothing = take_all (taken_in state []) [] (omega arith) in
-        omega (
-          arith,
-          h.tail,
-          read-all h.read none,
-          ap (tail_in state) (read-none h.read none),
-          ap (λ cs. length (encode_utf8_all cs)) nothing,
-        )
-
--- ---- among characters
+        let empty = ap (λ cs. length (encode_utf8_all cs)) (take_all (taken_in state []) [] (omega arith)) in
+        omega (arith, h.tail, read-all h.read none, ap (tail_in state) (read-none h.read none), empty)
 
 abbrev sequences_in : List ℕ → List (List ℕ)
 sequences_in cs = flat_map sequence_of (units cs)
@@ -187,18 +164,13 @@ sequences_in-escape cs =
     ap (λ us. encode_utf8_all (27 ∷ take (escape_len cs) cs) ∷ flat_map sequence_of us)
     (units_past-skip (escape_len cs) cs)
 
--- ---- in a text
-
-pub no_sequences : (text : List ℕ) → IsUtf8 text → NoCharPasses (λ c. eqb c 27) text
-    → sequences text ≡ []
+pub no_sequences : (text : List ℕ) → IsUtf8 text → NoCharPasses (λ c. eqb c 27) text → sequences text ≡ []
 no_sequences text utf8 plain =
     let are : plain.0 ≡ chars text = chars_from_encodes plain.0 text utf8 plain.1 in
-    ap sequences_in (sym are ∙ sym (append-nil plain.0))
-    ∙ sequences_in-plain plain.0 [] plain.2
+    ap sequences_in (sym are ∙ sym (append-nil plain.0)) ∙ sequences_in-plain plain.0 [] plain.2
 
 -- where the sequence of an ESC ends, by what stands before that and after it
-module _ (text before after : List ℕ) (utf8 : IsUtf8 text)
-    (whole : text ≡ before ++ 27 ∷ after) where
+module _ (text before after : List ℕ) (utf8 : IsUtf8 text) (whole : text ≡ before ++ 27 ∷ after) where
   abbrev pub end_of : ℕ
   end_of = length before + 1 + tail_len after
 
@@ -212,12 +184,10 @@ module _ (text before after : List ℕ) (utf8 : IsUtf8 text)
   rest = drop (escape_len (chars after)) (chars after)
 
   cut : IsCut after taken rest
-  cut = cut_text after taken rest seam.back
-      (sym (take-append-drop (escape_len (chars after)) (chars after)))
+  cut = cut_text after taken rest seam.back (sym (take-append-drop (escape_len (chars after)) (chars after)))
 
   past : drop (length before + 1) text ≡ after
-  past = ap (drop (length before + 1)) whole
-      ∙ drop-append-add before (27 ∷ after) 1
+  past = ap (drop (length before + 1)) whole ∙ drop-append-add before (27 ∷ after) 1
 
   pub end-boundary : IsCharBoundary text end_of
   end-boundary = IsCharBoundary-from_rest text (length before + 1) (tail_len after)
@@ -236,8 +206,7 @@ module _ (text before after : List ℕ) (utf8 : IsUtf8 text)
       (ap (λ l. l ++ after) (sym (encode_ascii 27 (omega arith)))))
 
   -- the first sequence of the text, and those of what follows it
-  pub sequences-next : NoCharPasses (λ c. eqb c 27) before
-      → sequences text
+  pub sequences-next : NoCharPasses (λ c. eqb c 27) before → sequences text
       ≡ slice_range text (length before) end_of ∷ sequences (drop end_of text)
   sequences-next plain =
       let are = chars_from_encodes plain.0 before seam.front plain.1 in
@@ -256,8 +225,7 @@ open_link-push before s = grind (arith, cases_Bool, filter-append, last_one-push
 
 -- it is one of the links, or there is none: what holds of all sequences holds of it
 pub open_link-cases : (Q : List ℕ → Type 0) (P : List (List ℕ) → Type 0) (before : List (List ℕ))
-    → All Q before → P [] → ((s : List ℕ) → is_link s ≡ true → Q s → P (s ∷ []))
-    → P (open_link before)
+    → All Q before → P [] → ((s : List ℕ) → is_link s ≡ true → Q s → P (s ∷ [])) → P (open_link before)
 open_link-cases Q P before all none one =
     by (filter is_link before) (filter_passes is_link before) (All-filter is_link Q before all)
   where

@@ -1,17 +1,15 @@
 -- The fields of parameters, as the table of the settings and as a pen read them, and settings, each
 -- of which is its own first one.
 use Rattle.std.proofs.lemmas.List.Sums.{AllPass-from_list_all, list_all-from_AllPass, take_while-cons}
-use Rattle.std.specs.Prelude.{nat_le}
 use Rattle.textwrap_styles.proofs.Common.{between, digits_value, fields, first_of, is_ascii_digit}
 use Rattle.textwrap_styles.{proofs.Common.{is_in_range, numbers_of, settings}, specs.Pen.with_first}
 use Rattle.textwrap_styles.specs.Settings.{code, color_fields, details, first_setting, settings_past}
 use Rattle.textwrap_styles.specs.Settings.{taken_fields}
-use Rattle.textwrap_text.proofs.Common.{◌+◌, ◌++◌, ◌-◌, ◌<◌, ◌==◌, [], All, All-cons, All-drop, All-nil}
-use Rattle.textwrap_text.proofs.Common.{All-take, and_parts, ap, arith, Bool, cases_Bool, codes, cond}
-use Rattle.textwrap_text.proofs.Common.{cond_both, drop, drop_all, drop_more, false, length, length-take}
+use Rattle.textwrap_text.proofs.Common.{[], ℕ, ◌++◌, ◌+◌, ◌-◌, ◌<◌, ◌==◌, ◌∙◌, ◌∷◌, ◌≡◌, ◌≢◌, ◌≤◌, All}
+use Rattle.textwrap_text.proofs.Common.{All-cons, All-drop, All-nil, All-take, ap, arith, Bool, cases_Bool}
+use Rattle.textwrap_text.proofs.Common.{codes, cond, drop, drop_all, drop_more, false, length, length-take}
 use Rattle.textwrap_text.proofs.Common.{List, list_all, map, min, nat_eq, nat_tests, not, refl, rules}
 use Rattle.textwrap_text.proofs.Common.{starts_with, subst, suc, sym, take, take_all, take_while, true, zero}
-use Rattle.textwrap_text.proofs.Common.{ℕ, ◌∙◌, ◌∷◌, ◌≡◌, ◌≢◌, ◌≤◌}
 
 -- ---- the first fields of parameters
 
@@ -28,24 +26,19 @@ semicolon-no_digit : (c : ℕ) → (c == 0x3B) ≡ true → is_ascii_digit c ≡
 semicolon-no_digit c is = grind (arith, cases_Bool, nat_tests)
 
 -- the digits that they begin with
-fields-digits : (n : ℕ) (t : List ℕ)
-    → take_while is_ascii_digit (fields n t) ≡ take_while is_ascii_digit t
+fields-digits : (n : ℕ) (t : List ℕ) → take_while is_ascii_digit (fields n t) ≡ take_while is_ascii_digit t
 fields-digits n [] = refl
 fields-digits n (c ∷ cs) =
-    cond_both (c == 0x3B) (cond (nat_le n 1) [] (c ∷ fields (n - 1) cs)) (c ∷ fields n cs)
-    (λ l. take_while is_ascii_digit l ≡ take_while is_ascii_digit (c ∷ cs))
-    (λ is. grind (arith, cases_Bool, semicolon-no_digit c is, take_while-cons))
-    (λ other. take_while-cons is_ascii_digit c (fields n cs)
-    ∙ ap (λ l. cond (is_ascii_digit c) (c ∷ l) []) (fields-digits n cs)
-    ∙ sym (take_while-cons is_ascii_digit c cs))
+    let cons = take_while-cons is_ascii_digit c in
+    let rest = fields-digits n cs in
+    grind (arith, cases_Bool, semicolon-no_digit, cons cs, cons (fields n cs), cons (fields (n - 1) cs), rest)
 
 fields-code : (n : ℕ) (t : List ℕ) → code (fields n t) ≡ code t
 unfolding code
 fields-code n t = ap (λ ds. min 255 (digits_value 10 ds)) (fields-digits n t)
 
 -- what follows these
-pub details-cons : (c : ℕ) (cs : List ℕ)
-    → details (c ∷ cs) ≡ cond (is_ascii_digit c) (details cs) (c ∷ cs)
+pub details-cons : (c : ℕ) (cs : List ℕ) → details (c ∷ cs) ≡ cond (is_ascii_digit c) (details cs) (c ∷ cs)
 unfolding details
 details-cons c cs = grind (arith, cases_Bool, nat_tests)
 
@@ -82,8 +75,7 @@ fields-longer n (c ∷ cs) some more =
 
 -- ---- the first setting is its own first one
 
-color-again : (t : List ℕ) (mode n : ℕ) → color_fields t mode ≡ n → n ≢ 0
-    → color_fields (fields n t) mode ≡ n
+color-again : (t : List ℕ) (mode n : ℕ) → color_fields t mode ≡ n → n ≢ 0 → color_fields (fields n t) mode ≡ n
 unfolding color_fields
 color-again t mode n is some = grind (arith, cases_Bool, nat_tests, fields-same, fields-longer)
 
@@ -117,7 +109,7 @@ pub drop-all : (p : ℕ → Bool) (n : ℕ) (s : List ℕ) → list_all p s ≡ 
 drop-all p n s all =
     list_all-from_AllPass p (drop n s) (All-drop (λ c. p c ≡ true) n s (AllPass-from_list_all p s all))
 
-first-all : (p : ℕ → Bool) (t : List ℕ) → list_all p t ≡ true → list_all p (first_setting t) ≡ true
+pub first-all : (p : ℕ → Bool) (t : List ℕ) → list_all p t ≡ true → list_all p (first_setting t) ≡ true
 first-all p t all =
     subst (λ s. list_all p s ≡ true) (first-take t) (take-all p (length (first_setting t)) t all)
 
@@ -167,8 +159,7 @@ pub between-some : (sign : ℕ) (t : List ℕ) → 1 ≤ length (between sign t)
 between-some sign [] = omega arith
 between-some sign (c ∷ cs) = grind (arith, cases_Bool, nat_tests, between-some sign cs)
 
-texts-len : (c : ℕ) (texts : List (List ℕ)) → 1 ≤ length texts
-    → length (with_first c texts) ≡ length texts
+texts-len : (c : ℕ) (texts : List (List ℕ)) → 1 ≤ length texts → length (with_first c texts) ≡ length texts
 texts-len c [] some = absurd (omega arith)
 texts-len c (t ∷ texts) some = refl
 
@@ -181,15 +172,12 @@ pub between-append : (a b : List ℕ) → between 0x3B (a ++ 0x3B ∷ b) ≡ bet
 between-append [] b = refl
 between-append (c ∷ a) b = search (rules, arith, between-append a b, between-some, first-append)
 
--- ---- how many there are
-
 pub fields-few : (n : ℕ) (t : List ℕ) → 1 ≤ n → fields n t ≡ t → length (between 0x3B t) ≤ n
 fields-few n [] some all = omega arith
 fields-few n (c ∷ cs) some all =
     search (rules, arith, fields-few n cs some, fields-few (n - 1) cs, texts-len, between-some)
 
-pub fields-many : (n : ℕ) (t : List ℕ) → 1 ≤ n → length (fields n t) < length t
-    → n < length (between 0x3B t)
+pub fields-many : (n : ℕ) (t : List ℕ) → 1 ≤ n → length (fields n t) < length t → n < length (between 0x3B t)
 fields-many n [] some more = absurd (omega arith)
 fields-many n (c ∷ cs) some more =
     search (rules, arith, fields-many n cs some, fields-many (n - 1) cs, texts-len, between-some)
@@ -226,21 +214,13 @@ first_field t = first_text (between 0x3B t)
 abbrev pub InRange : List ℕ → Type 0
 InRange t = list_all (is_in_range 0x30 0x3B) t ≡ true
 
-digit-step : (c : ℕ) (digits field : List ℕ) → is_in_range 0x30 0x3B c ≡ true
-    → digits ≡ first_text (between 0x3A field)
-    → cond (is_ascii_digit c) (c ∷ digits) []
-    ≡ first_text (between 0x3A (cond (c == 0x3B) [] (c ∷ field)))
-digit-step c digits field range are = grind (arith, cases_Bool, nat_tests, text-cons)
-
 digits-first : (t : List ℕ) → InRange t
     → take_while is_ascii_digit t ≡ first_text (between 0x3A (first_field t))
 digits-first [] all = refl
 digits-first (c ∷ cs) all =
-    let parts = and_parts (is_in_range 0x30 0x3B c) (list_all (is_in_range 0x30 0x3B) cs) all in
-    take_while-cons is_ascii_digit c cs
-    ∙ digit-step c (take_while is_ascii_digit cs) (first_field cs) parts.0
-    (digits-first cs parts.1)
-    ∙ sym (ap (λ f. first_text (between 0x3A f)) (text-cons 0x3B c cs))
+    let cons = take_while-cons is_ascii_digit c cs in
+    let rest = digits-first cs in
+    grind (arith, cases_Bool, nat_tests, cons, text-cons 0x3B c cs, text-cons 0x3A c (first_field cs), rest)
 
 pub first-value : (texts : List (List ℕ))
     → first_of (map (digits_value 10) texts) ≡ digits_value 10 (first_text texts)
@@ -260,8 +240,7 @@ code-first t all = grind (arith, cases_Bool, nat_tests, digits-first, first-valu
 abbrev pub has_colon : List ℕ → Bool
 has_colon t = starts_with nat_eq (details t) (codes ":")
 
-pub colon-first : (t : List ℕ) → InRange t
-    → has_colon t ≡ not (length (between 0x3A (first_field t)) == 1)
+pub colon-first : (t : List ℕ) → InRange t → has_colon t ≡ not (length (between 0x3A (first_field t)) == 1)
 colon-first [] all = ap (λ l. starts_with nat_eq l (codes ":")) details-nil
 colon-first (c ∷ cs) all =
     let some = between-some 0x3A (first_field cs) in

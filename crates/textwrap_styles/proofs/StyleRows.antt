@@ -1,120 +1,77 @@
 -- Worked rows on what parameters do to the plain pen, on what sequences leave open, and on what the
 -- visible characters of a text are written with. In a text `\u{1b}` is ESC.
+use lib.Utf8.{encode}
 use Rattle.std.specs.Str.{chars}
-use Rattle.textwrap_layout.specs.Paragraph.{Built, Slice}
-use Rattle.textwrap_styles.proofs.Common.{apply, carried_lines, has_target, is_link, is_style, open_settings}
-use Rattle.textwrap_styles.proofs.Common.{open_styles, Pen, penned_lines, plain_pen, plain_rendition}
-use Rattle.textwrap_styles.{proofs.Common.settings, specs.Pen.{with_field, with_parts}}
+use Rattle.textwrap_styles.proofs.Common.{apply, has_target, is_link, is_style, open_settings, open_styles}
+use Rattle.textwrap_styles.proofs.Common.{Pen, penned_lines, plain_pen, plain_rendition, Rendition, settings}
 use Rattle.textwrap_styles.specs.Pen.{color_of, Direct, Indexed, is_whole_color, Other, with_code, with_color}
-use Rattle.textwrap_styles.specs.Settings.{code, color_fields, details, first_setting, is_color_code, is_end}
+use Rattle.textwrap_styles.specs.{Pen.{with_field, with_parts}, Penned.PennedCharacter, Settings.code}
+use Rattle.textwrap_styles.specs.Settings.{color_fields, details, first_setting, is_color_code, is_end}
 use Rattle.textwrap_styles.specs.Settings.{is_ending_code, is_unknown, kind_of, kind_of_code, number}
 use Rattle.textwrap_styles.specs.Settings.{replaces, taken_fields, takes_back}
-use Rattle.textwrap_text.proofs.Common.{◌++◌, [], codes, false, List, refl, true, ℕ, ◌∷◌, ◌≡◌}
-use lib.Utf8.{encode}
+use Rattle.textwrap_text.proofs.Common.{[], ℕ, ◌++◌, ◌∷◌, ◌≡◌, codes, false, List, map, refl, true}
 
-abbrev Gives : List ℕ → Pen → Type 0
-Gives parameters pen = apply parameters plain_pen ≡ pen
+-- the pens that parameters give, where nothing is set before them
+abbrev Give : List (List ℕ × Pen) → Type 0
+Give rows = map (λ row. apply row.0 plain_pen) rows ≡ map (λ row. row.1) rows
 
 -- 22 ends bold and faint, and nothing else; 39 ends the foreground, and 49 the background; 24 ends
--- every underline, but not its colour, which 59 ends
-ended : Gives (codes "1;2;3;22") (record plain_pen { italic = true })
-    × Gives (codes "31;42;39") (record plain_pen { background = Indexed 2 })
-    × Gives (codes "31;42;49") (record plain_pen { foreground = Indexed 1 })
-    × Gives (codes "4;58;5;9;24") (record plain_pen { underline_color = Indexed 9 })
-    × Gives (codes "21;58;5;9;59") (record plain_pen { underline = 2 })
-    × Gives (codes "4:3") (record plain_pen { underline = 3 })
-    × Gives (codes "4:3;4:0") plain_pen × Gives (codes "4:3;4:0:3") plain_pen
+-- every underline, but not its colour, which 59 ends; 0, no number and no parameter end all, and
+-- what is unknown is passed over
+ended : Give ((codes "1;2;3;22", record plain_pen { italic = true })
+    ∷ (codes "31;42;39", record plain_pen { background = Indexed 2 })
+    ∷ (codes "31;42;49", record plain_pen { foreground = Indexed 1 })
+    ∷ (codes "4;58;5;9;24", record plain_pen { underline_color = Indexed 9 })
+    ∷ (codes "21;58;5;9;59", record plain_pen { underline = 2 })
+    ∷ (codes "4:3", record plain_pen { underline = 3 }) ∷ (codes "4:3;4:0", plain_pen)
+    ∷ (codes "4:3;4:0:3", plain_pen) ∷ (codes "1;4:3;38;5;1;0;53", record plain_pen { overlined = true })
+    ∷ (codes "1;;53", record plain_pen { overlined = true })
+    ∷ (codes "1:2;56;200;31", record plain_pen { foreground = Indexed 1 }) ∷ (codes "99;39", plain_pen)
+    ∷ (codes "1;26;22", plain_pen) ∷ []) × (apply [] (apply (codes "1;31") plain_pen) ≡ plain_pen)
 unfolding with_field with_code with_parts is_whole_color with_color color_of
-ended = (refl, refl, refl, refl, refl, refl, refl, refl)
+ended = (refl, refl)
 
 -- colours of the table, and by red, green and blue, with a space of colours or without one between
 -- colons; what follows them is read on. A colour that is not whole does nothing, and takes what
 -- follows. 90 to 107 are the eight colours behind the first
-colors : Gives (codes "38;5;196;1") (record plain_pen { foreground = Indexed 196; bold = true })
-    × Gives (codes "48;2;1;2;3;7") (record plain_pen { background = Direct 1 2 3; inverse = true })
-    × Gives (codes "38:2::1:2:3;58:5:7")
-    (record plain_pen { foreground = Direct 1 2 3; underline_color = Indexed 7 })
-    × Gives (codes "48:2:4:5:6") (record plain_pen { background = Direct 4 5 6 })
-    × Gives (codes "38:3:1:2:3") (record plain_pen { foreground = Other (3 ∷ 1 ∷ 2 ∷ 3 ∷ []) })
-    × Gives (codes "1;38;2;31") (record plain_pen { bold = true })
-    × Gives (codes "91;102") (record plain_pen { foreground = Indexed 9; background = Indexed 10 })
+colors : Give ((codes "38;5;196;1", record plain_pen { foreground = Indexed 196; bold = true })
+    ∷ (codes "48;2;1;2;3;7", record plain_pen { background = Direct 1 2 3; inverse = true })
+    ∷ (codes "38:2::1:2:3;58:5:7", record plain_pen { underline_color = Indexed 7; foreground = Direct 1 2 3 })
+    ∷ (codes "48:2:4:5:6", record plain_pen { background = Direct 4 5 6 })
+    ∷ (codes "38:3:1:2:3", record plain_pen { foreground = Other (3 ∷ 1 ∷ 2 ∷ 3 ∷ []) })
+    ∷ (codes "1;38;2;31", record plain_pen { bold = true })
+    ∷ (codes "91;102", record plain_pen { foreground = Indexed 9; background = Indexed 10 }) ∷ [])
 unfolding with_field with_code with_parts is_whole_color with_color color_of
-colors = (refl, refl, refl, refl, refl, refl, refl)
-
--- 0, no number and no parameter end all, and what is unknown is passed over
-all-ended : Gives (codes "1;4:3;38;5;1;0;53") (record plain_pen { overlined = true })
-    × Gives (codes "1;;53") (record plain_pen { overlined = true })
-    × (apply [] (apply (codes "1;31") plain_pen) ≡ plain_pen)
-    × Gives (codes "1:2;56;200;31") (record plain_pen { foreground = Indexed 1 })
-unfolding with_field with_code with_parts is_whole_color with_color color_of
-all-ended = (refl, refl, refl, refl)
+colors = refl
 
 -- the others, each set and ended
-others-set : Gives (codes "3;6;7;8;9;12;52;53;2")
-    (record plain_pen {
-      italic = true;
-      blink = 2;
-      inverse = true;
-      hidden = true;
-      crossed_out = true;
-      font = 2;
-      framed = 2;
-      overlined = true;
-      faint = true;
-    })
-    × Gives (codes "3;6;7;8;9;12;52;53;2;23;25;27;28;29;10;54;55;22") plain_pen
+others-set : Give ((codes "3;20;6", record plain_pen { italic = true; gothic = true; blink = 2 })
+    ∷ (codes "8;9;12;52", record plain_pen { hidden = true; crossed_out = true; font = 2; framed = 2 })
+    ∷ (codes "7;53;2", record plain_pen { inverse = true; overlined = true; faint = true })
+    ∷ (codes "3;20;6;7;8;9;12;52;53;2;23;25;27;28;29;10;54;55;22", plain_pen) ∷ [])
 unfolding with_field with_code
-others-set = (refl, refl)
+others-set = refl
 
--- ---- worked rows on what the table leaves open
-
-colors-ended : open_settings (settings (codes "4:3;4:0:3;38:5:1;39;48:5:1;49;58:2:1:2:3;59;38;5;1;39"
-    ++ codes ";48;2;1;2;3;49;58;5;1;59"))
-    ≡ []
-unfolding first_setting taken_fields code details kind_of kind_of_code is_color_code is_unknown color_fields takes_back replaces is_end is_ending_code number
-colors-ended = refl
-
--- an end is open behind what the table does not know, and this may end what it knows
-unknown-open : (open_settings (codes "99" ∷ codes "39" ∷ []) ≡ codes "99" ∷ codes "39" ∷ [])
+-- an end is open behind what the table does not know, and this may end what it knows; of an
+-- attribute the last setting is open, and none that ended
+left-open : (open_settings (settings (codes "4:3;4:0:3;38:5:1;39;48:5:1;49;58:2:1:2:3;59;38;5;1;39"
+    ++ codes ";48;2;1;2;3;49;58;5;1;59")) ≡ [])
+    × (open_settings (codes "99" ∷ codes "39" ∷ []) ≡ codes "99" ∷ codes "39" ∷ [])
     × (open_settings (codes "1" ∷ codes "26;22" ∷ []) ≡ codes "1" ∷ codes "26;22" ∷ [])
-    × Gives (codes "99;39") plain_pen × Gives (codes "1;26;22") plain_pen
-unfolding first_setting taken_fields code details kind_of kind_of_code is_color_code is_unknown color_fields takes_back replaces is_end is_ending_code number with_field with_code
-unknown-open = (refl, refl, refl, refl)
-
-bold-is_style : is_style (codes "\u{1b}[1m") ≡ true
-bold-is_style = refl
-
-link-is : is_link (codes "\u{1b}]8;id=1;http://x\u{7}") ≡ true
-link-is = refl
-
-link-target : has_target (codes "\u{1b}]8;;\u{1b}\\") ≡ false
-link-target = refl
-
-bold-carried : carried_lines (codes "> ") (codes "> ") [] (codes "> a \u{1b}[1mb" ∷ codes "> c"
-    ∷ codes "> d\u{1b}[m" ∷ codes "> e" ∷ [])
-    ≡ Built (codes "> a \u{1b}[1mb\u{1b}[0m") ∷ Built (codes "> \u{1b}[1mc\u{1b}[0m")
-    ∷ Built (codes "> \u{1b}[1md\u{1b}[m") ∷ Slice (codes "> e") ∷ []
-unfolding chars encode first_setting taken_fields code details kind_of kind_of_code is_color_code is_unknown color_fields takes_back replaces is_end is_ending_code number
-bold-carried = refl
-
--- of an attribute the last setting, and none that ended
-red-left : open_styles (codes "\u{1b}[1;31m" ∷ codes "\u{1b}[32m" ∷ codes "\u{1b}[22m" ∷ [])
-    ≡ codes "\u{1b}[32m" ∷ []
+    × (open_styles (codes "\u{1b}[1;31m" ∷ codes "\u{1b}[32m" ∷ codes "\u{1b}[22m" ∷ [])
+    ≡ codes "\u{1b}[32m" ∷ [])
+    × (is_style (codes "\u{1b}[1m") ≡ true) × (is_link (codes "\u{1b}]8;id=1;http://x\u{7}") ≡ true)
+    × (has_target (codes "\u{1b}]8;;\u{1b}\\") ≡ false)
 unfolding first_setting taken_fields code details kind_of kind_of_code is_color_code is_unknown color_fields takes_back replaces is_end is_ending_code number
-red-left = refl
+left-open = (refl, refl, refl, refl, refl, refl, refl)
 
 -- the indent shows nothing of the styles; a link goes on as its address
+abbrev shown : ℕ → Rendition → PennedCharacter
+shown c now = record { character = c; rendition = now }
+
 indent-shown : penned_lines (codes ">") (codes ">") plain_rendition
     (codes ">\u{1b}[1m\u{1b}]8;;x\u{7}a" ∷ codes ">b" ∷ [])
-    ≡ (record { character = 62; rendition = plain_rendition }
-    ∷ record {
-      character = 97;
-      rendition = record { pen = record plain_pen { bold = true }; link = codes "x" };
-    } ∷ [])
-    ∷ (record { character = 62; rendition = plain_rendition }
-    ∷ record {
-      character = 98;
-      rendition = record { pen = record plain_pen { bold = true }; link = codes "x" };
-    } ∷ []) ∷ []
+    ≡ (let bold : Rendition = record { pen = record plain_pen { bold = true }; link = codes "x" } in
+    (shown 62 plain_rendition ∷ shown 97 bold ∷ []) ∷ (shown 62 plain_rendition ∷ shown 98 bold ∷ []) ∷ [])
 unfolding chars encode with_field with_code
 indent-shown = refl

@@ -29,23 +29,18 @@ all-back (s ∷ ss) are = search (rules, arith, written-back, all-back ss, All-h
 -- those of sequences
 sequence-settings : (s : List ℕ) → All IsSetting (settings_of s)
 sequence-settings s = cond_both (is_style s) (settings (style_parameters s)) [] (All IsSetting)
-    (λ is. are-settings (style_parameters s) (grind (arith, cases_Bool, is)))
-    (λ other. All-nil IsSetting)
+    (λ is. are-settings (style_parameters s) (grind (arith, cases_Bool, is))) (λ other. All-nil IsSetting)
 
 pub all-settings : (before : List (List ℕ)) → All IsSetting (flat_map settings_of before)
 all-settings [] = All-nil IsSetting
 all-settings (s ∷ before) = search (rules, arith, All-append, sequence-settings, all-settings before)
 
--- ---- the styles that are open
-
 abbrev settings_at : List (List ℕ) → List (List ℕ)
 settings_at before = open_settings (flat_map settings_of before)
 
-pub open-back : (before : List (List ℕ))
-    → flat_map settings_of (open_styles before) ≡ settings_at before
+pub open-back : (before : List (List ℕ)) → flat_map settings_of (open_styles before) ≡ settings_at before
 open-back before =
-    all-back (settings_at before)
-    (all-open IsSetting (flat_map settings_of before) (all-settings before))
+    all-back (settings_at before) (all-open IsSetting (flat_map settings_of before) (all-settings before))
 
 -- what holds of all settings that are written holds of these styles
 open-written : (P : List ℕ → Type 0) → ((s : List ℕ) → IsSetting s → P (written s))

@@ -57,9 +57,9 @@ abbrev pub unknown_settings : List (List ℕ) → List (List ℕ)
 unknown_settings before =
     filter (λ s. is_unknown (kind_of s)) (open_settings (flat_map settings_of before))
 
--- of those that it knows there are at most 15
+-- of those that it knows there are at most 17
 abbrev pub StylesAreFew : Type 0
-StylesAreFew = (before : List (List ℕ)) → length (known_settings before) ≤ 15
+StylesAreFew = (before : List (List ℕ)) → length (known_settings before) ≤ 17
 
 -- those of them that end nothing
 abbrev pub setters : List (List ℕ) → List (List ℕ)
@@ -135,5 +135,5 @@ CarriedLinesAreShort =
     (indent : List ℕ) (before : List (List ℕ)) (line : List ℕ) (most : ℕ)
     → All (λ s. length s ≤ most) before
     → length (line_bytes (carried_line indent before line))
-    ≤ length line + (16 + length (unknown_settings before)) * most + 25 + length style_end
+    ≤ length line + (18 + length (unknown_settings before)) * most + 25 + length style_end
     + length link_end

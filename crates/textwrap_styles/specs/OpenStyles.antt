@@ -36,7 +36,7 @@ pub record IsKeptAfter {Z : Type 0} (before : List (List ℕ)) (state : OpenStyl
 
 -- these settings were added, the last ones first
 pub record AreLater {Z : Type 0} (later : List (List ℕ)) (state : Later Z) : Type 0 where
-  pub kinds : (n : ℕ) → n < 16
+  pub kinds : (n : ℕ) → n < 18
       → slice_index_or state.kinds n false ≡ list_any (λ t. number (kind_of t) == n) later
   pub unknown : (s : Bor (List ℕ)) → contains (λ x y. slice_cmp nat_cmp x.now y.now) state.unknown s
       ≡ list_any (λ t. is_unknown (kind_of t) && bytes_eq t s.now) later

@@ -23,6 +23,7 @@ pub record Pen : Type 0 where
   pub bold : Bool
   pub faint : Bool
   pub italic : Bool
+  pub gothic : Bool
   pub underline : ℕ
   pub blink : ℕ
   pub inverse : Bool
@@ -40,6 +41,7 @@ plain_pen = record {
   bold = false;
   faint = false;
   italic = false;
+  gothic = false;
   underline = 0;
   blink = 0;
   inverse = false;
@@ -69,9 +71,10 @@ with_code code pen =
     else if code == 8 then record pen { hidden = true }
     else if code == 9 then record pen { crossed_out = true }
     else if is_in_range 10 19 code then record pen { font = code - 10 }
+    else if code == 20 then record pen { gothic = true }
     else if code == 21 then record pen { underline = 2 }
     else if code == 22 then record pen { bold = false; faint = false }
-    else if code == 23 then record pen { italic = false }
+    else if code == 23 then record pen { italic = false; gothic = false }
     else if code == 24 then record pen { underline = 0 }
     else if code == 25 then record pen { blink = 0 }
     else if code == 27 then record pen { inverse = false }

@@ -10,11 +10,11 @@ use Rattle.std.specs.List.{after_last, list_any, prefix_len, starts_with, take_w
 use Rattle.std.specs.Str.Parse.{digits_value}
 use Rattle.textwrap_styles.specs.declared.settings.Kind.{Kind}
 use Rattle.textwrap_styles.specs.declared.settings.Kind.TheVariants.{Background, Blink, Bold}
-use Rattle.textwrap_styles.specs.declared.settings.Kind.TheVariants.{CrossedOut, Faint, Font}
+use Rattle.textwrap_styles.specs.declared.settings.Kind.TheVariants.{CrossedOut, Faint, Font, Gothic}
 use Rattle.textwrap_styles.specs.declared.settings.Kind.TheVariants.{Foreground, Framed, Hidden}
 use Rattle.textwrap_styles.specs.declared.settings.Kind.TheVariants.{Inverse, Italic, Overlined}
 use Rattle.textwrap_styles.specs.declared.settings.Kind.TheVariants.{Reset, Underline, Unknown}
-use Rattle.textwrap_styles.specs.declared.settings.Kind.TheVariants.{UnderlineColor, Weight}
+use Rattle.textwrap_styles.specs.declared.settings.Kind.TheVariants.{UnderlineColor, Upright, Weight}
 
 -- ---- the number of a setting, by which the table knows it
 
@@ -30,7 +30,8 @@ details parameters = drop (prefix_len is_ascii_digit parameters) parameters
 unfoldable pub kind_of_code : ℕ → Kind
 kind_of_code code =
     if code == 0 then Reset else if code == 1 then Bold else if code == 2 then Faint
-    else if code == 22 then Weight else if (code == 3) || (code == 23) then Italic
+    else if code == 22 then Weight else if code == 3 then Italic
+    else if code == 20 then Gothic else if code == 23 then Upright
     else if (code == 4) || (code == 21) || (code == 24) then Underline
     else if (code == 5) || (code == 6) || (code == 25) then Blink
     else if (code == 7) || (code == 27) then Inverse
@@ -120,25 +121,30 @@ number Bold = 1
 number Faint = 2
 number Weight = 3
 number Italic = 4
-number Underline = 5
-number Blink = 6
-number Inverse = 7
-number Hidden = 8
-number CrossedOut = 9
-number Font = 10
-number Foreground = 11
-number Background = 12
-number Framed = 13
-number Overlined = 14
-number UnderlineColor = 15
-number Unknown = 16
+number Gothic = 5
+number Upright = 6
+number Underline = 7
+number Blink = 8
+number Inverse = 9
+number Hidden = 10
+number CrossedOut = 11
+number Font = 12
+number Foreground = 13
+number Background = 14
+number Framed = 15
+number Overlined = 16
+number UnderlineColor = 17
+number Unknown = 18
 
--- a later setting of a kind takes back one of the same kind, and 22 takes back bold and faint
+-- a later setting of a kind takes back one of the same kind, 22 takes back bold and faint, and 23
+-- italic and Gothic
 unfoldable pub takes_back : Kind → Kind → Bool
 takes_back later earlier =
     (number later == number earlier)
     || (number later == number Weight)
     && ((number earlier == number Bold) || (number earlier == number Faint))
+    || (number later == number Upright)
+    && ((number earlier == number Italic) || (number earlier == number Gothic))
 
 -- what the table does not know is taken back by the same alone
 unfoldable pub replaces : List ℕ → List ℕ → Bool

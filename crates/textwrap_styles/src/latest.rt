@@ -103,6 +103,7 @@ impl<'t, A: Allocator + Copy> Later<'t, A> {
             → result ≡ list_any (λ t. not (is_unknown (kind_of t))
             && takes_back (kind_of t) kind) later }
     {
-        self.kinds[kind.number()] || kind.is_weight() && self.kinds[Kind::Weight.number()]
+        let end = kind.common_end();
+        self.kinds[kind.number()] || self.kinds[end.number()]
     }
 }

@@ -42,7 +42,7 @@ pub fn links_keep_an_id()
     ensures { LinksKeepAnId }
 {}
 
-/// At most 15 of the settings that are open are of kinds that the table knows.
+/// At most 17 of the settings that are open are of kinds that the table knows.
 pub fn styles_are_few()
     ensures { StylesAreFew }
 {}
@@ -79,7 +79,7 @@ pub fn carried_lines_are_as_wide()
     ensures { CarriedLinesAreAsWide }
 {}
 
-/// A line is longer by 15 sequences, a link and the different settings that the table does not
+/// A line is longer by 17 sequences, a link and the different settings that the table does not
 /// know, each at most as long as the longest sequence before it, an id, and what ends it, at most.
 pub fn carried_lines_are_short()
     ensures { CarriedLinesAreShort }

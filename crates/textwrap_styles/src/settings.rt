@@ -10,7 +10,7 @@ ghost use Rattle.textwrap_styles.specs.Settings.{first_setting, is_color_code, i
 ghost use Rattle.textwrap_styles.specs.Settings.{is_ending_code, is_unknown, kind_of};
 ghost use Rattle.textwrap_styles.specs.Settings.{kind_of_code};
 ghost use Rattle.textwrap_styles.specs.Settings.{number};
-ghost use Rattle.textwrap_styles.specs.Settings.{settings, taken_fields};
+ghost use Rattle.textwrap_styles.specs.Settings.{settings, taken_fields, takes_back};
 
 /// What a setting sets or ends.
 #[derive(Clone, Copy, Debug, PartialEq, Eq)]
@@ -22,6 +22,10 @@ pub(crate) enum Kind {
     /// Bold and faint, which 22 ends together.
     Weight,
     Italic,
+    /// Letters in Gothic script.
+    Gothic,
+    /// Italic and Gothic, which 23 ends together.
+    Upright,
     Underline,
     Blink,
     Inverse,
@@ -38,7 +42,7 @@ pub(crate) enum Kind {
 }
 
 /// How many kinds there are.
-pub(crate) const KINDS: usize = 17;
+pub(crate) const KINDS: usize = 19;
 
 impl Kind {
     /// Its place among the kinds.
@@ -57,12 +61,18 @@ impl Kind {
         matches!(self, Kind::Reset)
     }
 
-    /// Whether it is bold or faint.
-    #[tactic(auto, unfolding(crate::specs::Settings::number))]
-    pub(crate) fn is_weight(self) -> bool
-        ensures { result ≡ (number self == number Kind.Bold) || (number self == number Kind.Faint) }
+    /// What takes it back beside its own kind: that of 22 or of 23, or again its own.
+    #[tactic(auto, unfolding(crate::specs::Settings::number, crate::specs::Settings::is_unknown, crate::specs::Settings::takes_back))]
+    pub(crate) fn common_end(self) -> Kind
+        ensures takes { (later : Kind) → takes_back later self
+            ≡ (number later == number self) || (number later == number result) }
+        ensures known { is_unknown result ≡ is_unknown self }
     {
-        matches!(self, Kind::Bold | Kind::Faint)
+        match self {
+            Kind::Bold | Kind::Faint => Kind::Weight,
+            Kind::Italic | Kind::Gothic => Kind::Upright,
+            _ => self,
+        }
     }
 
     /// Whether the table does not know it.
@@ -84,7 +94,9 @@ fn kind_of_code(code: u8) -> Kind
         1 => Kind::Bold,
         2 => Kind::Faint,
         22 => Kind::Weight,
-        3 | 23 => Kind::Italic,
+        3 => Kind::Italic,
+        20 => Kind::Gothic,
+        23 => Kind::Upright,
         4 | 21 | 24 => Kind::Underline,
         5 | 6 | 25 => Kind::Blink,
         7 | 27 => Kind::Inverse,

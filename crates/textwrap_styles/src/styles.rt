@@ -40,12 +40,13 @@ const STYLE_AND_LINK_END: &str = "\x1b[0m\x1b]8;;\x1b\\";
 /// stays as it is, and is not copied.
 ///
 /// - A style is ESC `[`, digits, colons and semicolons, and `m` (SGR). Its parameters are settings,
-///   which semicolons part (ECMA-48 8.3.117, and what terminals add). A setting sets an attribute or
-///   ends it: 1 is bold and 2 faint, both of which 22 ends; 3 is italic until 23; 4 and 21 underline
-///   until 24; 5 and 6 blink until 25; 7 is inverse until 27; 8 is hidden until 28; 9 is crossed out
-///   until 29; 11 to 19 are fonts until 10; 30 to 37, 38 and 90 to 97 are the foreground until 39;
-///   40 to 47, 48 and 100 to 107 the background until 49; 51 and 52 are framed until 54; 53 is
-///   overlined until 55; 58 is the colour of the underline until 59. 0 or nothing ends all.
+///   which semicolons part (ECMA-48 8.3.117, and what terminals add). A setting sets an attribute
+///   or ends it: 1 is bold and 2 faint, both of which 22 ends; 3 is italic and 20 Gothic, both of
+///   which 23 ends; 4 and 21 underline until 24; 5 and 6 blink until 25; 7 is inverse until 27; 8
+///   is hidden until 28; 9 is crossed out until 29; 11 to 19 are fonts until 10; 30 to 37, 38 and
+///   90 to 97 are the foreground until 39; 40 to 47, 48 and 100 to 107 the background until 49;
+///   51 and 52 are framed until 54; 53 is overlined until 55; 58 is the colour of the underline
+///   until 59. 0 or nothing ends all.
 /// - 38, 48 and 58 take the colour that follows them: `5;n`, `2;r;g;b`, or whatever colons join to
 ///   them. `4:3` and its like are underlines, and `4:0` ends them.
 /// - A later setting of an attribute takes the place of an earlier one. Each that is open is

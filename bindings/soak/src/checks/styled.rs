@@ -136,7 +136,7 @@ impl Reader {
 fn attribute(number: u32) -> u32 {
     match number {
         1 | 2 => 22,
-        3 => 23,
+        3 | 20 => 23,
         4 | 21 => 24,
         5 | 6 => 25,
         7..=9 => number + 20,

@@ -5,8 +5,7 @@ use Rattle.textwrap_text.proofs.Common.{◌++◌, cond, reverse, vec_len, ◌≡
 -- what was put back, and what will be of those that are left
 abbrev pub invariant-loop-setting : goal.invariant-loop-setting
 invariant-loop-setting g l =
-    texts l.settings.items
-    ++ cond l.behind_unknown (texts (reverse l.latest.items))
+    texts l.settings.items ++ cond l.behind_unknown (texts (reverse l.latest.items))
     (in_effect (texts (reverse l.latest.items)))
     ≡ texts l.initial.settings.items ++ in_effect (texts (reverse l.initial.latest.items))
 

@@ -1,9 +1,9 @@
 use Rattle.textwrap_styles.proofs.settings.code.Goals as goal
-use Rattle.std.proofs.lemmas.Int.Digits.{digits_value_more}
-use Rattle.std.proofs.lemmas.List.Sums.{prefix_len-le-length, prefix_len_passes}
+use Rattle.std.proofs.lemmas.{Int.Digits.digits_value_more, List.Sums.prefix_len-le-length}
+use Rattle.std.proofs.lemmas.List.Sums.{prefix_len_passes}
 use Rattle.textwrap_styles.proofs.Common.{is_ascii_digit}
-use Rattle.textwrap_text.proofs.Common.{◌<◌, arith, cases_Bool, get_or, get_or-take, length, length-take-le}
-use Rattle.textwrap_text.proofs.Common.{List, nat_tests, prefix_len, rules, take, true, ℕ, ◌≡◌}
+use Rattle.textwrap_text.proofs.Common.{ℕ, ◌<◌, ◌≡◌, arith, cases_Bool, get_or, get_or-take, length}
+use Rattle.textwrap_text.proofs.Common.{length-take-le, List, nat_tests, prefix_len, rules, take, true}
 
 -- one of the digits that these begin with
 digit-at : (bs : List ℕ) (n k : ℕ) → n ≡ prefix_len is_ascii_digit bs → k < length (take n bs)
@@ -23,6 +23,5 @@ loop-byte-preserved c =
     let is = digit-at c.args.parameters.now c.digits_len.result c.loop-byte.byte-index
     c.digits_len.ensures c.loop-byte-test.true in
     let more = digits_value_more 10 bs c.loop-byte.byte-index c.loop-byte-test.true in
-    let product = c.saturating_mul.ensures in
     let sum = c.saturating_add-code.ensures in
-    grind (arith, cases_Bool, nat_tests, more, is, c.loop-byte.invariant, product, sum)
+    grind (arith, cases_Bool, nat_tests, more, is, c.loop-byte.invariant, c.saturating_mul.ensures, sum)

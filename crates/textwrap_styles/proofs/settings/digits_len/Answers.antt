@@ -17,8 +17,6 @@ loop-at-preserved c =
 
 pub returns : goal.returns
 returns c =
-    omega (
-      arith,
-      at_drop_all (prefix_len is_ascii_digit) c.args.parameters.now c.loop-at.at c.loop-at-test.false,
-      c.loop-at.invariant,
-    )
+    let bytes = c.args.parameters.now in
+    let none = at_drop_all (prefix_len is_ascii_digit) bytes c.loop-at.at c.loop-at-test.false in
+    omega (arith, none, c.loop-at.invariant)

@@ -5,5 +5,4 @@ use Rattle.textwrap_text.proofs.Common.{◌+◌, drop, prefix_len, ◌≡◌}
 -- all so far are digits
 abbrev pub invariant-loop-at : goal.invariant-loop-at
 invariant-loop-at l =
-    prefix_len is_ascii_digit l.parameters
-    ≡ l.at + prefix_len is_ascii_digit (drop l.at l.parameters)
+    prefix_len is_ascii_digit l.parameters ≡ l.at + prefix_len is_ascii_digit (drop l.at l.parameters)

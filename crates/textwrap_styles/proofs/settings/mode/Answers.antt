@@ -4,5 +4,4 @@ use Rattle.textwrap_text.proofs.Common.{ap, drop, nil_from_length, sym}
 
 pub returns-in-None : goal.returns-in-None
 unfolding code
-returns-in-None c =
-    ap (λ l. code (drop 1 l)) (sym (nil_from_length c.args.details.now c.in-None.ensures.cases))
+returns-in-None c = rw (nil_from_length c.args.details.now c.in-None.ensures.cases)

@@ -11,24 +11,21 @@ cases : (c : After-or) → MatchOption c.or.result (is_link c.args.sequence.now 
 cases c =
     let s = c.args.sequence.now in
     let rest = c.in_ok-fields.fields.now in
-    subst (λ r. MatchOption r (is_link s ≡ false) (λ fields. IsAround s fields.now))
-    (sym c.or.ensures)
+    subst (λ r. MatchOption r (is_link s ≡ false) (λ fields. IsAround s fields.now)) (sym c.or.ensures)
     (link-cases s rest c.strip_suffix.result c.strip_suffix-2.result
     (stripped_prefix (codes "\u{1b}]8;") s rest c.in_ok-fields.ensures.cases)
     c.strip_suffix.ensures.cases c.strip_suffix-2.ensures.cases)
 
 pub returns-in_err-fields-2-clause-link : goal.returns-in_err-fields-2-clause-link
 returns-in_err-fields-2-clause-link c =
-    let none = rw c.in_err-fields-2.was at
-    (cases (goal.at.returns-in_err-fields-2-clause-link c).After-or) in
+    let none = rw c.in_err-fields-2.was at (cases (goal.at.returns-in_err-fields-2-clause-link c).After-or) in
     rw c.from_residual-in_err-fields-2.ensures (sym none)
 
 -- a semicolon is found where the fields have one
 pub returns-in_err-target-clause-link : goal.returns-in_err-target-clause-link
 returns-in_err-target-clause-link c =
     let fields = c.in_ok-fields-2.fields.now in
-    let whole = rw c.in_ok-fields-2.was at
-    (cases (goal.at.returns-in_err-target-clause-link c).After-or) in
+    let whole = rw c.in_ok-fields-2.was at (cases (goal.at.returns-in_err-target-clause-link c).After-or) in
     let found = rw c.in_err-target.was at
     (split_once_first 59 fields c.split_once.result c.split_once.ensures.cases (omega arith)) in
     rw c.from_residual-in_err-target.ensures

@@ -4,16 +4,12 @@ use Rattle.textwrap_text.proofs.{Common.{append_assoc, arith, cases_Bool, rules}
 
 pub returns-then-names_id : goal.returns-then-names_id
 returns-then-names_id g c = λ is.
-    let link = c.args.link.now in
-    let fields = c.in-Some.fields.now in
-    let own = with_id-is c.args.number link fields
-    (stripped_prefix link_start link fields c.in-Some.ensures.cases) in
+    let front = stripped_prefix link_start c.args.link.now c.in-Some.fields.now c.in-Some.ensures.cases in
+    let own = with_id-is c.args.number c.args.link.now c.in-Some.fields.now front in
     search (rules, arith, cases_Bool, own, c.names_id.ensures, c.if-names_id.true, c.as_bytes.ensures.value)
 
 pub returns : goal.returns
 returns g c = λ is.
-    let link = c.args.link.now in
-    let fields = c.in-Some.fields.now in
-    let new = with_id-is c.args.number link fields
-    (stripped_prefix link_start link fields c.in-Some.ensures.cases) in
+    let front = stripped_prefix link_start c.args.link.now c.in-Some.fields.now c.in-Some.ensures.cases in
+    let new = with_id-is c.args.number c.args.link.now c.in-Some.fields.now front in
     search (rules, arith, cases_Bool, append_assoc, new, c.names_id.ensures, c.if-names_id.false)

@@ -12,8 +12,7 @@ returns-in_err-parameters-clause-style c =
     rw c.from_residual-in_err-parameters.ensures
     (sym (ap is_style whole ∙ not_style rest c.in_err-parameters.ensures.cases))
 
-style : (c : In_ok-parameters)
-    → list_all (is_in_range 0x30 0x3B) c.in_ok-parameters.parameters.now
+style : (c : In_ok-parameters) → list_all (is_in_range 0x30 0x3B) c.in_ok-parameters.parameters.now
     ≡ is_style c.args.sequence.now
 style c =
     let front = c.in_ok-strip_prefix.ensures.cases in

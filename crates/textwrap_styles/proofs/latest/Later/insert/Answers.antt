@@ -1,9 +1,9 @@
 use Rattle.textwrap_styles.proofs.latest.Later.insert.Goals as goal
 use Rattle.std.proofs.lemmas.Map.Text.{is_eq-slice_cmp}
-use Rattle.textwrap_styles.proofs.{Common.kind_of, OpenSettings.{any-replaces, any-unknown, unknown-other}}
+use Rattle.textwrap_styles.proofs.{Common.kind_of, OpenSettings.{any-replaces, any-unknown, unknown-number}}
 use Rattle.textwrap_styles.specs.Settings.{is_unknown, takes_back}
-use Rattle.textwrap_text.proofs.Common.{◌&&◌, ap, arith, cases_Bool, false, list_any, not, sym, true, ◌∙◌}
-use Rattle.textwrap_text.proofs.Common.{◌≡◌}
+use Rattle.textwrap_text.proofs.Common.{◌&&◌, ◌∙◌, ◌≡◌, ap, arith, cases_Bool, false, list_any, not, sym}
+use Rattle.textwrap_text.proofs.Common.{nat_tests, true}
 
 pub returns-then-is_unknown-clause-fresh : goal.returns-then-is_unknown-clause-fresh
 returns-then-is_unknown-clause-fresh g c = λ later are.
@@ -14,10 +14,9 @@ returns-then-is_unknown-clause-fresh g c = λ later are.
 pub returns-then-is_unknown-clause-added : goal.returns-then-is_unknown-clause-added
 returns-then-is_unknown-clause-added g c = λ later are.
     let s = c.args.setting.now in
-    let unknown : is_unknown (kind_of s) ≡ true =
-    sym (c.if-is_unknown.ensures ∙ ap is_unknown c.kind_of-kind.ensures) in
+    let unknown = sym (rw c.kind_of-kind.ensures at c.if-is_unknown.ensures) in
     record {
-      kinds = λ n below. grind (arith, are.kinds n below, unknown-other (kind_of s) n unknown below);
+      kinds = λ n below. grind (arith, cases_Bool, nat_tests, unknown, are.kinds n below, unknown-number);
       unknown = λ t.
           let same = is_eq-slice_cmp s t.now in
           grind (arith, cases_Bool, c.in_ok-insert.ensures.updates.0 t, same, are.unknown t, unknown);
@@ -25,9 +24,6 @@ returns-then-is_unknown-clause-added g c = λ later are.
 
 pub returns-clause-fresh : goal.returns-clause-fresh
 returns-clause-fresh g c = λ later are.
-    let s = c.args.setting.now in
-    let known : is_unknown (kind_of s) ≡ false =
-    sym (c.if-is_unknown.ensures ∙ ap is_unknown c.kind_of-kind.ensures) in
-    ap not (c.take_back-fresh.ensures later are
-    ∙ ap (λ k. list_any (λ t. not (is_unknown (kind_of t)) && takes_back (kind_of t) k) later)
-    c.kind_of-kind.ensures ∙ sym (any-replaces s later known))
+    let known = sym (rw c.kind_of-kind.ensures at c.if-is_unknown.ensures) in
+    let own = rw c.kind_of-kind.ensures at (c.take_back-fresh.ensures later are) in
+    ap not (own ∙ sym (any-replaces c.args.setting.now later known))

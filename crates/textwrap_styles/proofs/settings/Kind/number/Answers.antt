@@ -1,8 +1,8 @@
 use Rattle.textwrap_styles.proofs.settings.Kind.number.Goals as goal
-use Rattle.textwrap_styles.{proofs.Common.{Kind, Reset}, specs.Settings.number}
-use Rattle.textwrap_styles.specs.contracts.settings.Kind.{the_type}
-use Rattle.textwrap_text.proofs.Common.{refl, ◌≡◌}
 use denote.Enum.Declared.{tag_of}
+use Rattle.textwrap_styles.{proofs.Common.{Kind, Reset}, specs.contracts.settings.Kind.the_type}
+use Rattle.textwrap_styles.specs.Settings.{number}
+use Rattle.textwrap_text.proofs.Common.{◌≡◌, refl}
 
 tag : (k : Kind) → tag_of the_type k ≡ number k
 unfolding number

@@ -9,10 +9,9 @@ returns-in_ok-read_parameters g c = λ before state.
     let s = c.args.sequence.now in
     let style = sym c.in-Some.ensures.style in
     let plain = style-no_link s style in
-    let own = c.in-Some.ensures.parameters in
     let all : flat_map settings_of before ++ settings c.in-Some.parameters.now
     ≡ flat_map settings_of (before ++ s ∷ []) =
-    grind (arith, cases_Bool, append-nil, flat_map-append, style, own) in
+    grind (arith, cases_Bool, append-nil, flat_map-append, style, c.in-Some.ensures.parameters) in
     record {
       settings = subst (λ ss. AreOpen (open_settings ss) c.read_parameters.new.self) all
           (c.in_ok-read_parameters.ensures.settings (flat_map settings_of before) state.settings);

@@ -1,7 +1,7 @@
 //! How a text is wrapped, as C has it.
 ghost use Rattle.std.specs.Prelude.{◌≡◌, ◌≢◌, ◌⊎◌, ◌↔◌, false, None, true, IfOk, IfErr, IsUtf8, MatchOption};
 ghost use Rattle.textwrap_calls.specs.Options.{options_algorithm, AreKnown, AreRead, AreTexts};
-ghost use Rattle.textwrap_calls.specs.Options.{have_dictionary, step_settings, options_points, separator_of};
+ghost use Rattle.textwrap_calls.specs.Options.{have_dictionary, step_settings, options_points};
 ghost use Rattle.textwrap_calls.specs.Status.{not_utf8, unknown_options};
 ghost use Rattle.textwrap_layout.specs.Direct.{as_algorithm};
 ghost use Rattle.textwrap_layout.specs.Options.{layout_view, settings_view};
@@ -105,7 +105,11 @@ pub fn read_options<'a>(given: &TextwrapOptions<'a>) -> Result<PlainOptions<'a>,
             even_paragraphs: given.even_paragraphs != 0,
             room_for_hyphens: false,
         },
-        word_separator: read_separator(given),
+        word_separator: match given.unicode_breaks {
+            0 => PlainSeparator::AtBlanks,
+            1 => PlainSeparator::AtBreaks(Numbers::ByPairs),
+            _ => PlainSeparator::AtBreaks(Numbers::ByExpression),
+        },
         word_splitter: read_splitter(given),
         wrap_algorithm: read_algorithm(given),
     })
@@ -198,17 +202,6 @@ pub fn are_known(given: &TextwrapOptions<'_>) -> bool
         && given.unicode_breaks <= 2
         && given.reserved_sizes == [0; 4]
         && is_whole(&given.dictionary)
-}
-
-/// Where words end.
-fn read_separator(given: &TextwrapOptions<'_>) -> PlainSeparator
-    ensures { result ≡ separator_of given.now }
-{
-    match given.unicode_breaks {
-        0 => PlainSeparator::AtBlanks,
-        1 => PlainSeparator::AtBreaks(Numbers::ByPairs),
-        _ => PlainSeparator::AtBreaks(Numbers::ByExpression),
-    }
 }
 
 /// The algorithm that is asked for.

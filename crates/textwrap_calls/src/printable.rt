@@ -57,7 +57,7 @@ pub(crate) fn only_line<'t>(text: &'t [u8], options: &TextwrapOptions<'_>) -> Op
     ensures refilled { line_prefix text.now ≡ [] → IfSome result (λ line. IsRefilled
         (options_settings options.now) (Divides options.now) text.now line.now) }
 {
-    if !is_short(text, options) || !is_one_line(text) {
+    if text.len() >= options.width || !have_no_initial_indent(options) || !is_one_line(text) {
         return None;
     }
     Some(line_of(text, options))
@@ -71,21 +71,17 @@ pub(crate) fn only_known_line<'t>(text: &'t [u8], options: &TextwrapOptions<'_>)
     ensures refilled { line_prefix text.now ≡ [] → IfSome result (λ line. IsRefilled
         (options_settings options.now) (Divides options.now) text.now line.now) }
 {
-    if !is_short(text, options) || text.contains(&b'\n') {
+    if text.len() >= options.width
+        || !have_no_initial_indent(options)
+        || text.contains(&b'\n')
+    {
         return None;
     }
     Some(line_of(text, options))
 }
 
-/// Whether a text has fewer bytes than the width, and the options add nothing to its first line.
-fn is_short(text: &[u8], options: &TextwrapOptions<'_>) -> bool
-    ensures short { IsTrue result → length text.now < options.now.width }
-    ensures bare { IsTrue result → HaveNoInitialIndent options.now }
-{
-    text.len() < options.width && have_no_initial_indent(options)
-}
-
-/// The line of such a text, if it has no line feed.
+/// The line of a text with fewer bytes than the width and no line feed, by options that add nothing to
+/// its first line.
 fn line_of<'t>(text: &'t [u8], options: &TextwrapOptions<'_>) -> &'t [u8]
     requires short { length text.now < options.now.width }
     requires bare { HaveNoInitialIndent options.now }

@@ -40,10 +40,13 @@ opens_formula (w ∷ ws) =
     if starts_with nat_eq w.word (codes "$$")
     then not (contains (codes "$$") (drop 2 w.word)) && not (any_contains (codes "$$") ws) else false
 
--- an attribute of Rust with a text of three backticks or more, as `#[cfg_attr(unix, doc = "```")]`
+-- an attribute of Rust with three backticks or more, as `#[cfg_attr(unix, doc = "```")]`; behind `!` it
+-- is one of the module or the crate that it stands in
 abbrev pub opens_attribute : List SpacedText → Bool
 opens_attribute words =
-    starts_with nat_eq (first_word words) (codes "#[") && any_contains (codes "\"```") words
+    (starts_with nat_eq (first_word words) (codes "#[")
+    || starts_with nat_eq (first_word words) (codes "#!["))
+    && any_contains (codes "```") words
 
 -- the fence that these words open: behind backticks stands no other one
 abbrev pub opened_by : Option FenceRun → List SpacedText → Option FenceKind

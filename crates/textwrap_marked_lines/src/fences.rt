@@ -108,11 +108,13 @@ fn opens_formula(text: &str) -> bool
     }
 }
 
-/// Whether a text is an attribute of Rust that has a text of backticks.
+/// Whether a text is an attribute of Rust, of what follows or of what it stands in, that has three
+/// backticks.
 fn opens_attribute(text: &str) -> bool
     ensures { result ≡ opens_attribute (spaced_words text.now) }
 {
-    starts_with(first_word(text), "#[") && any_contains(text, "\"```")
+    let word = first_word(text);
+    (starts_with(word, "#[") || starts_with(word, "#![")) && any_contains(text, "```")
 }
 
 /// The fence that a text opens, whose words may be known to be plain, if it does.

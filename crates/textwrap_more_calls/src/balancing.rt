@@ -21,8 +21,10 @@ use textwrap_calls::options::{TextwrapOptions, read_options};
 use textwrap_calls::reported::TextwrapLine;
 use textwrap_calls::status::{DONE, NOT_UTF8, OUT_OF_MEMORY};
 use textwrap_calls::wrapping::textwrap_wrap_utf8;
+use textwrap_layout::printable_cuts::BlankCuts;
 use textwrap_plain::balancing::Balance;
-use textwrap_plain::{PlainOptions, PlainSeparator, balanced_width};
+use textwrap_plain::parts::PlainParts;
+use textwrap_plain::{BuiltInAlgorithm, PlainOptions, PlainSeparator, balanced_width};
 
 /// Writes the balanced lines of a text as `textwrap_wrap` writes its lines: those of first fit at the
 /// width of `textwrap_balanced_width`. They are as many as by first fit at the width of the options. At
@@ -122,7 +124,14 @@ fn find_balance(alloc: Global, text: &str, options: &PlainOptions<'_>) -> Result
 {
     let layout = options.layout();
     match options.word_separator {
-        PlainSeparator::AtBlanks => balanced_width(alloc, text, layout, &options.direct_parts()),
+        PlainSeparator::AtBlanks => {
+            let parts = PlainParts {
+                words: BlankCuts {},
+                splitter: options.word_splitter,
+                algorithm: BuiltInAlgorithm::FirstFit,
+            };
+            balanced_width(alloc, text, layout, &parts)
+        }
         PlainSeparator::AtBreaks(_) => balanced_width(alloc, text, layout, &options.parts(alloc)),
     }
 }

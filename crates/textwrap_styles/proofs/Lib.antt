@@ -15,3 +15,4 @@ pub mod PenCodes
 pub mod PenSettings
 pub mod PenOpen
 pub mod PenStyles
+pub mod Refuted

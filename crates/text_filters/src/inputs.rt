@@ -14,8 +14,8 @@ use crate::filter::{Filter, Made};
 use crate::streams::{ReadWhole, WriteWhole};
 use simdutf8::compat::from_utf8;
 use std::alloc::Global;
-use text_files::files::Files;
 use text_files::differences::diff_text;
+use text_files::files::Files;
 
 /// What became of an input.
 #[derive(Clone, Copy, PartialEq, Eq)]

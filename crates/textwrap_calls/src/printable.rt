@@ -71,10 +71,7 @@ pub(crate) fn only_known_line<'t>(text: &'t [u8], options: &TextwrapOptions<'_>)
     ensures refilled { line_prefix text.now ≡ [] → IfSome result (λ line. IsRefilled
         (options_settings options.now) (Divides options.now) text.now line.now) }
 {
-    if text.len() >= options.width
-        || !have_no_initial_indent(options)
-        || text.contains(&b'\n')
-    {
+    if text.len() >= options.width || !have_no_initial_indent(options) || text.contains(&b'\n') {
         return None;
     }
     Some(line_of(text, options))

@@ -8,10 +8,10 @@ use super::plain::{
 };
 use std::io::ErrorKind;
 use std::process::Abort;
+use text_files::differences::diff_text;
 use textwrap_program::filling::{RunError, read_to_end};
 use textwrap_vectors::heap::Heap;
 use textwrap_vectors::streams::{Feed, FeedFault, SinkFault};
-use text_files::differences::diff_text;
 
 /// A rule, the standard input, and the diff at ten columns.
 #[rattlefmt::skip]

@@ -34,15 +34,11 @@ after-front : (width : ℕ) (indent line rest : List ℕ) → line ≡ indent ++
     → justified_after width indent line ≡ indent ++ line_bytes (justified (width - text_width indent) rest)
 after-front width indent line rest is = search (rules, arith, starts_with-true, take_at, drop_at)
 
--- an empty line stays empty
-empty-stays : (width : ℕ) → line_bytes (justified width []) ≡ []
-empty-stays width = grind (arith, cases_Bool)
-
 line-justified : (settings : Settings) (is_later : Bool) (words : List WordText)
     → justified_after settings.width (indent_of settings is_later)
     (line_bytes (line_from (parts_of settings is_later words)))
     ≡ justified_line settings.width (parts_of settings is_later words)
-line-justified settings is_later [] = grind (arith, take_all, drop_all, empty-stays)
+line-justified settings is_later [] = grind (arith, take_all, drop_all, cases_Bool)
 line-justified settings is_later (w ∷ words) =
     search (rules, arith, after-front, assembled-bytes, append_assoc)
 

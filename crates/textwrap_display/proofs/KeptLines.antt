@@ -7,15 +7,15 @@ use Rattle.textwrap_display.proofs.Common.{encode_utf8, is_blank, line_bytes, li
 use Rattle.textwrap_display.proofs.Common.{nil-whole, read-all, text_width-nil, texts_of, units, word_width}
 use Rattle.textwrap_display.proofs.KeptWords.{BlankAhead, IsLatest, IsReadTo, ahead-blank, before-character}
 use Rattle.textwrap_display.proofs.KeptWords.{blank-ahead, latest-here, latest-none, latest-on, latest-past}
-use Rattle.textwrap_display.proofs.KeptWords.{may_end-boundary, may_end-here, may_end-other, may_end-within}
-use Rattle.textwrap_display.proofs.KeptWords.{read-le, read-whole, read-width, read_to-start, read_to-step}
-use Rattle.{textwrap_display.proofs.KeptWords.whole-read, textwrap_text.proofs.Common.Bool}
-use Rattle.textwrap_text.proofs.Common.{IsCharBoundary, IsUtf8, List, [], ap, arith, cases_Bool, columns}
-use Rattle.textwrap_text.proofs.Common.{drop, drop_more, encode_utf8_all, encodes-chars, eqb, eqb-true, false}
-use Rattle.textwrap_text.proofs.Common.{false≢true, get_or, inl, length, length-map, length-take-le, map}
-use Rattle.textwrap_text.proofs.Common.{map-append, ne_eqb, next_of, not, refl, rules, shows, subst, sum_by}
-use Rattle.textwrap_text.proofs.Common.{sum_by-cons, sym, take, take-append-drop, take_while, text_width}
-use Rattle.textwrap_text.proofs.Common.{true, units_width, ℕ, ◌++◌, ◌+◌, ◌<◌, ◌∙◌, ◌∷◌, ◌≡◌, ◌≢◌, ◌≤◌}
+use Rattle.textwrap_display.proofs.KeptWords.{may_end-boundary, may_end-other, may_end-within, read-le}
+use Rattle.textwrap_display.proofs.KeptWords.{read-whole, read-width, read_to-start, read_to-step, whole-read}
+use Rattle.textwrap_text.proofs.Common.{Bool, IsCharBoundary, IsUtf8, List, [], ap, arith, cases_Bool}
+use Rattle.textwrap_text.proofs.Common.{columns, drop, drop_more, encode_utf8_all, encodes-chars}
+use Rattle.textwrap_text.proofs.Common.{eqb, eqb-true, false, false≢true, get_or, inl, length}
+use Rattle.textwrap_text.proofs.Common.{length-map, length-take-le, map, map-append, nat_tests, ne_eqb}
+use Rattle.textwrap_text.proofs.Common.{next_of, not, refl, rules, shows, subst, sum_by, sum_by-cons}
+use Rattle.textwrap_text.proofs.Common.{sym, take, take-append-drop, take_while, text_width, true}
+use Rattle.textwrap_text.proofs.Common.{units_width, ℕ, ◌++◌, ◌+◌, ◌<◌, ◌∙◌, ◌∷◌, ◌≡◌, ◌≢◌, ◌≤◌}
 use Rattle.textwrap_text.proofs.Units.{Characters.shown-from, Reading.read-ahead}
 use Rattle.textwrap_text.specs.Characters.{characters_from, characters_of, shown}
 use Rattle.textwrap_text.specs.declared.characters.Character.{Character}
@@ -41,7 +41,7 @@ module _ {room : ℕ} {line : List ℕ} (utf8 : IsUtf8 line) {place : ℕ} {rest
   boundary m may = may_end-boundary line m utf8 may.0
 
   ends-here : after_blank ≡ false → state ≡ Text → BlankAhead line place → CanEnd line place
-  ends-here some outside ahead = search (rules, arith, may_end-here, read-whole read, read.blank)
+  ends-here some outside ahead = (grind (arith, cases_Bool, nat_tests, read.blank), read-whole read outside)
 
   ends-other : (BlankAhead line place → after_blank ≡ false → state ≢ Text) → CanEnd line place → place ≤ kept
   ends-other other may =

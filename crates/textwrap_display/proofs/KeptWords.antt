@@ -8,11 +8,11 @@ use Rattle.textwrap_display.proofs.Common.{read-next, read-start, units, units-a
 use Rattle.textwrap_layout.specs.Text.{HasWholeSequences}
 use Rattle.textwrap_text.proofs.Common.{All, All-cons, All-head, All-nil, All-tail, AreUnits, Bool}
 use Rattle.textwrap_text.proofs.Common.{IsCharBoundary, IsUncut, IsUtf8, IsUtf8-take, List, Sequence}
-use Rattle.textwrap_text.proofs.Common.{TextUnit, Visible, [], add-zero, ap, append-nil, append_assoc, arith}
-use Rattle.textwrap_text.proofs.Common.{cases_Bool, cases_lt, characters, chars-append, chars-nil, columns}
-use Rattle.textwrap_text.proofs.Common.{drop, drop_all, eqb, eqb-false, eqb-true, escape, false, flat_map}
-use Rattle.textwrap_text.proofs.Common.{flat_map-append, get_or, get_or-drop, get_or_past, inl, inr, length}
-use Rattle.textwrap_text.proofs.Common.{length-map, length-take-le, length_push, map, nat_tests, next_of}
+use Rattle.textwrap_text.proofs.Common.{TextUnit, Visible, [], add-zero, ap, append-nil, append_assoc}
+use Rattle.textwrap_text.proofs.Common.{arith, cases_Bool, cases_lt, characters, chars-append, chars-nil}
+use Rattle.textwrap_text.proofs.Common.{columns, drop, drop_all, eqb, eqb-false, eqb-true, escape, false}
+use Rattle.textwrap_text.proofs.Common.{flat_map, flat_map-append, get_or, get_or-drop, get_or_past, inl}
+use Rattle.textwrap_text.proofs.Common.{inr, length, length-map, length-take-le, length_push, map, next_of}
 use Rattle.textwrap_text.proofs.Common.{refl, reverse-append, rules, subst, sum_by, sum_by-append, sym, take}
 use Rattle.textwrap_text.proofs.Common.{take-append-drop, take-append-le, take_all, take_at, text_width, true}
 use Rattle.textwrap_text.proofs.Common.{visible_of, ℕ, ◌++◌, ◌+◌, ◌-◌, ◌<◌, ◌||◌, ◌∙◌, ◌∷◌, ◌≡◌, ◌≢◌, ◌≤◌}
@@ -24,8 +24,7 @@ use Rattle.textwrap_text.{proofs.Units.Texts.units_unique, specs.Blanks.final_bl
 use Rattle.textwrap_text.specs.{Blanks.trimmed_len, Blanks.without_final_blanks, Units.IsOpen, Units.visible}
 use Rattle.textwrap_words.proofs.Word.{Ahead.character-within, Ahead.plain-bytes, Texts.final_blanks-blank}
 
--- ---- where a beginning of a line may end: these places are within the line, and characters end
--- there
+-- ---- where a beginning of a line may end: these places are within the line, and characters end there
 
 -- a blank follows, or nothing
 abbrev pub BlankAhead : List ℕ → ℕ → Type 0
@@ -45,10 +44,6 @@ may_end-within line n may = grind (arith, may_end-cases, get_or_past, cases_lt)
 pub may_end-boundary : (line : List ℕ) (n : ℕ) → IsUtf8 line → can_end line n ≡ true → IsCharBoundary line n
 may_end-boundary line n utf8 may =
     search (rules, arith, may_end-cases, IsCharBoundary-start, IsCharBoundary-end, eqb-true, may_end-within)
-
-pub may_end-here : (line : List ℕ) (n : ℕ) → is_after_blank line n ≡ false → BlankAhead line n
-    → can_end line n ≡ true
-may_end-here line n some ahead = grind (arith, cases_Bool, nat_tests)
 
 pub may_end-other : (line : List ℕ) (n : ℕ) → can_end line n ≡ true
     → (BlankAhead line n → is_after_blank line n ≡ true) → n ≡ 0
@@ -152,8 +147,7 @@ word_texts-take line n may = elim (may_end-cases line n may) [
       rw take-append-drop at (word_texts-front (take n line) (drop n line) follows)
 ]
 
--- ---- the reader that finds how much of a line is kept: where it stands, and the columns before
--- that
+-- ---- the reader that finds how much of a line is kept: where it stands, and the columns before that
 
 -- whatever characters follow the place, these are the columns of those that the reader has read
 pub record IsReadTo (line : List ℕ) (place : ℕ) (rest : List ℕ) (state : State) (taken : ℕ)
@@ -296,9 +290,6 @@ state-cases _ = search (rules, arith)
 letter-outside : columns_in Text (120 ∷ []) ≡ 1
 letter-outside = omega (arith, columns-printable 120 (omega arith, omega arith))
 
-letter-inside : (s : State) → s ≢ Text → columns_in s (120 ∷ []) ≡ 0
-letter-inside s inside = ap (λ us. sum_by columns (flat_map visible_of us)) (units_in-inside s 120 [] inside)
-
 module _ {line : List ℕ} {place : ℕ} {rest : List ℕ} {state : State} {taken : ℕ}
     {after_blank : Bool} (h : IsReadTo line place rest state taken after_blank) where
   pub read-whole : state ≡ Text → HasWholeSequences (take place line)
@@ -320,5 +311,6 @@ module _ {line : List ℕ} {place : ℕ} {rest : List ℕ} {state : State} {take
             let own = ap (columns_in Text) (append-nil cs) in
             let one : columns_in Text (cs ++ 120 ∷ []) ≡ columns_in Text cs + columns_in Text (120 ∷ []) =
             grind (arith, units-append cs (120 ∷ []) whole, flat_map-append, sum_by-append) in
-            absurd (omega (arith, h.columns (120 ∷ []), h.columns [], own, one, letter-outside, letter-inside state inside))
+            let no = ap (λ l. sum_by columns (flat_map visible_of l)) (units_in-inside state 120 [] inside) in
+            absurd (omega (arith, h.columns (120 ∷ []), h.columns [], own, one, letter-outside, no))
       ]

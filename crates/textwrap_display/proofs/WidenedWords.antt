@@ -16,8 +16,7 @@ use Rattle.textwrap_text.proofs.Common.{ℕ, ◌++◌, ◌+◌, ◌-◌, ◌/◌
 use Rattle.textwrap_text.proofs.Lists.Parts.{flat-onto_first, onto_first-length}
 use Rattle.{textwrap_text.proofs.Texts.IsCharBoundary-after_blank, textwrap_words.proofs.Word.Words.tiled-map}
 
--- ---- the chunks of a line whose gaps are widened: the same chunks, each but the last with more
--- blanks
+-- ---- the chunks of a line whose gaps are widened: the same chunks, each but the last with more blanks
 
 -- chunks with as many blanks more
 abbrev pub widened_chunks : ℕ → ℕ → List (List ℕ) → List (List ℕ)
@@ -85,8 +84,7 @@ pub widened-plain : (each extra : ℕ) (text : List ℕ) → prefix_len is_blank
 widened-plain each extra [] none = refl
 widened-plain each extra (d ∷ ds) none = search (rules, arith, chunks-from, begins, cases_Bool)
 
--- ---- the words of a line whose gaps are widened: the same words, each but the last with more
--- blanks
+-- ---- the words of a line whose gaps are widened: the same words, each but the last with more blanks
 
 -- blanks after a chunk follow its word
 word_of-more : (chunk : List ℕ) (k : ℕ) → word_of (chunk ++ blanks k)
@@ -164,8 +162,7 @@ after-plain line = elim (cases_lt (indent_len line) (length line)) [
   | inr past ↦ prefix_len-drop_all is_blank line _ past
 ]
 
--- ---- a justified line begins with the same blanks, and has the same words with more blanks
--- after them
+-- ---- a justified line begins with the same blanks, and has the same words with more blanks after them
 
 -- the line begins with the same blanks, and its words are those with more blanks after them
 widened-line : (each extra : ℕ) (line new : List ℕ)

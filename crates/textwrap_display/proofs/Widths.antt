@@ -7,7 +7,7 @@ use Rattle.textwrap_display.proofs.Common.{AreBlanks, WordText, blank, blanks, c
 use Rattle.textwrap_display.proofs.Common.{is_blank, justified, line_bytes, line_words, nil-whole}
 use Rattle.textwrap_display.proofs.Common.{sequence_of, sequences, suc-mul, text_width, text_width-append}
 use Rattle.textwrap_display.proofs.Common.{text_width-nil, tiled, units, widened_words, ◌%◌}
-use Rattle.textwrap_display.specs.Alignment.{aligned, blanks_before, spread}
+use Rattle.textwrap_display.specs.Alignment.{aligned, spread}
 use Rattle.textwrap_display.specs.Laws.{IsBeside, StandsAlone, row_of, shown_apart, without_blanks}
 use Rattle.textwrap_display.specs.{Tables.RowGaps, declared.alignment.Alignment.Alignment}
 use Rattle.textwrap_layout.{proofs.Paragraph.LeftOff.blanks-utf8, specs.Text.HasWholeSequences}
@@ -17,7 +17,7 @@ use Rattle.textwrap_styles.specs.Penned.{Rendition, penned_text, plain_rendition
 use Rattle.textwrap_text.proofs.Common.{All, All-from_get_or, All-head, All-tail, All-weaker, IsUtf8, List}
 use Rattle.textwrap_text.proofs.Common.{[], ap, append-nil, append_assoc, arith, chars-nil, drop, eqb-true}
 use Rattle.textwrap_text.proofs.Common.{flat_map, flat_map-append, fold, get_or-take, join_with, length}
-use Rattle.textwrap_text.proofs.Common.{length-take, min, refl, rules, suc, take, take-append-drop, true}
+use Rattle.textwrap_text.proofs.Common.{length-take, min, refl, rules, suc, sym, take, take-append-drop, true}
 use Rattle.textwrap_text.proofs.Common.{zero, ℕ, ◌*◌, ◌++◌, ◌+◌, ◌-◌, ◌/◌, ◌<◌, ◌∙◌, ◌∷◌, ◌≡◌, ◌≢◌, ◌≤◌}
 use Rattle.textwrap_text.proofs.{Texts.after_ascii, Units.Chunks.chunks-utf8}
 use Rattle.textwrap_text.{proofs.Units.Reading.printable-width, specs.Units.Visible}
@@ -40,15 +40,12 @@ more-blanks n text = search (rules, arith, blanks-before, blanks, blanks-are, le
 
 -- ---- a line that is aligned: its bytes, and that it is as wide as was asked
 
-before-few : (alignment : Alignment) (spare : ℕ) → blanks_before alignment spare ≤ spare
-before-few alignment spare = grind arith
-
 -- text after a line with blanks on its two sides
 spread-before : (alignment : Alignment) (spare : ℕ) (line text : List ℕ) → IsUtf8 line
     → HasWholeSequences line → text_width (spread alignment spare line ++ text)
     ≡ text_width line + spare + text_width text
 spread-before alignment spare line text utf8 whole =
-    grind (arith, before-few alignment spare, append_assoc, more-blanks, text_width-append, utf8, whole)
+    grind (arith, append_assoc, more-blanks, text_width-append, utf8, whole)
 
 -- text after a line that is aligned
 pub aligned-before : (alignment : Alignment) (width : ℕ) (line text : List ℕ) → IsUtf8 line
@@ -169,8 +166,10 @@ widened-shown each extra (w ∷ []) now sound = refl
 widened-shown each extra (w ∷ v ∷ ws) now sound =
     let here = All-head IsSound w (v ∷ ws) sound in
     let later = fold with_sequence now (sequences w.word) in
-    let others = widened-shown each (extra - 1) (v ∷ ws) later (All-tail IsSound w (v ∷ ws) sound) in
-    search (rules, arith, widened-first, word-shown, here, hidden, blanks-are, others)
+    let rest = tiled (widened_words each (extra - 1) (v ∷ ws)) in
+    let others = hidden later _ rest (blanks-are (each + min extra 1))
+    ∙ widened-shown each (extra - 1) (v ∷ ws) later (All-tail IsSound w (v ∷ ws) sound) in
+    rw (widened-first each extra w v ws, word-shown now w _ here, others) (sym (word-shown now w _ here))
 
 -- ---- a line that is justified
 

@@ -1,6 +1,6 @@
 use Rattle.textwrap_display.proofs.fitting.fitting_widths.Given as goal
-use Rattle.textwrap_display.specs.{Fitting.fitting_widths, Fitting.rounded_up, Sharing.rounded_down}
-use Rattle.textwrap_display.specs.Sharing.{weight}
+use Rattle.textwrap_display.specs.Fitting.{fitting_widths, rounded_up}
+use Rattle.textwrap_display.specs.Sharing.{rounded_down, weight}
 use Rattle.textwrap_text.proofs.Common.{drop, length, sum_by, ◌++◌, ◌-◌, ◌≡◌, ◌≤◌}
 
 -- with the widths of the columns that are left, those so far are all; and no more is left over

@@ -1,6 +1,6 @@
 use Rattle.textwrap_display.proofs.needs.widest_part.Goals as goal
-use Rattle.std.proofs.{Common.tests, lemmas.Iterator.Consumers.fold_from_yields_List}
-use Rattle.std.proofs.lemmas.Iterator.Splits.{YieldsList-from_str_split}
+use Rattle.std.proofs.Common.{tests}
+use Rattle.std.proofs.lemmas.Iterator.{Consumers.fold_from_yields_List, Splits.YieldsList-from_str_split}
 use Rattle.textwrap_display.proofs.Common.{text_width}
 use Rattle.textwrap_text.proofs.Common.{max, rules}
 

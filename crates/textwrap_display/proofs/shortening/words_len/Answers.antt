@@ -1,11 +1,11 @@
 use Rattle.textwrap_display.proofs.shortening.words_len.Goals as goal
 use Rattle.textwrap_display.proofs.Common.{CanEnd, added, char_indices_rest}
-use Rattle.textwrap_display.proofs.KeptLines.{IsFound, found-here, found-kept, found-on, found-past}
-use Rattle.textwrap_display.proofs.{KeptLines.found-rest, KeptLines.found-whole, KeptWords.IsReadTo}
-use Rattle.textwrap_display.proofs.KeptWords.{latest-none, read-le, read_to-start, read_to-step}
+use Rattle.textwrap_display.proofs.KeptLines.{IsFound, found-here, found-kept, found-on}
+use Rattle.textwrap_display.proofs.KeptLines.{found-past, found-rest, found-whole}
+use Rattle.textwrap_display.proofs.KeptWords.{IsReadTo, latest-none, read-le, read_to-start, read_to-step}
 use Rattle.textwrap_display.proofs.shortening.words_len.Goals.{Joined-ch-eq32, Joined-is_visible}
-use Rattle.textwrap_text.proofs.Common.{arith, char_indices_offset, eqb, false≢true, inl, inr, sym}
-use Rattle.textwrap_text.proofs.Common.{◌+◌, ◌∙◌, ◌≡◌}
+use Rattle.textwrap_text.proofs.Common.{arith, char_indices_offset, eqb}
+use Rattle.textwrap_text.proofs.Common.{false≢true, inl, inr, sym, ◌+◌, ◌∙◌, ◌≡◌}
 
 pub loop-at-init : goal.loop-at-init
 loop-at-init c =

@@ -1,6 +1,6 @@
 use Rattle.textwrap_display.proofs.tables.wrap_cells.Given as goal
-use Rattle.textwrap_display.{proofs.Common.AllZip, specs.Tables.IsCell, specs.Tables.cell_texts}
-use Rattle.textwrap_display.specs.Tables.{texts_in}
+use Rattle.textwrap_display.proofs.Common.{AllZip}
+use Rattle.textwrap_display.specs.Tables.{IsCell, cell_texts, texts_in}
 use Rattle.textwrap_text.proofs.Common.{length, take, zip}
 
 -- the cells so far are those of the first texts

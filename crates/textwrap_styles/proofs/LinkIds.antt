@@ -16,7 +16,7 @@ use Rattle.textwrap_text.proofs.Common.{cases_Bool, chars-append, chars-IsAscii,
 use Rattle.textwrap_text.proofs.Common.{drop_at, ends_with, escape, escape_len, false, filter, filter-append}
 use Rattle.textwrap_text.proofs.Common.{fold, inl, inr, IsUtf8, IsUtf8-append, IsUtf8-drop, IsUtf8-from_ascii}
 use Rattle.textwrap_text.proofs.Common.{length, length-append, length-take, List, list_all, map, nat_eq}
-use Rattle.textwrap_text.proofs.Common.{nat_tests, not, refl, rules, starts_with, subst, sym, take, take_at}
+use Rattle.textwrap_text.proofs.Common.{nat_tests, not, refl, starts_with, subst, sym, take, take_at}
 use Rattle.textwrap_text.proofs.Common.{true, true≢false, units, Visible, ℕ, ◌↔◌, ◌∙◌, ◌∷◌, ◌≡◌, ◌≤◌, ⊤}
 use Rattle.textwrap_text.proofs.Lists.Parts.{ends_with-front, ends_with-true, starts_with-rest}
 use Rattle.textwrap_text.proofs.{Texts.StartsWith-boundary, Units.Texts.units_unique}

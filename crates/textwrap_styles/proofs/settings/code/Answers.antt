@@ -13,15 +13,13 @@ digit-at bs n k is within =
 
 pub overflow_sub-byte : goal.overflow_sub-byte
 overflow_sub-byte c =
-    let is = digit-at c.args.parameters.now c.digits_len.result c.loop-byte.byte-index
-    c.digits_len.ensures c.loop-byte-test.true in
+    let is = digit-at _ _ _ c.digits_len.ensures c.loop-byte-test.true in
     grind (arith, cases_Bool, nat_tests, is)
 
 pub loop-byte-preserved : goal.loop-byte-preserved
 loop-byte-preserved c =
     let bs = take c.digits_len.result c.args.parameters.now in
-    let is = digit-at c.args.parameters.now c.digits_len.result c.loop-byte.byte-index
-    c.digits_len.ensures c.loop-byte-test.true in
+    let is = digit-at _ _ _ c.digits_len.ensures c.loop-byte-test.true in
     let more = digits_value_more 10 bs c.loop-byte.byte-index c.loop-byte-test.true in
     let sum = c.saturating_add-code.ensures in
     grind (arith, cases_Bool, nat_tests, more, is, c.loop-byte.invariant, c.saturating_mul.ensures, sum)

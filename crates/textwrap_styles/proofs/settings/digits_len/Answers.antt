@@ -5,14 +5,12 @@ use Rattle.textwrap_text.proofs.Common.{arith, at_drop_all, cases_Bool, prefix_l
 
 pub returns-then-not-is_ascii_digit : goal.returns-then-not-is_ascii_digit
 returns-then-not-is_ascii_digit c =
-    let next = at_drop_more (prefix_len is_ascii_digit) c.args.parameters.now c.loop-at.at 0
-    c.loop-at-test.true in
+    let next = at_drop_more (prefix_len is_ascii_digit) _ _ 0 c.loop-at-test.true in
     grind (arith, cases_Bool, next, c.loop-at.invariant, c.is_ascii_digit.ensures.value, c)
 
 pub loop-at-preserved : goal.loop-at-preserved
 loop-at-preserved c =
-    let next = at_drop_more (prefix_len is_ascii_digit) c.args.parameters.now c.loop-at.at 0
-    c.loop-at-test.true in
+    let next = at_drop_more (prefix_len is_ascii_digit) _ _ 0 c.loop-at-test.true in
     grind (arith, cases_Bool, next, c.loop-at.invariant, c.is_ascii_digit.ensures.value, c)
 
 pub returns : goal.returns

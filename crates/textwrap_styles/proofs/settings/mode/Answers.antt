@@ -1,6 +1,6 @@
 use Rattle.textwrap_styles.proofs.settings.mode.Goals as goal
 use Rattle.textwrap_styles.specs.Settings.{code}
-use Rattle.textwrap_text.proofs.Common.{ap, drop, nil_from_length, sym}
+use Rattle.textwrap_text.proofs.Common.{nil_from_length}
 
 pub returns-in-None : goal.returns-in-None
 unfolding code

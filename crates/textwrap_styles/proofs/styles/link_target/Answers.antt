@@ -24,25 +24,19 @@ returns-in_err-fields-2-clause-link c =
 -- a semicolon is found where the fields have one
 pub returns-in_err-target-clause-link : goal.returns-in_err-target-clause-link
 returns-in_err-target-clause-link c =
-    let fields = c.in_ok-fields-2.fields.now in
     let whole = rw c.in_ok-fields-2.was at (cases (goal.at.returns-in_err-target-clause-link c).After-or) in
-    let found = rw c.in_err-target.was at
-    (split_once_first 59 fields c.split_once.result c.split_once.ensures.cases (omega arith)) in
+    let found = rw c.in_err-target.was at (split_once_first 59 _ _ c.split_once.ensures.cases (omega arith)) in
     rw c.from_residual-in_err-target.ensures
-    (grind (arith, nat_tests, found, whole.is, any-position (λ b. b == 59) fields))
+    (grind (arith, nat_tests, found, whole.is, any-position (λ b. b == 59) c.in_ok-fields-2.fields.now))
 
 pub returns-clause-link : goal.returns-clause-link
 returns-clause-link c =
-    let fields = c.in_ok-fields-2.fields.now in
     let whole = rw c.in_ok-fields-2.was at (cases (goal.at.returns-clause-link c).After-or) in
-    let found = rw c.in_ok-target.was at
-    (split_once_first 59 fields c.split_once.result c.split_once.ensures.cases (omega arith)) in
-    grind (arith, nat_tests, found.0, whole.is, any-position (λ b. b == 59) fields)
+    let found = rw c.in_ok-target.was at (split_once_first 59 _ _ c.split_once.ensures.cases (omega arith)) in
+    grind (arith, nat_tests, found.0, whole.is, any-position (λ b. b == 59) c.in_ok-fields-2.fields.now)
 
 pub returns-clause-target : goal.returns-clause-target
 returns-clause-target c =
     let whole = rw c.in_ok-fields-2.was at (cases (goal.at.returns-clause-target c).After-or) in
-    let found = rw c.in_ok-target.was at
-    (split_once_first 59 c.in_ok-fields-2.fields.now c.split_once.result c.split_once.ensures.cases
-    (omega arith)) in
+    let found = rw c.in_ok-target.was at (split_once_first 59 _ _ c.split_once.ensures.cases (omega arith)) in
     found.2 ∙ ap (after_first (λ b. b == 59)) (sym whole.are)

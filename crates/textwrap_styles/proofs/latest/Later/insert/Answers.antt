@@ -1,8 +1,7 @@
 use Rattle.textwrap_styles.proofs.latest.Later.insert.Goals as goal
 use Rattle.std.proofs.lemmas.Map.Text.{is_eq-slice_cmp}
 use Rattle.textwrap_styles.proofs.{OpenSettings.{any-replaces, any-unknown, unknown-number}}
-use Rattle.textwrap_text.proofs.Common.{◌∙◌, ap, arith, cases_Bool, not, sym}
-use Rattle.textwrap_text.proofs.Common.{nat_tests}
+use Rattle.textwrap_text.proofs.Common.{◌∙◌, ap, arith, cases_Bool, not, sym, nat_tests}
 
 pub returns-then-is_unknown-clause-fresh : goal.returns-then-is_unknown-clause-fresh
 returns-then-is_unknown-clause-fresh g c = λ later are.

@@ -55,12 +55,13 @@ no-formula [] none = refl
 no-formula (w ∷ ws) none = search (rules, arith, or-right, or-left)
 
 -- nor an attribute
-hash : (word : List ℕ) → is_sign word ≡ false → starts_with nat_eq word (codes "#[") ≡ false
+hash : (word : List ℕ) → is_sign word ≡ false
+    → (starts_with nat_eq word (codes "#[") || starts_with nat_eq word (codes "#![")) ≡ false
 hash [] none = refl
 hash (c ∷ word) none = grind (arith, nat_tests, cases_Bool)
 
 no-attribute : (words : List SpacedText) → is_sign (first_word words) ≡ false → opens_attribute words ≡ false
-no-attribute words none = ap (λ b. b && any_contains (codes "\"```") words) (hash (first_word words) none)
+no-attribute words none = ap (λ b. b && any_contains (codes "```") words) (hash (first_word words) none)
 
 run-none : (word : List ℕ) → is_sign word ≡ false → run_of word ≡ None
 run-none word none =

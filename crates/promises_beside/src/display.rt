@@ -152,7 +152,7 @@ pub fn balanced_lines<'t, W: PrintableCuts + Copy>(
 pub fn rows_of_table(
     alloc: Global,
     cells: &[&str],
-    columns: &[Column<'_>],
+    columns: &[Column<'_, Options<'_>>],
     gaps: &Gaps<'_>,
 ) -> Result<Vec<String>, WrapError>
     ensures rows { IfOk result (λ rows.

@@ -9,18 +9,21 @@ use Rattle.textwrap.proofs.Text.Tables.{lines-kept}
 use Rattle.textwrap_display.proofs.Common.{AllZip, IsWholeText, map-map, nil-whole, suc-mul}
 use Rattle.textwrap_display.proofs.{Common.text_width-append, Common.text_width-nil, Widths.aligned-before}
 use Rattle.textwrap_display.specs.Laws.{KeepToColumns, ShowsEachLineOnce, cell_shown, row_of, row_width}
-use Rattle.textwrap_display.specs.Tables.{AreCells, AreTableRows, ColumnMakes, ColumnParts, HaveParts}
-use Rattle.textwrap_display.specs.Tables.{IsTableBy, IsTableOf, PartsMake, RowGaps, Shape, cell_line}
-use Rattle.textwrap_display.specs.Tables.{group_rows, groups_of, height, rows_of_cells, shape_of}
+use Rattle.textwrap_display.specs.Tables.{AreCells, AreTableRows, ColumnParts, HasColumnParts, HaveParts}
+use Rattle.textwrap_display.specs.Tables.{IsTableBy, IsTableOf, OptionsMake, PartsMake, RowGaps, Shape}
+use Rattle.textwrap_display.specs.Tables.{cell_line, group_rows, groups_of, height, rows_of_cells, shape_of}
 use Rattle.textwrap_display.specs.Tables.{shape_of_parts, shown_cell, shown_cells, table_row, texts_in}
 use Rattle.textwrap_display.specs.declared.tables.Column.{Column}
-use Rattle.textwrap_layout.proofs.{Common.HasParts, Common.Line, Paragraph.Pieces.lines-as}
+use Rattle.textwrap_layout.proofs.{Common.Line, Paragraph.Pieces.divides-under}
+use Rattle.textwrap_layout.specs.Options.{settings_view}
+use Rattle.textwrap_layout.specs.{Paragraph.DividesUnder, Text.AreTextLines}
+use Rattle.textwrap_layout.specs.declared.options.Options.{Options}
 use Rattle.textwrap_text.proofs.Common.{All, All-cons, All-head, All-map, All-nil, All-tail, Bor, List}
 use Rattle.textwrap_text.proofs.Common.{[], ap, append_assoc, arith, cases_lt, drop, drop-drop, drop_at}
 use Rattle.textwrap_text.proofs.Common.{fold, get_or, get_or-map, get_or_past, inl, inr, join_with}
 use Rattle.textwrap_text.proofs.Common.{length, length-append, length-map, map, map-append, max, min}
-use Rattle.textwrap_text.proofs.Common.{range_with_len, refl, rules, suc, sum_by, sum_by-cons, sym, take_at}
-use Rattle.textwrap_text.proofs.Common.{zero, zip, ℕ, ◌*◌, ◌++◌, ◌+◌, ◌-◌, ◌/◌, ◌<◌, ◌∙◌, ◌∷◌, ◌≡◌, ◌≤◌}
+use Rattle.textwrap_text.proofs.Common.{range_with_len, refl, rules, subst, suc, sum_by, sum_by-cons, sym}
+use Rattle.textwrap_text.proofs.Common.{take_at, zero, zip, ℕ, ◌*◌, ◌++◌, ◌+◌, ◌-◌, ◌/◌, ◌<◌, ◌∙◌, ◌∷◌, ◌≡◌, ◌≤◌}
 use Rattle.textwrap_text.specs.Units.{text_width}
 
 -- ---- the cells of a row: their lines, and what the columns show of them
@@ -153,19 +156,20 @@ module _ {X Y : Type 0} (Makes : X → List ℕ → List Line → Type 0)
 -- ---- built-in parts
 
 module _ {E C : Type 0} {e : _} {c : _} where
-  parts-make : (columns : List (Column E C e c)) (parts : List ColumnParts) → HaveParts columns parts
-      → MakeThose ColumnMakes PartsMake shape_of shape_of_parts columns parts
-  parts-make = AllZip-weaker _ _ (λ column p (have : HasParts column.options p.settings p.splitter p.algorithm
-      × (column.alignment ≡ p.alignment)). record {
-        makes = lines-as column.options p.settings p.splitter p.algorithm have.0;
-        shape_is = let width = ap (λ s. s.width) have.0.settings_are in cc (have.1);
-      })
+  part-makes : (column : Column (Options E C e c)) (p : ColumnParts) → HasColumnParts column p
+      → MakesThose OptionsMake PartsMake shape_of shape_of_parts column p
+  part-makes column p has = record {
+    makes = λ text lines are. rw (divides-under column.parts (settings_view column.parts) p.splitter
+        p.algorithm has.parts_are p.settings) at
+        (subst (λ s. AreTextLines s (DividesUnder column.parts s) text lines) has.settings_are are);
+    shape_is = let width = ap (λ s. s.width) has.settings_are in cc (has.alignment_is);
+  }
 
-  pub table-as : (columns : List (Column E C e c)) (parts : List ColumnParts)
+  pub table-as : (columns : List (Column (Options E C e c))) (parts : List ColumnParts)
       → HaveParts columns parts → (gaps : RowGaps) (texts rows : List (List ℕ))
       → AreTableRows columns gaps texts rows → IsTableOf parts gaps texts rows
-  table-as columns parts have = table-map ColumnMakes PartsMake shape_of shape_of_parts columns parts
-      (parts-make columns parts have)
+  table-as columns parts have = table-map OptionsMake PartsMake shape_of shape_of_parts columns parts
+      (AllZip-weaker HasColumnParts _ part-makes columns parts have)
 
 -- ---- the rows of cells that have their lines, group by group
 

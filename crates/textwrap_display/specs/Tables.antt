@@ -8,9 +8,11 @@ use Rattle.std.specs.List.{AllZip, flat_map, range_with_len, zip}
 use Rattle.std.specs.Slice.Iter.{chunk_count}
 use Rattle.std.specs.declared.borrow.CowStr.{CowStr}
 use Rattle.textwrap.specs.Rows.{row_text}
-use Rattle.textwrap_layout.specs.Options.{HasParts, Settings, settings_view}
-use Rattle.textwrap_layout.specs.Paragraph.{DividesAs, DividesBy, Line, line_bytes}
-use Rattle.textwrap_layout.specs.Text.{AreTextLines}
+use Rattle.textwrap_layout.specs.Options.{HasParts, Settings, layout_view, settings_view}
+use Rattle.textwrap_layout.specs.Paragraph.{DividesAs, DividesUnder, DividesWith, Line, line_bytes}
+use Rattle.textwrap_layout.specs.Paragraph.{MayPass64BitsWith, Relations}
+use Rattle.textwrap_layout.specs.Text.{AreTextLines, HasParagraphThat}
+use Rattle.textwrap_layout.specs.declared.options.Options.{Options}
 use Rattle.textwrap_words.specs.WordSplitters.{Splitter}
 use Rattle.textwrap_words.specs.WrapAlgorithms.{Algorithm}
 use Rattle.textwrap_display.specs.Alignment.{aligned}
@@ -26,8 +28,8 @@ pub record Shape : Type 0 where
   pub width : ℕ
   pub alignment : Alignment
 
-abbrev pub shape_of : {E C : Type 0} {e : _} {c : _} → Column E C e c → Shape
-shape_of column = record { width = column.options.width; alignment = column.alignment }
+abbrev pub shape_of : {P : Type 0} → Column P → Shape
+shape_of column = record { width = column.layout.width; alignment = column.alignment }
 
 -- what stands around the cells of a row
 pub record RowGaps : Type 0 where
@@ -104,14 +106,15 @@ module _ {X : Type 0} (Makes : X → List ℕ → List Line → Type 0) where
       × AllZip (AreCells columns) (groups_of (length columns) texts) groups
       × (rows ≡ flat_map (group_rows gaps (map shape columns)) groups)
 
--- the lines of a text by the options of a column
-abbrev pub ColumnMakes : {E C : Type 0} {e : _} {c : _} → Column E C e c → List ℕ → List Line
-    → Type 0
-ColumnMakes column = AreTextLines (settings_view column.options) (DividesBy column.options)
+-- the lines of a text by the layout and the parts of a column, where these may find so much
+abbrev pub ColumnMakes : {P : Type 0} → (P → Relations) → Column P → List ℕ → List Line → Type 0
+ColumnMakes may column = AreTextLines (layout_view column.layout)
+    (DividesWith (may column.parts) (layout_view column.layout))
 
-abbrev pub AreTableRows : {E C : Type 0} {e : _} {c : _} → List (Column E C e c) → RowGaps
-    → List (List ℕ) → List (List ℕ) → Type 0
-AreTableRows = IsTableBy ColumnMakes shape_of
+-- the pieces of some paragraph may pass 64 bits in the column
+abbrev pub ColumnMayPass : {P : Type 0} → (P → Relations) → Column P → List ℕ → Type 0
+ColumnMayPass may column = HasParagraphThat
+    (MayPass64BitsWith (may column.parts) (layout_view column.layout)) column.layout.line_ending
 
 -- no text passes in its column, where a relation says which may
 abbrev pub NonePasses : {X : Type 0} → (X → List ℕ → Type 0) → List X → List (List ℕ) → Type 0
@@ -135,8 +138,21 @@ shape_of_parts p = record { width = p.settings.width; alignment = p.alignment }
 abbrev pub IsTableOf : List ColumnParts → RowGaps → List (List ℕ) → List (List ℕ) → Type 0
 IsTableOf = IsTableBy PartsMake shape_of_parts
 
--- these are the columns' parts
-abbrev pub HaveParts : {E C : Type 0} {e : _} {c : _} → List (Column E C e c) → List ColumnParts
-    → Type 0
-HaveParts = AllZip (λ column p. HasParts column.options p.settings p.splitter p.algorithm
-    × (column.alignment ≡ p.alignment))
+module _ {E C : Type 0} {e : _} {c : _} where
+  -- the lines of a text by the layout and the options of a column
+  abbrev pub OptionsMake : Column (Options E C e c) → List ℕ → List Line → Type 0
+  OptionsMake column = AreTextLines (layout_view column.layout)
+      (DividesUnder column.parts (layout_view column.layout))
+
+  abbrev pub AreTableRows : List (Column (Options E C e c)) → RowGaps → List (List ℕ)
+      → List (List ℕ) → Type 0
+  AreTableRows = IsTableBy OptionsMake shape_of
+
+  -- these are the column's parts
+  pub record HasColumnParts (column : Column (Options E C e c)) (p : ColumnParts) : Type 0 where
+    pub settings_are : layout_view column.layout ≡ p.settings
+    pub parts_are : HasParts column.parts (settings_view column.parts) p.splitter p.algorithm
+    pub alignment_is : column.alignment ≡ p.alignment
+
+  abbrev pub HaveParts : List (Column (Options E C e c)) → List ColumnParts → Type 0
+  HaveParts = AllZip HasColumnParts

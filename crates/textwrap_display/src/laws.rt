@@ -181,7 +181,7 @@ pub fn justified_texts_have_named_parts(options: &Options<'_>)
 {}
 
 /// And so is a table whose columns have such options.
-pub fn tables_have_named_parts(columns: &[Column<'_>])
+pub fn tables_have_named_parts(columns: &[Column<'_, Options<'_>>])
     ensures { (parts : List ColumnParts) → HaveParts columns.now parts
         → (gaps : RowGaps) (texts rows : List (List ℕ)) → AreTableRows columns.now gaps texts rows
         → IsTableOf parts gaps texts rows }

@@ -14,8 +14,9 @@ pub use fitting::fitting_widths;
 pub use justifying::justify;
 pub use needs::{Need, needs_of};
 pub use shortening::{Shortening, shorten, shorten_by, shorten_lines, shorten_lines_by};
-pub use tables::{AnyColumn, Column, Gaps, table, table_of_lines};
+pub use tables::{Column, Gaps, table, table_of_lines};
 pub use tabs::expand_tabs;
+pub use textwrap_layout::layout::Layout;
 pub use textwrap_styles::carry_styles;
 
 mod alignment;

@@ -2,7 +2,7 @@
 ghost use Rattle.std.specs.Prelude.{◌≡◌, List, [], ◌++◌, All, length, map};
 ghost use Rattle.std.specs.Prelude.{slice_index_or, string_bytes, IfOk, OnOk};
 ghost use Rattle.textwrap_display.specs.Tables.{NonePasses, AreCells, IsTableBy, cell_line, groups_of};
-ghost use Rattle.textwrap_display.specs.Tables.{cell_texts};
+ghost use Rattle.textwrap_display.specs.Tables.{cell_texts, ColumnMakes, ColumnMayPass};
 ghost use Rattle.textwrap_display.specs.Tables.{gaps_view, group_rows, height};
 ghost use Rattle.textwrap_display.specs.Tables.{rows_of_cells, shape_of, texts_in};
 ghost use Rattle.textwrap_base.specs.Errors.{OnlyMemoryRunsOut};
@@ -10,79 +10,21 @@ ghost use Rattle.textwrap_base.specs.Errors.{OnlyMemoryRunsOut};
 use crate::alignment::{Alignment, aligned_cell};
 use std::alloc::{AllocError, Allocator};
 use std::borrow::CowStr;
+use textwrap::WrapError;
 use textwrap::inner::{RowCell, RowCells, RowFrame, line_at, push_rows};
-use textwrap::{Options, WrapError};
 use textwrap_layout::layout::Layout;
+use textwrap_layout::parts::Parts;
 use textwrap_lines::inner::wrap_by;
 
 /// A column of a table.
-#[derive(Debug, Drop)]
-pub struct Column<'o> {
-    /// How its texts are wrapped. Their width is that of the column, in columns of the screen.
-    pub options: Options<'o>,
+#[derive(Drop)]
+pub struct Column<'a, P> {
+    /// Its width, in columns of the screen, and what else is said of the lines of its texts.
+    pub layout: Layout<'a>,
+    /// Where their words end and are split, and how these are divided into lines.
+    pub parts: P,
     /// Where each line stands in the column.
     pub alignment: Alignment,
-}
-
-/// A column of a table: how its texts are wrapped, and where their lines stand in it.
-pub trait AnyColumn<A: Allocator> {
-    ghost use Rattle.std.specs.Prelude.{◌≡◌, ℕ, List, map, IfOk};
-    ghost use Rattle.textwrap_layout.specs.Paragraph.{Line, line_view};
-    ghost use Rattle.textwrap_display.specs.Tables.{Shape};
-
-    // The lines of a text in it.
-    ghost makes: { Self → List ℕ → List Line → Type 0 };
-
-    // How wide it is, and where a line stands in it.
-    ghost shape: { Self → Shape };
-
-    // Whether anything may overflow in it, and whether this text may.
-    ghost may_overflow: { Self → Type 0 };
-
-    ghost may_pass: { Self → List ℕ → Type 0 };
-
-    /// How wide it is, in columns of the screen.
-    fn width(&self) -> usize
-        ensures { result ≡ (shape self.now).width };
-
-    /// Where each line stands in it.
-    fn alignment(&self) -> Alignment
-        ensures { result ≡ (shape self.now).alignment };
-
-    /// The lines of a text in it.
-    ///
-    /// # Errors
-    /// Those of `wrap`.
-    fn wrap_cell<'t>(&self, alloc: A, text: &'t str) -> Result<Vec<CowStr<'t, A>, A>, WrapError>
-        ensures lines { IfOk result (λ lines. makes self.now text.now (map line_view lines.items)) }
-        ensures only_memory { ¬ may_overflow self.now → OnlyMemoryRunsOut result }
-        ensures no_overflow { ¬ may_pass self.now text.now → OnlyMemoryRunsOut result };
-}
-
-impl<A: Allocator + Copy> AnyColumn<A> for Column<'_> {
-    ghost use Rattle.textwrap_layout.specs.Options.{MayOverflow};
-    ghost use Rattle.textwrap_layout.specs.Text.{SomeMayPass64Bits};
-    ghost use Rattle.textwrap_display.specs.Tables.{ColumnMakes, shape_of};
-
-    ghost makes = { λ column. ColumnMakes column };
-
-    ghost shape = { λ column. shape_of column };
-
-    ghost may_overflow = { λ column. MayOverflow column.options };
-
-    ghost may_pass = { λ column. SomeMayPass64Bits column.options };
-
-    fn width(&self) -> usize {
-        self.options.width
-    }
-
-    fn alignment(&self) -> Alignment {
-        self.alignment
-    }
-
-    fn wrap_cell<'t>(&self, alloc: A, text: &'t str) -> Result<Vec<CowStr<'t, A>, A>, WrapError> {
-        wrap_by(alloc, text, Layout::of(&self.options), &self.options)
-    }
 }
 
 /// What stands around the cells of a row.
@@ -102,7 +44,7 @@ type Cell<'t, A> = Vec<CowStr<'t, A>, A>;
 /// Wraps texts in the columns of a table, and returns its rows, from the top down.
 ///
 /// The cells are texts. As many as there are columns stand beside one another, and the last ones
-/// may be fewer. Each is wrapped by the options of its column. Together they take as many rows as
+/// may be fewer. Each is wrapped by the layout and the parts of its column. Together they take as many rows as
 /// the highest of them has lines; below its own last line a cell shows nothing. Each line is
 /// aligned in the width of its column, as [`display_width`](textwrap::words::display_width)
 /// measures it, and one that is wider is not cut. The gaps stand before the first column, between
@@ -110,10 +52,10 @@ type Cell<'t, A> = Vec<CowStr<'t, A>, A>;
 /// columns there are no rows.
 ///
 /// ```rust
-/// let columns = [
-///     Column { options: Options::new(4), alignment: Alignment::Left },
-///     Column { options: Options::new(12), alignment: Alignment::Left },
-/// ];
+/// let (layout, parts) = (Layout::new(4), Options::new(4));
+/// let flags = Column { layout, parts, alignment: Alignment::Left };
+/// let (layout, parts) = (Layout::new(12), Options::new(12));
+/// let columns = [flags, Column { layout, parts, alignment: Alignment::Left }];
 /// let gaps = Gaps { left: "", middle: "  ", right: "|" };
 /// let texts = ["-h", "Print this help.", "-q", "Say nothing."];
 /// let rows = table(alloc, &texts, &columns, &gaps)?;
@@ -124,17 +66,17 @@ type Cell<'t, A> = Vec<CowStr<'t, A>, A>;
 /// # Errors
 /// Those of `wrap`. A row that is longer than 64 bits can say is out of memory too, and is refused
 /// before any of it is written.
-pub fn table<A: Allocator + Copy, C: AnyColumn<A>>(
+pub fn table<A: Allocator + Copy, P: Parts<A>>(
     alloc: A,
     cells: &[&str],
-    columns: &[C],
+    columns: &[Column<'_, P>],
     gaps: &Gaps<'_>,
 ) -> Result<Vec<String<A>, A>, WrapError>
-    ensures rows { IfOk result (λ rows. IsTableBy C.makes C.shape columns.now (gaps_view gaps.now)
-        (texts_in cells.now) (map string_bytes rows.items)) }
-    ensures only_memory { All (λ column. ¬ C.may_overflow column) columns.now
+    ensures rows { IfOk result (λ rows. IsTableBy (ColumnMakes P.may) shape_of columns.now
+        (gaps_view gaps.now) (texts_in cells.now) (map string_bytes rows.items)) }
+    ensures only_memory { All (λ column. ¬ P.may_overflow column.parts) columns.now
         → OnlyMemoryRunsOut result }
-    ensures no_overflow { All (NonePasses C.may_pass columns.now)
+    ensures no_overflow { All (NonePasses (ColumnMayPass P.may) columns.now)
         (groups_of (length columns.now) (texts_in cells.now)) → OnlyMemoryRunsOut result }
 {
     let mut rows = Vec::new(alloc);
@@ -155,10 +97,10 @@ pub fn table<A: Allocator + Copy, C: AnyColumn<A>>(
 ///
 /// # Errors
 /// [`AllocError`] where memory runs out, also for a row that is longer than 64 bits can say.
-pub fn table_of_lines<A: Allocator + Copy>(
+pub fn table_of_lines<A: Allocator + Copy, P>(
     alloc: A,
     cells: &[Vec<CowStr<'_, A>, A>],
-    columns: &[Column<'_>],
+    columns: &[Column<'_, P>],
     gaps: &Gaps<'_>,
 ) -> Result<Vec<String<A>, A>, AllocError>
     ensures { IfOk result (λ rows. map string_bytes rows.items
@@ -174,39 +116,39 @@ pub fn table_of_lines<A: Allocator + Copy>(
     Ok(rows)
 }
 
-/// Wraps each text by the options of its column.
+/// Wraps each text in its column.
 ///
 /// # Errors
 /// Those of `wrap`.
-fn wrap_cells<'t, A: Allocator + Copy, C: AnyColumn<A>>(
+fn wrap_cells<'t, A: Allocator + Copy, P: Parts<A>>(
     alloc: A,
     texts: &[&'t str],
-    columns: &[C],
+    columns: &[Column<'_, P>],
 ) -> Result<Vec<Cell<'t, A>, A>, WrapError>
     ensures cells { IfOk result (λ cells.
-        AreCells C.makes columns.now (texts_in texts.now) (cell_texts cells.items)) }
-    ensures only_memory { All (λ column. ¬ C.may_overflow column) columns.now
+        AreCells (ColumnMakes P.may) columns.now (texts_in texts.now) (cell_texts cells.items)) }
+    ensures only_memory { All (λ column. ¬ P.may_overflow column.parts) columns.now
         → OnlyMemoryRunsOut result }
-    ensures no_overflow { NonePasses C.may_pass columns.now (texts_in texts.now)
+    ensures no_overflow { NonePasses (ColumnMayPass P.may) columns.now (texts_in texts.now)
         → OnlyMemoryRunsOut result }
 {
     let mut cells = Vec::new(alloc);
     for (text, column) in texts.iter().zip(columns) {
-        cells.push(column.wrap_cell(alloc, text)?)?;
+        cells.push(wrap_by(alloc, text, column.layout, &column.parts)?)?;
     }
     Ok(cells)
 }
 
 /// Adds the rows of a group of cells, as many as the highest cell has lines.
-fn push_group<A: Allocator + Copy, C: AnyColumn<A>>(
+fn push_group<A: Allocator + Copy, P>(
     alloc: A,
     rows: &mut Vec<String<A>, A>,
     cells: &[Cell<'_, A>],
-    columns: &[C],
+    columns: &[Column<'_, P>],
     gaps: &Gaps<'_>,
 ) -> Result<(), AllocError>
     ensures { OnOk result (map string_bytes rows.new.items ≡ map string_bytes rows.old.items
-        ++ group_rows (gaps_view gaps.now) (map C.shape columns.now) (cell_texts cells.now)) }
+        ++ group_rows (gaps_view gaps.now) (map shape_of columns.now) (cell_texts cells.now)) }
 {
     let frame = RowFrame {
         left: gaps.left,
@@ -231,16 +173,16 @@ fn height<A: Allocator>(cells: &[Cell<'_, A>]) -> usize
 
 /// Cells that stand beside one another.
 #[derive(Drop)]
-struct Group<'l, 't, A: Allocator, C> {
+struct Group<'l, 't, A: Allocator, P> {
     cells: &'l [Cell<'t, A>],
-    columns: &'l [C],
+    columns: &'l [Column<'l, P>],
 }
 
-impl<A: Allocator, C: AnyColumn<A>> RowCells for Group<'_, '_, A, C> {
+impl<A: Allocator, P> RowCells for Group<'_, '_, A, P> {
     ghost use Rattle.std.specs.Prelude.{length, map};
-    ghost use Rattle.textwrap_display.specs.Tables.{cell_texts, shown_cells};
+    ghost use Rattle.textwrap_display.specs.Tables.{cell_texts, shape_of, shown_cells};
 
-    ghost texts = { λ group. shown_cells (map C.shape group.columns.now)
+    ghost texts = { λ group. shown_cells (map shape_of group.columns.now)
         (cell_texts group.cells.now) };
 
     ghost columns = { λ group. length group.columns.now };
@@ -253,8 +195,8 @@ impl<A: Allocator, C: AnyColumn<A>> RowCells for Group<'_, '_, A, C> {
         let column = &self.columns[c];
         aligned_cell(
             cell_line(self.cells, c, r),
-            column.width(),
-            column.alignment(),
+            column.layout.width,
+            column.alignment,
         )
     }
 

@@ -13,16 +13,17 @@ ghost use Rattle.textwrap_plain.specs.Tables.{IsPlainTable, plain_parts};
 use simdutf8::basic::from_utf8;
 use std::alloc::{AllocError, Global};
 use std::borrow::CowStr;
-use textwrap::{Options, WrapError};
+use textwrap::WrapError;
 use textwrap_calls::columns::{TextwrapGaps, are_known_gaps, place_rows, read_gaps};
 use textwrap_calls::display::read_alignment;
 use textwrap_calls::options::{TextwrapOptions, are_known, read_options};
 use textwrap_calls::reported::{TextwrapLine, put_lines};
 use textwrap_calls::status::{NOT_UTF8, OUT_OF_MEMORY, UNKNOWN_OPTIONS};
 use textwrap_calls::texts::{TextwrapText, are_utf8, lines_of, strs_of};
-use textwrap_display::{Column, Gaps, table, table_of_lines};
+use textwrap_display::{Column, Gaps, Layout, table, table_of_lines};
 use textwrap_lines::placed::PlacedLines;
-use textwrap_plain::PlainColumn;
+use textwrap_plain::PlainWords;
+use textwrap_plain::parts::PlainParts;
 
 /// A column of a table.
 #[repr(C)]
@@ -181,7 +182,7 @@ fn place_table(
 fn read_columns<'a>(
     alloc: Global,
     given: &[TextwrapColumn<'a>],
-) -> Result<Vec<PlainColumn<'a>>, AllocError>
+) -> Result<Vec<Column<'a, PlainParts<'a, PlainWords>>>, AllocError>
     requires known { All IsKnownColumn given.now }
     requires texts { All HasTexts given.now }
     ensures { IfOk result (λ columns.
@@ -195,7 +196,11 @@ fn read_columns<'a>(
         let Some(alignment) = read_alignment(column.alignment) else {
             unreachable!();
         };
-        columns.push(PlainColumn { options, alignment })?;
+        columns.push(Column {
+            layout: options.layout(),
+            parts: options.parts(alloc),
+            alignment,
+        })?;
     }
     Ok(columns)
 }
@@ -231,8 +236,11 @@ fn place_cells(
         let Some(alignment) = read_alignment(column.alignment) else {
             unreachable!();
         };
-        let options = Options::new(column.options.width);
-        shapes.push(Column { options, alignment })?;
+        shapes.push(Column {
+            layout: Layout::new(column.options.width),
+            parts: (),
+            alignment,
+        })?;
     }
     place_rows(alloc, table_of_lines(alloc, &cells, &shapes, gaps)?)
 }

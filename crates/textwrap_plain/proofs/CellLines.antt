@@ -27,9 +27,10 @@ use Rattle.textwrap_plain.proofs.Pieces.{hyphen-printable, hyphen-prints}
 use Rattle.textwrap_plain.proofs.Words.{close-at, lines-greedy, pieces-at, texts-at}
 use Rattle.textwrap_plain.specs.{CutSides.points_by-cuts, Laws.{CellsKeepToColumns, HasRoomBehind}}
 use Rattle.textwrap_plain.specs.{Laws.{MayKeepToColumn, hyphen_columns}, Options.is_dictionary}
-use Rattle.textwrap_plain.specs.Options.{plain_algorithm, plain_settings, points_by, port_splitter}
+use Rattle.textwrap_plain.specs.Options.{points_by, port_splitter}
+use Rattle.textwrap_layout.specs.{Direct.as_algorithm, Options.layout_view}
+use Rattle.textwrap_plain.proofs.Named.{PlainColumn}
 use Rattle.textwrap_plain.specs.{Options.words_by, Tables.{PlainMakes, plain_parts, plain_shape}}
-use Rattle.textwrap_plain.specs.declared.columns.PlainColumn.{PlainColumn}
 use Rattle.textwrap_plain.specs.declared.options.PlainSplitter.{PlainSplitter}
 use Rattle.textwrap_plain.specs.declared.options.PlainSplitter.TheVariants.{BuiltIn, Dictionary}
 use Rattle.textwrap_styles.proofs.SequenceTexts.{nil-whole, whole_text-append}
@@ -275,23 +276,24 @@ hyphen-mark w is =
 
 -- a cell's lines, where its column and its text are such
 cell-keeps : (column : PlainColumn) (text : List ℕ) (cell : List (List ℕ)) → MayKeepToColumn column text
-    → IsCell PlainMakes (plain_parts column, text) cell → All (Fits column.options.layout.width) cell
+    → IsCell PlainMakes (plain_parts column, text) cell → All (Fits column.layout.width) cell
 cell-keeps column text cell may (lines, are, is) =
-    let o = column.options in
-    let Words : List ℕ → List WordText → Type 0 = λ line words. words ≡ words_by o.word_separator line in
-    let Points : List ℕ → List ℕ → Type 0 = λ word points. points ≡ points_by o.word_splitter word in
-    subst (All (Fits o.layout.width)) (sym is) (lines-fit (plain_settings o) (hyphen_columns o) text may.can
-    may.initial may.subsequent Words Points (IsDividedBy (plain_algorithm o) sizes_of)
-    (texts-at o.word_separator) (points_by-cuts o.word_splitter)
-    (close-at o.word_separator (plain_settings o) o.word_splitter refl
-    (later-room o.word_splitter may.subsequent.fits))
-    (pieces-at o.word_separator (plain_settings o) Marks no-mark hyphen-mark o.word_splitter)
+    let settings = layout_view column.layout in
+    let separator = column.parts.words.separator in
+    let splitter = column.parts.splitter in
+    let Words : List ℕ → List WordText → Type 0 = λ line words. words ≡ words_by separator line in
+    let Points : List ℕ → List ℕ → Type 0 = λ word points. points ≡ points_by splitter word in
+    subst (All (Fits column.layout.width)) (sym is) (lines-fit settings (hyphen_columns splitter) text may.can
+    may.initial may.subsequent Words Points (IsDividedBy (as_algorithm column.parts.algorithm) sizes_of)
+    (texts-at separator) (points_by-cuts splitter)
+    (close-at separator settings splitter may.hyphens (later-room splitter may.subsequent.fits))
+    (pieces-at separator settings Marks no-mark hyphen-mark splitter)
     (lines-greedy may.first_fit) lines may.utf8 may.escape are)
   where
     later-room : (splitter : PlainSplitter)
-        → text_width column.options.layout.subsequent_indent.now + cond (is_dictionary splitter) 1 0
-        ≤ column.options.layout.width → port_splitter splitter ≡ None
-        → 0 < column.options.layout.width - text_width column.options.layout.subsequent_indent.now
+        → text_width column.layout.subsequent_indent.now + cond (is_dictionary splitter) 1 0
+        ≤ column.layout.width → port_splitter splitter ≡ None
+        → 0 < column.layout.width - text_width column.layout.subsequent_indent.now
     later-room (BuiltIn splitter) fits none = cc
     later-room (Dictionary table) fits none = omega (arith, fits)
 

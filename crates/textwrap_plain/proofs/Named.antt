@@ -2,10 +2,14 @@
 use Rattle.textwrap.proofs.Common.{Settings, Bool, List, [], map, refl, ℕ, ◌∷◌, ◌≡◌}
 use Rattle.textwrap.proofs.Common.{Algorithm, WordText}
 use Rattle.textwrap_display.proofs.TableGroups.{MakeThose, table-map}
-use Rattle.textwrap_display.specs.Tables.{IsTableBy, RowGaps}
-use Rattle.textwrap_plain.specs.Options.{DividesFrom, words_by}
+use Rattle.textwrap_display.specs.Tables.{ColumnMakes, IsTableBy, RowGaps, shape_of}
+use Rattle.textwrap_display.specs.declared.tables.Column.{Column}
+use Rattle.textwrap_layout.specs.{Direct.as_algorithm, Paragraph.Relations}
+use Rattle.textwrap_plain.specs.Options.{DividesFrom, points_by, words_by}
 use Rattle.textwrap_plain.specs.Tables.{IsPlainTable, PlainMakes, plain_parts, plain_shape}
-use Rattle.textwrap_plain.specs.declared.columns.PlainColumn.{PlainColumn}
+use Rattle.textwrap_plain.specs.declared.parts.PlainParts.{PlainParts}
+use Rattle.textwrap_plain.specs.declared.printable.PlainWords.{PlainWords}
+use Rattle.textwrap_words.specs.{Words.sizes_of, WrapAlgorithms.IsDividedBy}
 use Rattle.textwrap_plain.specs.declared.options.PlainSeparator.{PlainSeparator}
 
 pub named : (P : Settings → (Settings → Bool → List ℕ → List (List WordText) → Type 0) → Type 0)
@@ -15,20 +19,28 @@ named P settings words points algorithm is = rw (settings, words, points, algori
 
 -- ---- what a table of columns without functions shows
 
+abbrev pub PlainColumn : Type 0
+PlainColumn = Column (PlainParts PlainWords)
+
+-- what the parts of such a column may find
+abbrev may_find : PlainParts PlainWords → Relations
+may_find parts = record {
+  Words = λ line words. words ≡ words_by parts.words.separator line;
+  Points = λ word points. points ≡ points_by parts.splitter word;
+  Lines = IsDividedBy (as_algorithm parts.algorithm) sizes_of;
+}
+
 -- each column makes what its parts make
 columns-make : (columns : List PlainColumn)
-    → MakeThose (λ column. PlainMakes (plain_parts column)) PlainMakes
-    (λ column. plain_shape (plain_parts column)) plain_shape columns (map plain_parts columns)
+    → MakeThose (ColumnMakes may_find) PlainMakes shape_of plain_shape columns (map plain_parts columns)
 columns-make [] = tt
 columns-make (column ∷ columns) =
     (record { makes = λ text lines are. are; shape_is = refl }, columns-make columns)
 
 -- and so does the table
 pub plain-table : (columns : List PlainColumn) (gaps : RowGaps) (texts rows : List (List ℕ))
-    → IsTableBy (λ column. PlainMakes (plain_parts column)) (λ column. plain_shape (plain_parts column))
-    columns gaps texts rows
+    → IsTableBy (ColumnMakes may_find) shape_of columns gaps texts rows
     → IsPlainTable (map plain_parts columns) gaps texts rows
 plain-table columns =
-    table-map (λ column. PlainMakes (plain_parts column)) PlainMakes
-    (λ column. plain_shape (plain_parts column)) plain_shape columns (map plain_parts columns)
+    table-map (ColumnMakes may_find) PlainMakes shape_of plain_shape columns (map plain_parts columns)
     (columns-make columns)

@@ -9,14 +9,18 @@ use Rattle.textwrap.specs.WrapAlgorithms.{Algorithm, ByFirstFit, algorithm_view}
 use Rattle.textwrap_display.specs.{Laws.KeepToColumns, Tables.AreCells}
 use Rattle.textwrap_hyphens.specs.{Hyphenation.Hyphenation, Table.held}
 use Rattle.textwrap_hyphens.specs.declared.table.PatternTable.{PatternTable}
-use Rattle.textwrap_layout.specs.{Paragraph.later_width, declared.options.Options.Options}
+use Rattle.textwrap_layout.specs.{Direct.as_algorithm, Options.layout_view, Paragraph.later_width}
+use Rattle.textwrap_layout.specs.declared.options.Options.{Options}
 use Rattle.textwrap_plain.specs.Hyphenated.{AddOnlyHyphens, DividesAtPoints, AreTheText}
 use Rattle.textwrap_plain.specs.Hyphenated.{DividesHyphenatedUnder, HasPartsBeside, LinesKeepButHyphens}
 use Rattle.textwrap_plain.specs.Options.{is_dictionary, DividesPlainly, plain_algorithm, plain_settings}
 use Rattle.textwrap_plain.specs.Tables.{PlainMakes, plain_parts, plain_shape}
-use Rattle.textwrap_plain.specs.declared.columns.PlainColumn.{PlainColumn}
+use Rattle.textwrap_display.specs.declared.tables.Column.{Column}
+use Rattle.textwrap_plain.specs.declared.parts.PlainParts.{PlainParts}
+use Rattle.textwrap_plain.specs.declared.printable.PlainWords.{PlainWords}
 use Rattle.textwrap_plain.specs.declared.options.PlainOptions.{PlainOptions}
 use Rattle.textwrap_plain.specs.declared.options.PlainSeparator.TheVariants.{AtBlanks}
+use Rattle.textwrap_plain.specs.declared.options.PlainSplitter.{PlainSplitter}
 use Rattle.textwrap_plain.specs.declared.options.PlainSplitter.TheVariants.{Dictionary}
 use Rattle.textwrap_words.specs.declared.wrap_algorithms.WrapAlgorithm.TheVariants.{FirstFit}
 
@@ -114,25 +118,26 @@ pub record HasRoomBehind (width spare : ℕ) (text indent : List ℕ) : Type 0 w
   pub each : All (λ c. text_width indent + columns c + spare ≤ width) (chars text)
 
 -- the columns of a hyphen, where a dictionary splits words
-abbrev pub hyphen_columns : PlainOptions → ℕ
-hyphen_columns o = if is_dictionary o.word_splitter then 1 else 0
+abbrev pub hyphen_columns : PlainSplitter → ℕ
+hyphen_columns splitter = if is_dictionary splitter then 1 else 0
 
 -- a text without escape sequences, in a column that may keep to its width, has room for each of the
 -- text's characters, with a hyphen where a dictionary splits words, and breaks words by first fit
-pub record MayKeepToColumn (column : PlainColumn) (text : List ℕ) : Type 0 where
-  pub first_fit : plain_algorithm column.options ≡ ByFirstFit
+pub record MayKeepToColumn (column : Column (PlainParts PlainWords)) (text : List ℕ) : Type 0 where
+  pub first_fit : as_algorithm column.parts.algorithm ≡ ByFirstFit
+  pub hyphens : column.layout.room_for_hyphens ≡ is_dictionary column.parts.splitter
   pub utf8 : IsUtf8 text
   pub escape : HasNoEscape text
-  pub can : CanKeepToWidth (plain_settings column.options) text
-  pub initial : HasRoomBehind column.options.layout.width (hyphen_columns column.options) text
-      column.options.layout.initial_indent.now
-  pub subsequent : HasRoomBehind column.options.layout.width (hyphen_columns column.options) text
-      column.options.layout.subsequent_indent.now
+  pub can : CanKeepToWidth (layout_view column.layout) text
+  pub initial : HasRoomBehind column.layout.width (hyphen_columns column.parts.splitter) text
+      column.layout.initial_indent.now
+  pub subsequent : HasRoomBehind column.layout.width (hyphen_columns column.parts.splitter) text
+      column.layout.subsequent_indent.now
 
 -- the lines of such texts keep to their columns
 abbrev pub CellsKeepToColumns : Type 0
 CellsKeepToColumns =
-    (columns : List PlainColumn) (texts : List (List ℕ)) (cells : List (List (List ℕ)))
-    → All (λ p. MayKeepToColumn p.0 p.1) (zip columns texts)
+    (columns : List (Column (PlainParts PlainWords))) (texts : List (List ℕ))
+    (cells : List (List (List ℕ))) → All (λ p. MayKeepToColumn p.0 p.1) (zip columns texts)
     → AreCells PlainMakes (map plain_parts columns) texts cells
     → KeepToColumns (map plain_shape (map plain_parts columns)) cells

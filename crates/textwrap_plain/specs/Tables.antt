@@ -4,8 +4,11 @@ use Rattle.textwrap.specs.{Options.Settings, Paragraph.Line, Text.AreTextLines, 
 use Rattle.textwrap.specs.WrapAlgorithms.{Algorithm}
 use Rattle.textwrap_display.specs.Tables.{IsTableBy, RowGaps, Shape}
 use Rattle.textwrap_display.specs.declared.alignment.Alignment.{Alignment}
-use Rattle.textwrap_plain.specs.Options.{DividesFrom, plain_algorithm, plain_settings, points_by}
-use Rattle.textwrap_plain.specs.{Options.words_by, declared.columns.PlainColumn.PlainColumn}
+use Rattle.textwrap_display.specs.declared.tables.Column.{Column}
+use Rattle.textwrap_layout.specs.{Direct.as_algorithm, Options.layout_view}
+use Rattle.textwrap_plain.specs.Options.{DividesFrom, points_by, words_by}
+use Rattle.textwrap_plain.specs.declared.parts.PlainParts.{PlainParts}
+use Rattle.textwrap_plain.specs.declared.printable.PlainWords.{PlainWords}
 
 -- how a column wraps its texts, and where their lines stand in it
 pub record PlainColumnParts : Type 0 where
@@ -15,12 +18,12 @@ pub record PlainColumnParts : Type 0 where
   pub algorithm : Algorithm
   pub alignment : Alignment
 
-abbrev pub plain_parts : PlainColumn → PlainColumnParts
+abbrev pub plain_parts : Column (PlainParts PlainWords) → PlainColumnParts
 plain_parts c = record {
-  words = words_by c.options.word_separator;
-  settings = plain_settings c.options;
-  points = points_by c.options.word_splitter;
-  algorithm = plain_algorithm c.options;
+  words = words_by c.parts.words.separator;
+  settings = layout_view c.layout;
+  points = points_by c.parts.splitter;
+  algorithm = as_algorithm c.parts.algorithm;
   alignment = c.alignment;
 }
 

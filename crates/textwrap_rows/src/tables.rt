@@ -5,7 +5,7 @@ use crate::notation::{numbers_written, or_none, push_word, rows_written};
 use crate::settings::number;
 use std::alloc::{AllocError, Global};
 use textwrap::{Options, WrapAlgorithm};
-use textwrap_display::{Alignment, Column, Gaps, Need, fitting_widths, needs_of, table};
+use textwrap_display::{Alignment, Column, Gaps, Layout, Need, fitting_widths, needs_of, table};
 
 /// Texts as cells.
 fn cells_of<'t>(alloc: Global, texts: &'t [String]) -> Result<Vec<&'t str>, AllocError> {
@@ -50,7 +50,11 @@ pub fn tabled(alloc: Global, arguments: &[String]) -> Result<String, Fault> {
     let mut columns = Vec::new(alloc);
     for &(width, alignment) in &columns_of(alloc, written.as_str())? {
         let options = Options::new(width).wrap_algorithm(WrapAlgorithm::FirstFit);
-        columns.push(Column { options, alignment })?;
+        columns.push(Column {
+            layout: Layout::of(&options),
+            parts: options,
+            alignment,
+        })?;
     }
     let gaps = Gaps {
         left: left.as_str(),

@@ -9,7 +9,7 @@ ghost use Rattle.textwrap.specs.Errors.{OnlyMemoryRunsOut};
 use std::alloc::Global;
 use textwrap::{Options, WrapError, fill};
 use textwrap_display::laws::{fitting_widths_add_up, table_rows_are_even, tables_have_named_parts};
-use textwrap_display::{Alignment, Column, Gaps, Need, fitting_widths, needs_of, table};
+use textwrap_display::{Alignment, Column, Gaps, Layout, Need, fitting_widths, needs_of, table};
 
 /// The help of a flag: the flag, and beside it the text, filled at the width. Later lines are
 /// indented by eight blanks.
@@ -48,11 +48,13 @@ pub fn help_rows(
     let text_width = width.saturating_sub(flag_width.saturating_add(4));
     let columns = [
         Column {
-            options: Options::new(flag_width),
+            layout: Layout::new(flag_width),
+            parts: Options::new(flag_width),
             alignment: Alignment::Left,
         },
         Column {
-            options: Options::new(text_width),
+            layout: Layout::new(text_width),
+            parts: Options::new(text_width),
             alignment: Alignment::Left,
         },
     ];

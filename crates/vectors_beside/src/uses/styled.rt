@@ -8,7 +8,7 @@ use std::alloc::{AllocError, Global};
 use std::borrow::CowStr;
 use textwrap::{Options, WrapError, wrap};
 use textwrap_display::laws::carried_lines_keep_pens;
-use textwrap_display::{Alignment, Column, Gaps, carry_styles, table_of_lines};
+use textwrap_display::{Alignment, Column, Gaps, Layout, carry_styles, table_of_lines};
 
 /// The rows of two texts beside one another, each in so many columns. A style or a link that goes on
 /// over the end of a line is carried before the lines are laid out, so that it does not go on into
@@ -36,11 +36,13 @@ pub fn rows_beside<'t>(
     let cells = carried_cells(alloc, &wrapped)?;
     let columns = [
         Column {
-            options: Options::new(left_width),
+            layout: Layout::new(left_width),
+            parts: (),
             alignment: Alignment::Left,
         },
         Column {
-            options: Options::new(right_width),
+            layout: Layout::new(right_width),
+            parts: (),
             alignment: Alignment::Left,
         },
     ];

@@ -3,7 +3,7 @@ use Rattle.std.proofs.lemmas.Slice.Zip.{all_zipped_more, length-zip, zip_end, zi
 use Rattle.std.specs.{Iterator.Adapters.zip_first, Iterator.Adapters.zip_second, Slice.Iter.iter_rest}
 use Rattle.textwrap_display.proofs.Common.{passed-on, texts_of}
 use Rattle.textwrap_display.proofs.{TableGroups.cell-at, tables.wrap_cells.Goals.In-Some}
-use Rattle.textwrap_display.specs.Tables.{IsCell, cell_texts, texts_in}
+use Rattle.textwrap_display.specs.Tables.{ColumnMakes, ColumnMayPass, IsCell, cell_texts, texts_in}
 use Rattle.textwrap_layout.proofs.Common.{line_view}
 use Rattle.textwrap_text.proofs.Common.{arith, get_or, length, length-map, length_push, map, map-append}
 use Rattle.textwrap_text.proofs.Common.{refl, rules, subst, sym, take, take_all, take_more, zip, ◌<◌, ◌≡◌}
@@ -31,27 +31,27 @@ loop-text-preserved g c =
     let n = length c.loop-text.yielded in
     let column = c.in-Some.column.now in
     let text = c.in-Some.text.now.now in
-    let lines = c.in_ok-wrap_cell.field-0 in
+    let lines = c.in_ok-wrap_by.field-0 in
     let all = zip c.args.columns.now (texts_in c.args.texts.now) in
     rw (length_push, c.in_ok-push.ensures.items, map-append, take_more all n (column, text) inside, ← is)
-    (all_zipped_more (IsCell g.C.AnyColumn.makes) (take n all) (cell_texts c.loop-text.cells.items)
+    (all_zipped_more (IsCell (ColumnMakes g.P.Parts.may)) (take n all) (cell_texts c.loop-text.cells.items)
     (column, text) (texts_of lines.items) c.loop-text.invariant
-    (map line_view lines.items, c.in_ok-wrap_cell.ensures.lines, refl))
+    (map line_view lines.items, c.in_ok-wrap_by.ensures.lines, refl))
 
-pub returns-in_err-wrap_cell-clause-only_memory : goal.returns-in_err-wrap_cell-clause-only_memory
-returns-in_err-wrap_cell-clause-only_memory g c = λ never.
-    let (within, is, _, _) = turn g (goal.at.returns-in_err-wrap_cell-clause-only_memory g c).In-Some in
+pub returns-in_err-wrap_by-clause-only_memory : goal.returns-in_err-wrap_by-clause-only_memory
+returns-in_err-wrap_by-clause-only_memory g c = λ never.
+    let (within, is, _, _) = turn g (goal.at.returns-in_err-wrap_by-clause-only_memory g c).In-Some in
     let column = c.in-Some.column.now in
-    passed-on c.from_residual.result c.in_err-wrap_cell.field-0.0 c.from_residual.ensures.1
-    (c.in_err-wrap_cell.ensures.only_memory
-    (subst (λ column. ¬ g.C.AnyColumn.may_overflow column) (sym (is column))
+    passed-on c.from_residual.result c.in_err-wrap_by.field-0.0 c.from_residual.ensures.1
+    (c.in_err-wrap_by.ensures.only_memory
+    (subst (λ column. ¬ g.P.Parts.may_overflow column.parts) (sym (is column))
     (never (length c.loop-text.yielded) column within)))
 
-pub returns-in_err-wrap_cell-clause-no_overflow : goal.returns-in_err-wrap_cell-clause-no_overflow
-returns-in_err-wrap_cell-clause-no_overflow g c = λ fit.
-    let (_, _, inside, is) = turn g (goal.at.returns-in_err-wrap_cell-clause-no_overflow g c).In-Some in
-    passed-on c.from_residual.result c.in_err-wrap_cell.field-0.0 c.from_residual.ensures.1
-    (c.in_err-wrap_cell.ensures.no_overflow (subst (λ p. ¬ g.C.AnyColumn.may_pass p.0 p.1) (sym is)
+pub returns-in_err-wrap_by-clause-no_overflow : goal.returns-in_err-wrap_by-clause-no_overflow
+returns-in_err-wrap_by-clause-no_overflow g c = λ fit.
+    let (_, _, inside, is) = turn g (goal.at.returns-in_err-wrap_by-clause-no_overflow g c).In-Some in
+    passed-on c.from_residual.result c.in_err-wrap_by.field-0.0 c.from_residual.ensures.1
+    (c.in_err-wrap_by.ensures.no_overflow (subst (λ p. ¬ ColumnMayPass g.P.Parts.may p.0 p.1) (sym is)
     (fit (length c.loop-text.yielded) (c.in-Some.column.now, c.in-Some.text.now.now) inside)))
 
 pub returns-clause-cells : goal.returns-clause-cells

@@ -4,7 +4,7 @@ use Alignment::{Left, Right};
 use std::alloc::{Allocator, Global};
 use std::process::Abort;
 use textwrap::{Options, WrapAlgorithm, WrapError};
-use textwrap_display::{Alignment, Column, Gaps, table};
+use textwrap_display::{Alignment, Column, Gaps, Layout, table};
 use textwrap_vectors::heap::Heap;
 
 const BARS: Gaps<'static> = Gaps {
@@ -23,7 +23,11 @@ fn rows_of<A: Allocator + Copy>(
     let mut columns = Vec::new(alloc);
     for &(width, alignment) in shapes {
         let options = Options::new(width).wrap_algorithm(WrapAlgorithm::FirstFit);
-        columns.push(Column { options, alignment })?;
+        columns.push(Column {
+            layout: Layout::of(&options),
+            parts: options,
+            alignment,
+        })?;
     }
     plain_table(alloc, texts, &columns, gaps)
 }
@@ -32,7 +36,7 @@ fn rows_of<A: Allocator + Copy>(
 fn plain_table<A: Allocator + Copy>(
     alloc: A,
     texts: &[&str],
-    columns: &[Column<'_>],
+    columns: &[Column<'_, Options<'_>>],
     gaps: &Gaps<'_>,
 ) -> Result<Vec<String<A>, A>, WrapError> {
     table(alloc, texts, columns, gaps)
@@ -40,17 +44,22 @@ fn plain_table<A: Allocator + Copy>(
 
 /// The rows of three texts in columns with options of their own.
 fn rows_by_options(alloc: Global, texts: &[&str]) -> Result<Vec<String>, WrapError> {
+    let unbroken = Options::new(3).break_words(false);
+    let indented = Options::new(7).initial_indent("- ").subsequent_indent("  ");
     let columns = [
         Column {
-            options: Options::new(3).break_words(false),
+            layout: Layout::of(&unbroken),
+            parts: unbroken,
             alignment: Left,
         },
         Column {
-            options: Options::new(7).initial_indent("- ").subsequent_indent("  "),
+            layout: Layout::of(&indented),
+            parts: indented,
             alignment: Left,
         },
         Column {
-            options: Options::new(3),
+            layout: Layout::new(3),
+            parts: Options::new(3),
             alignment: Right,
         },
     ];

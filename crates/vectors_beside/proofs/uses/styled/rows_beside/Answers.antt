@@ -57,5 +57,5 @@ returns-clause-styled c =
       rows_are = c.in_ok-rows.ensures
           ∙ ap (rows_of_cells gaps (shape c.new-3.result.width ∷ shape c.new-4.result.width ∷ [])) cells
           ∙ ap₂ (λ m n. rows_of_cells gaps (shape m.width ∷ shape n.width ∷ []) both)
-          c.new-3.ensures.settings_are c.new-4.ensures.settings_are;
+          c.new-3.ensures c.new-4.ensures;
     }

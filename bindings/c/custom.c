@@ -54,6 +54,31 @@ static void find_words(work *w, const uint8_t *paragraph, size_t len, textwrap_s
     if (w->pieces_len > 1) take(w, w->pieces_len - 1, len, &s->cuts_len);
 }
 
+/* What the next byte of a text belongs to: the text itself, or an escape sequence. */
+enum { TEXT, ESCAPE, CONTROL, COMMAND, COMMAND_ESCAPE };
+
+static int read_byte(int state, uint8_t byte) {
+    switch (state) {
+    case TEXT: return byte == 0x1B ? ESCAPE : TEXT;
+    case ESCAPE: return byte == '[' ? CONTROL : byte == ']' ? COMMAND : TEXT;
+    case CONTROL: return '@' <= byte && byte <= '~' ? TEXT : CONTROL;
+    default:
+        if (byte == 0x07 || (state == COMMAND_ESCAPE && byte == '\\')) return TEXT;
+        return byte == 0x1B ? COMMAND_ESCAPE : COMMAND;
+    }
+}
+
+/* Keeps those of these points of a word that stand within no escape sequence. Returns how many they are. */
+static size_t keep_outside(const uint8_t *word, size_t *points, size_t count) {
+    size_t kept = 0, at = 0;
+    int state = TEXT;
+    for (size_t i = 0; i < count; i++) {
+        for (; at < points[i]; at++) state = read_byte(state, word[at]);
+        if (state == TEXT) points[kept++] = points[i];
+    }
+    return kept;
+}
+
 /* Finds the points of a word by the options: those of the dictionary, and those behind hyphens, in order. Both
  * lists stand behind the places that they come to. */
 static size_t split(work *w, const uint8_t *word, size_t len, size_t *points) {
@@ -63,6 +88,8 @@ static size_t split(work *w, const uint8_t *word, size_t len, size_t *points) {
         w->status = textwrap_hyphen_points(dictionary, word, len, known, len, &known_len);
     if (w->status == TEXTWRAP_DONE && (w->options.split_at_hyphens || dictionary->numbers_len > 0))
         w->status = textwrap_split_points(word, len, hyphens, len, &hyphens_len);
+    if (w->status == TEXTWRAP_DONE && (w->options.split_at_hyphens == 2 || dictionary->numbers_len > 0))
+        hyphens_len = keep_outside(word, hyphens, hyphens_len);
     for (size_t i = 0, j = 0; w->status == TEXTWRAP_DONE && (i < known_len || j < hyphens_len); count++) {
         points[count] = j == hyphens_len || (i < known_len && known[i] < hyphens[j]) ? known[i] : hyphens[j];
         if (i < known_len && known[i] == points[count]) i++;

@@ -76,8 +76,20 @@ pub enum WordSplitter {
     #[cfg(feature = "hyphenation")]
     Hyphenation(hyphenation::Standard),
 
+    /// After each hyphen between two letters or digits that stands within no escape sequence, as in the
+    /// address of a link. The original has no such splitter.
+    ///
+    /// ```
+    /// use textwrap_proved::WordSplitter;
+    ///
+    /// let link = "\x1b]8;;x-y\x1b\\b-c\x1b]8;;\x1b\\";
+    /// assert_eq!(WordSplitter::HyphenSplitter.split_points(link), [7, 12]);
+    /// assert_eq!(WordSplitter::OutsideSequences.split_points(link), [12]);
+    /// ```
+    OutsideSequences,
+
     /// Where [patterns](crate::hyphens) of the word's language say, and after each hyphen between two
-    /// letters or digits. A hyphen is added where a line ends at a point of the patterns. Where words are
+    /// letters or digits that stands within no escape sequence. A hyphen is added where a line ends at a point of the patterns. Where words are
     /// broken, a part of a word that fits the line, but not with its hyphen, is broken, too, unless a
     /// function of the caller finds words or divides lines. The original has no such splitter.
     ///
@@ -100,7 +112,8 @@ impl PartialEq for WordSplitter {
     fn eq(&self, other: &Self) -> bool {
         match (self, other) {
             (WordSplitter::NoHyphenation, WordSplitter::NoHyphenation)
-            | (WordSplitter::HyphenSplitter, WordSplitter::HyphenSplitter) => true,
+            | (WordSplitter::HyphenSplitter, WordSplitter::HyphenSplitter)
+            | (WordSplitter::OutsideSequences, WordSplitter::OutsideSequences) => true,
             #[cfg(feature = "hyphenation")]
             (WordSplitter::Hyphenation(one), WordSplitter::Hyphenation(other)) => {
                 one.language == other.language
@@ -138,6 +151,7 @@ impl WordSplitter {
         match self {
             WordSplitter::NoHyphenation => Ok(Vec::new()),
             WordSplitter::HyphenSplitter => points_at_hyphens(word),
+            WordSplitter::OutsideSequences => points_outside(word),
             WordSplitter::Custom(function) => Ok(function(word)),
             #[cfg(feature = "hyphenation")]
             WordSplitter::Hyphenation(dictionary) => Ok(dictionary.hyphenate(word).breaks),
@@ -150,7 +164,10 @@ impl WordSplitter {
     pub(crate) fn is_built_in(&self) -> bool {
         matches!(
             self,
-            WordSplitter::NoHyphenation | WordSplitter::HyphenSplitter | WordSplitter::Patterns(_)
+            WordSplitter::NoHyphenation
+                | WordSplitter::HyphenSplitter
+                | WordSplitter::OutsideSequences
+                | WordSplitter::Patterns(_)
         )
     }
 
@@ -195,9 +212,47 @@ fn points_at_hyphens(word: &str) -> Result<Vec<usize>, OutOfMemory> {
     Ok(list_by!(hyphens, textwrap_split_points(word))?)
 }
 
+/// What the next byte of a text belongs to: the text itself, or an escape sequence.
+#[derive(Clone, Copy, PartialEq)]
+enum State {
+    Text,
+    Escape,
+    Control,
+    Command { after_escape: bool },
+}
+
+impl State {
+    fn step(self, byte: u8) -> State {
+        match (self, byte) {
+            (State::Text, 0x1B) => State::Escape,
+            (State::Escape, b'[') => State::Control,
+            (State::Escape, b']') => State::Command { after_escape: false },
+            (State::Text | State::Escape, _) | (State::Control, b'@'..=b'~') => State::Text,
+            (State::Control, _) => State::Control,
+            (State::Command { .. }, 0x07) | (State::Command { after_escape: true }, b'\\') => State::Text,
+            (State::Command { .. }, _) => State::Command { after_escape: byte == 0x1B },
+        }
+    }
+}
+
+/// Those of the offsets after hyphens that stand within no escape sequence.
+fn points_outside(word: &str) -> Result<Vec<usize>, OutOfMemory> {
+    let mut points = points_at_hyphens(word)?;
+    let mut state = State::Text;
+    let mut read = 0;
+    points.retain(|&point| {
+        for &byte in &word.as_bytes()[read..point] {
+            state = state.step(byte);
+        }
+        read = point;
+        state == State::Text
+    });
+    Ok(points)
+}
+
 /// The points of a word by patterns together with those after its hyphens, in order.
 fn with_hyphens(mut points: Vec<usize>, word: &str) -> Result<Vec<usize>, OutOfMemory> {
-    let at_hyphens = points_at_hyphens(word)?;
+    let at_hyphens = points_outside(word)?;
     if points.is_empty() || at_hyphens.is_empty() {
         return Ok(if points.is_empty() { at_hyphens } else { points });
     }

@@ -107,7 +107,7 @@ pub extern "C" fn textwrap_wrap_balanced(
         → AreByFirstFit options.now text.now others → count.new ≡ length others }
     ensures faults { TellsFaults result (AreKnown options.now) (IsUtf8 text.now × AreTexts options.now) }
     ensures no_memory { options.now.unicode_breaks ≡ 0 → have_dictionary options.now ≡ false
-        → result ≢ out_of_memory }
+        → options.now.split_at_hyphens ≢ 2 → result ≢ out_of_memory }
 {
     balancing::textwrap_wrap_balanced(alloc, text, options, lines, count, room, len)
 }
@@ -125,7 +125,7 @@ pub extern "C" fn textwrap_balanced_width(
     ensures unknown { TellsUnknown result options.now }
     ensures not_utf8 { TellsNotUtf8 result options.now text.now }
     ensures no_memory { options.now.unicode_breaks ≡ 0 → have_dictionary options.now ≡ false
-        → result ≢ out_of_memory }
+        → options.now.split_at_hyphens ≢ 2 → result ≢ out_of_memory }
     ensures statuses { (result ≡ done) ⊎ (result ≡ not_utf8) ⊎ (result ≡ out_of_memory)
         ⊎ (result ≡ unknown_options) }
 {

@@ -44,7 +44,7 @@ pub fn textwrap_wrap_balanced(
         → AreByFirstFit options.now text.now others → count.new ≡ length others }
     ensures faults { TellsFaults result (AreKnown options.now) (IsUtf8 text.now × AreTexts options.now) }
     ensures no_memory { options.now.unicode_breaks ≡ 0 → have_dictionary options.now ≡ false
-        → result ≢ out_of_memory }
+        → options.now.split_at_hyphens ≢ 2 → result ≢ out_of_memory }
 {
     let width = match find_width(alloc, text, options) {
         Ok(width) => width,
@@ -72,7 +72,7 @@ pub fn textwrap_balanced_width(
     ensures unknown { TellsUnknown result options.now }
     ensures not_utf8 { TellsNotUtf8 result options.now text.now }
     ensures no_memory { options.now.unicode_breaks ≡ 0 → have_dictionary options.now ≡ false
-        → result ≢ out_of_memory }
+        → options.now.split_at_hyphens ≢ 2 → result ≢ out_of_memory }
     ensures statuses { (result ≡ done) ⊎ (result ≡ not_utf8) ⊎ (result ≡ out_of_memory)
         ⊎ (result ≡ unknown_options) }
 {
@@ -98,7 +98,8 @@ fn find_width(alloc: Global, text: &[u8], options: &TextwrapOptions<'_>) -> Resu
         ⊎ ((status ≡ not_utf8) × AreKnown options.now × ¬ (IsUtf8 text.now × AreTexts options.now))
         ⊎ ((status ≡ out_of_memory) × AreKnown options.now
         × (IsUtf8 text.now × AreTexts options.now)
-        × ((options.now.unicode_breaks ≢ 0) ⊎ (have_dictionary options.now ≡ true)))) }
+        × ((options.now.unicode_breaks ≢ 0) ⊎ (have_dictionary options.now ≡ true)
+        ⊎ (options.now.split_at_hyphens ≡ 2)))) }
 {
     let options = read_options(options)?;
     let Ok(text) = from_utf8(text) else {

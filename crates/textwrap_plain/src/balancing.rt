@@ -170,7 +170,7 @@ fn widest_in<A: Allocator + Copy, W: PrintableCuts + Copy>(
             };
             Ok(widest_of(cut_paragraph(paragraph, &frame, &cuts)))
         }
-        PlainSplitter::Dictionary(_) => {
+        PlainSplitter::OutsideSequences | PlainSplitter::Dictionary(_) => {
             let pieces = find_pieces(alloc, paragraph, &frame, parts)?;
             Ok(widest_of_list(&pieces))
         }

@@ -63,8 +63,8 @@ pub struct TextwrapOptions<'a> {
     /// What a line costs more that ends in an added hyphen, as a dictionary adds it.
     pub hyphen_penalty: usize,
     /// The dictionary that splits words: where it has hyphens, and behind hyphens of their own that stand
-    /// within no escape sequence, whatever `split_at_hyphens` says. A hyphen is printed where a line ends at a point of the dictionary. Without
-    /// numbers there is none.
+    /// within no escape sequence, whatever `split_at_hyphens` says. A hyphen is printed where a line ends
+    /// at a point of the dictionary. Without numbers there is none.
     pub dictionary: TextwrapDictionary<'a>,
     /// 0 each, until a later option takes one, for which 0 will change nothing.
     pub reserved_sizes: [usize; 4],

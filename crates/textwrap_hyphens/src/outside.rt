@@ -10,7 +10,7 @@ use textwrap_text::escapes::State;
 use textwrap_words::word_splitters::WordSplitter;
 
 /// The offsets in bytes, in order, behind each hyphen between alphanumeric characters that stands within
-/// no escape sequence: 4 for `can-be` in a link whose address is `a-b`, counted from behind its sequence.
+/// no escape sequence: of `"\x1b]8;;x-y\x1b\\b-c\x1b]8;;\x1b\\"`, which is a link, 12 alone.
 ///
 /// # Errors
 /// [`AllocError`] where memory runs out.

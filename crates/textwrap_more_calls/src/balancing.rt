@@ -28,7 +28,7 @@ use textwrap_plain::{BuiltInAlgorithm, PlainOptions, PlainSeparator, balanced_wi
 
 /// Writes the balanced lines of a text as `textwrap_wrap` writes its lines: those of first fit at the
 /// width of `textwrap_balanced_width`. They are as many as by first fit at the width of the options. At
-/// blanks and without a dictionary nothing is allocated.
+/// blanks and without a dictionary nothing is allocated, unless `split_at_hyphens` is 2.
 pub fn textwrap_wrap_balanced(
     alloc: Global,
     text: &[u8],
@@ -58,7 +58,7 @@ pub fn textwrap_wrap_balanced(
 /// options, and at which each piece of it has room: the wider of the indents, and after it any one
 /// word, split but not broken, with its hyphen. Where some piece has none at the width of the options,
 /// it is that width. The algorithm of the options is not used. At blanks and without a dictionary nothing
-/// is allocated.
+/// is allocated, unless `split_at_hyphens` is 2.
 ///
 /// At 40 columns `It was the best of times, it was the worst` takes two lines, and so it does at 23.
 pub fn textwrap_balanced_width(

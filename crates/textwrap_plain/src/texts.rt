@@ -47,7 +47,7 @@ pub fn wrap<'t>(
         → CanKeepToWidth (plain_settings options.now) text.now → IfOk result (λ lines. ArePrintedWithin
         (plain_settings options.now) (DividesPlainly options.now (plain_settings options.now)) text.now
         (map line_view lines.items)) }
-    // By a dictionary nothing is printed behind a line, or a hyphen.
+    // By a splitter beside the port nothing is printed behind a line, or a hyphen of the dictionary.
     ensures hyphens { plain_splitter options.now ≡ None → IfOk result (λ lines. AddOnlyHyphens
         (plain_settings options.now) (DividesPlainly options.now (plain_settings options.now)) text.now
         (map line_view lines.items)) }
@@ -79,7 +79,7 @@ pub fn fill(alloc: Global, text: &str, options: &PlainOptions<'_>) -> Result<Str
 
 /// Writes the text of [`fill`] into lent room, as much of it as there is room for, and returns how many
 /// bytes it has, or the greatest number if they are more. The rest of the room stays as it was. At
-/// blanks, by first fit and without a dictionary nothing is allocated. By other options the text is made
+/// blanks, by first fit and by a built-in splitter nothing is allocated. By other options the text is made
 /// before any of it is written, since an error changes nothing.
 ///
 /// # Errors

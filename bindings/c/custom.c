@@ -61,7 +61,9 @@ static size_t split(work *w, const uint8_t *word, size_t len, size_t *points) {
     size_t *known = points + len, *hyphens = known + len, known_len = 0, hyphens_len = 0, count = 0;
     if (dictionary->numbers_len > 0)
         w->status = textwrap_hyphen_points(dictionary, word, len, known, len, &known_len);
-    if (w->status == TEXTWRAP_DONE && (w->options.split_at_hyphens || dictionary->numbers_len > 0))
+    if (w->status == TEXTWRAP_DONE && (w->options.split_at_hyphens == 2 || dictionary->numbers_len > 0))
+        w->status = textwrap_split_points_outside(word, len, hyphens, len, &hyphens_len);
+    else if (w->status == TEXTWRAP_DONE && w->options.split_at_hyphens)
         w->status = textwrap_split_points(word, len, hyphens, len, &hyphens_len);
     for (size_t i = 0, j = 0; w->status == TEXTWRAP_DONE && (i < known_len || j < hyphens_len); count++) {
         points[count] = j == hyphens_len || (i < known_len && known[i] < hyphens[j]) ? known[i] : hyphens[j];

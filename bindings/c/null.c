@@ -53,6 +53,7 @@ PROVED(paragraph_widths);
 PROVED(pieces);
 PROVED(find_words_at);
 PROVED(split_points);
+PROVED(split_points_outside);
 PROVED(break_apart);
 PROVED(pieces_at);
 PROVED(ends_at);
@@ -437,6 +438,11 @@ textwrap_status textwrap_find_words_at(const uint8_t *line, size_t line_len, con
 textwrap_status textwrap_split_points(const uint8_t *word, size_t word_len, size_t *points,
                                       size_t points_len, size_t *count) {
     return proved_split_points(ARRAY(word, word_len), ARRAY(points, points_len), count);
+}
+
+textwrap_status textwrap_split_points_outside(const uint8_t *word, size_t word_len, size_t *points,
+                                              size_t points_len, size_t *count) {
+    return proved_split_points_outside(ARRAY(word, word_len), ARRAY(points, points_len), count);
 }
 
 textwrap_status textwrap_break_apart(const uint8_t *word, size_t word_len, size_t line_width,

@@ -341,6 +341,10 @@ static textwrap_status split(struct lent *lent) {
     return textwrap_split_points(bytes("can-be-split"), 12, lent->places, 16, &lent->count);
 }
 
+static textwrap_status split_outside(struct lent *lent) {
+    return textwrap_split_points_outside(bytes("\x1b[1mcan-be-split"), 16, lent->places, 16, &lent->count);
+}
+
 static textwrap_status cut_at_breaks(struct lent *lent) {
     return textwrap_unicode_cuts(bytes("foo bar baz"), 11, lent->places, 16, &lent->count);
 }
@@ -575,6 +579,7 @@ static const struct call CALLS[] = {
     {"pieces", in_pieces},
     {"find_words_at", cut_at_offsets},
     {"split_points", split},
+    {"split_points_outside", split_outside},
     {"line_breaks", breaks_of},
     {"unicode_cuts", cut_at_breaks},
     {"strip_ansi_escape_sequences", stripped},

@@ -104,6 +104,7 @@ static void texts_that_are_not_utf8_are_refused(void) {
         textwrap_find_words_at(wrong, 3, &place, 1, pieces, 3, &count),
         textwrap_unicode_cuts(wrong, 3, places, 3, &count),
         textwrap_split_points(wrong, 3, places, 3, &count),
+        textwrap_split_points_outside(wrong, 3, places, 3, &count),
         textwrap_break_apart(wrong, 3, 1, pieces, 3, &count),
         textwrap_pieces_at(wrong, 3, &place, 1, &place, 1, &o, pieces, 3, &count),
         textwrap_lines_at(wrong, 3, &place, 1, &place, 1, &place, 1, &o, 0, lines, 3, &count, room, 32,
@@ -1241,6 +1242,9 @@ static void words_are_cut_split_and_broken(void) {
     CHECK(textwrap_split_points(bytes("can-be-split"), 12, points, 3, &count) == TEXTWRAP_DONE);
     CHECK(count == 2 && points[0] == 4 && points[1] == 7);
     CHECK(textwrap_split_points(bytes("--foo"), 5, points, 3, &count) == TEXTWRAP_DONE && count == 0);
+    CHECK(textwrap_split_points_outside(bytes("\x1b]8;;x-y\x1b\\b-c\x1b]8;;\x1b\\"), 20, points, 3, &count)
+          == TEXTWRAP_DONE);
+    CHECK(count == 1 && points[0] == 12);
     CHECK(textwrap_break_apart(bytes("Hello!"), 6, 3, words, 4, &count) == TEXTWRAP_DONE);
     CHECK(count == 2 && stands(words[0], 0, 3, 0, 3) && stands(words[1], 3, 3, 0, 3));
     CHECK(textwrap_break_apart(bytes(""), 0, 3, words, 4, &count) == TEXTWRAP_DONE && count == 0);
@@ -1677,6 +1681,7 @@ static void a_pointer_to_nothing_may_be_null(void) {
     CHECK(textwrap_pieces(NULL, 0, &o, NULL, 0, &count) == TEXTWRAP_DONE && count == 0);
     CHECK(textwrap_find_words_at(NULL, 0, NULL, 0, NULL, 0, &count) == TEXTWRAP_DONE);
     CHECK(textwrap_split_points(NULL, 0, NULL, 0, &count) == TEXTWRAP_DONE && count == 0);
+    CHECK(textwrap_split_points_outside(NULL, 0, NULL, 0, &count) == TEXTWRAP_DONE && count == 0);
     CHECK(textwrap_line_breaks(NULL, 0, 1, NULL, 0, &count) == TEXTWRAP_DONE && count == 0);
     CHECK(textwrap_unicode_cuts(NULL, 0, NULL, 0, &count) == TEXTWRAP_DONE && count == 0);
     CHECK(textwrap_strip_ansi_escape_sequences(NULL, 0, NULL, 0, &len) == TEXTWRAP_DONE && len == 0);

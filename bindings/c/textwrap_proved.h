@@ -169,7 +169,8 @@ static inline textwrap_dictionary textwrap_dictionary_new(const size_t *numbers,
 typedef struct {
     uint32_t version;                 /* TEXTWRAP_VERSION */
     uint32_t optimal_fit;             /* lines of the least cost, in place of first fit */
-    uint32_t split_at_hyphens;        /* words may end after a hyphen between letters or digits */
+    uint32_t split_at_hyphens;        /* words may end after a hyphen between letters or digits (1), or
+                                       * after those alone that stand within no escape sequence (2) */
     uint32_t break_words;             /* words too wide for a line are broken */
     uint32_t preserve_trailing_space; /* blanks at line ends are kept */
     uint32_t even_paragraphs;         /* first lines of later paragraphs are no wider than others */
@@ -186,10 +187,10 @@ typedef struct {
     size_t short_last_line_penalty;  /* for a short last line of one piece */
     size_t hyphen_penalty;           /* for a line that ends in a hyphen which a dictionary adds */
     /* The dictionary that splits words: where it has hyphens, and behind a hyphen between letters or
-     * digits, whatever split_at_hyphens says. A hyphen is written where a line ends at a point of the
-     * dictionary; where words are broken, a part of a word that fits the line, but not with its hyphen, is
-     * broken, too, but not at places that a caller gives. Without numbers there is none. One that is
-     * tested and was damaged is TEXTWRAP_UNKNOWN_OPTIONS. */
+     * digits that stands within no escape sequence, whatever split_at_hyphens says. A hyphen is written
+     * where a line ends at a point of the dictionary; where words are broken, a part of a word that fits
+     * the line, but not with its hyphen, is broken, too, but not at places that a caller gives. Without
+     * numbers there is none. One that is tested and was damaged is TEXTWRAP_UNKNOWN_OPTIONS. */
     textwrap_dictionary dictionary;
     size_t reserved_sizes[4]; /* 0 */
 } textwrap_options;
@@ -229,8 +230,8 @@ textwrap_status textwrap_strip_ansi_escape_sequences(const uint8_t *text, size_t
 
 /* Writes the filled text to the front of the room, and its length. At 10 columns "foo bar baz" is
  * "foo bar\nbaz", and room of 5 bytes holds "foo b". By first fit at blanks, without a dictionary, it
- * allocates nothing. With the patterns of hy-phen-ation "the hyphenation" is "the hyphen-\nation" at 11
- * columns by first fit. */
+ * allocates nothing, unless split_at_hyphens is 2. With the patterns of hy-phen-ation "the hyphenation" is
+ * "the hyphen-\nation" at 11 columns by first fit. */
 TEXTWRAP_CHECKED
 textwrap_status textwrap_fill(const uint8_t *text, size_t text_len, const textwrap_options *options,
                               uint8_t *room, size_t room_len, size_t *len);
@@ -247,7 +248,8 @@ typedef struct {
  * or a hyphen of a dictionary are written to the room, one after another, and `len` is that of all of
  * them; without both no room is needed. TOO_SMALL reports both `count` and `len`: a first call may bring
  * no lines and no room, and a second one what the first has reported. With room for some of the lines,
- * the first of them are written. By first fit at blanks, without a dictionary, it allocates nothing. */
+ * the first of them are written. By first fit at blanks, without a dictionary, it allocates nothing, unless
+ * split_at_hyphens is 2. */
 TEXTWRAP_CHECKED
 textwrap_status textwrap_wrap(const uint8_t *text, size_t text_len, const textwrap_options *options,
                               textwrap_line *lines, size_t lines_len, size_t *count, uint8_t *room,
@@ -479,7 +481,8 @@ textwrap_status textwrap_carry_attributes(const textwrap_text *lines, size_t lin
 
 /* Writes the lines of a text as textwrap_wrap does, balanced, as titles and centred texts should be: as
  * many as first fit makes at the width of the options, and about equally wide. They are those of first
- * fit at the width of textwrap_balanced_width. At blanks, without a dictionary, nothing is allocated. */
+ * fit at the width of textwrap_balanced_width. At blanks, without a dictionary, nothing is allocated, unless
+ * split_at_hyphens is 2. */
 TEXTWRAP_CHECKED
 textwrap_status textwrap_wrap_balanced(const uint8_t *text, size_t text_len,
                                        const textwrap_options *options, textwrap_line *lines,
@@ -490,7 +493,7 @@ textwrap_status textwrap_wrap_balanced(const uint8_t *text, size_t text_len,
  * options, and at which there is room for the wider of the indents and, after it, for any one word,
  * split but not broken. Where some word has no room at the width of the options, it is that width. The
  * algorithm of the options is not used. DONE, NOT_UTF8, UNKNOWN_OPTIONS or OUT_OF_MEMORY; at blanks,
- * without a dictionary, nothing is allocated. */
+ * without a dictionary, nothing is allocated, unless split_at_hyphens is 2. */
 TEXTWRAP_CHECKED
 textwrap_status textwrap_balanced_width(const uint8_t *text, size_t text_len,
                                         const textwrap_options *options, size_t *width);
@@ -680,6 +683,12 @@ textwrap_status textwrap_unicode_cuts(const uint8_t *line, size_t line_len, size
 /* Writes the offsets at which a word may be split: after each hyphen between letters or digits. */
 TEXTWRAP_CHECKED
 textwrap_status textwrap_split_points(const uint8_t *word, size_t word_len, size_t *points,
+                                      size_t points_len, size_t *count);
+
+/* Writes those of these offsets that stand within no escape sequence, as the address of a link does: of
+ * "\x1b]8;;x-y\x1b\\b-c\x1b]8;;\x1b\\" 12 alone. */
+TEXTWRAP_CHECKED
+textwrap_status textwrap_split_points_outside(const uint8_t *word, size_t word_len, size_t *points,
                                       size_t points_len, size_t *count);
 
 /* Writes the pieces of a word that is broken into pieces of so many columns at most. A piece that has

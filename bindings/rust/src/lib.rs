@@ -101,11 +101,11 @@
 //! - What a `Custom` function gives is checked, and a wrong answer panics with a message that says
 //!   [what is wrong](Options#functions-of-the-caller).
 //! - Of divisions that cost the same, the one whose lines start earliest is taken.
-//! - [`Options::even_paragraphs`], [`WordSplitter::Patterns`] and the modules [`display`], [`hyphens`],
-//!   [`reflow`] and [`fallible`] are new.
+//! - [`Options::even_paragraphs`], [`WordSplitter::OutsideSequences`], [`WordSplitter::Patterns`] and the
+//!   modules [`display`], [`hyphens`], [`reflow`] and [`fallible`] are new.
 //! - Both algorithms and both separators are there without the features `smawk` and
 //!   `unicode-linebreak` too, so a `match` has an arm for each; and one on a `WordSplitter` has an arm
-//!   for its patterns.
+//!   for each of those two.
 //!
 //! `docs/DIFFERENCES.md` of the repository has all of them, with those of the library itself.
 //!

@@ -232,7 +232,7 @@ impl<'a> Options<'a> {
     #[inline]
     pub(crate) fn plain(self) -> Result<sys::Options, Self> {
         let is_plain =
-            matches!(self.word_splitter, WordSplitter::NoHyphenation | WordSplitter::HyphenSplitter);
+            self.word_splitter.is_built_in() && !matches!(self.word_splitter, WordSplitter::Patterns(_));
         if is_plain && !self.has_function_beside() {
             Ok(self.to_sys_by(sys::Dictionary::NONE))
         } else {
@@ -255,7 +255,11 @@ impl<'a> Options<'a> {
         sys::Options {
             version: sys::VERSION,
             optimal_fit,
-            split_at_hyphens: (self.word_splitter == WordSplitter::HyphenSplitter).into(),
+            split_at_hyphens: match self.word_splitter {
+                WordSplitter::HyphenSplitter => 1,
+                WordSplitter::OutsideSequences => 2,
+                _ => 0,
+            },
             break_words: self.break_words.into(),
             preserve_trailing_space: self.preserve_trailing_space.into(),
             even_paragraphs: self.even_paragraphs.into(),

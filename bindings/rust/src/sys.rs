@@ -549,6 +549,13 @@ extern "C" {
         points_len: usize,
         count: *mut usize,
     ) -> u32;
+    pub fn textwrap_split_points_outside(
+        word: *const u8,
+        word_len: usize,
+        points: *mut usize,
+        points_len: usize,
+        count: *mut usize,
+    ) -> u32;
 
     pub fn textwrap_break_apart(
         word: *const u8,

@@ -76,9 +76,21 @@ pub enum WordSplitter {
     #[cfg(feature = "hyphenation")]
     Hyphenation(hyphenation::Standard),
 
+    /// After each hyphen between two letters or digits that stands within no escape sequence, as in the
+    /// address of a link. The original has no such splitter.
+    ///
+    /// ```
+    /// use textwrap_proved::WordSplitter;
+    ///
+    /// let link = "\x1b]8;;x-y\x1b\\b-c\x1b]8;;\x1b\\";
+    /// assert_eq!(WordSplitter::HyphenSplitter.split_points(link), [7, 12]);
+    /// assert_eq!(WordSplitter::OutsideSequences.split_points(link), [12]);
+    /// ```
+    OutsideSequences,
+
     /// Where [patterns](crate::hyphens) of the word's language say, and after each hyphen between two
-    /// letters or digits. A hyphen is added where a line ends at a point of the patterns. Where words are
-    /// broken, a part of a word that fits the line, but not with its hyphen, is broken, too, unless a
+    /// letters or digits that stands within no escape sequence. A hyphen is added where a line ends at a
+    /// point of the patterns. Where words are broken, a part of a word that fits the line, but not with its hyphen, is broken, too, unless a
     /// function of the caller finds words or divides lines. The original has no such splitter.
     ///
     /// ```
@@ -100,7 +112,8 @@ impl PartialEq for WordSplitter {
     fn eq(&self, other: &Self) -> bool {
         match (self, other) {
             (WordSplitter::NoHyphenation, WordSplitter::NoHyphenation)
-            | (WordSplitter::HyphenSplitter, WordSplitter::HyphenSplitter) => true,
+            | (WordSplitter::HyphenSplitter, WordSplitter::HyphenSplitter)
+            | (WordSplitter::OutsideSequences, WordSplitter::OutsideSequences) => true,
             #[cfg(feature = "hyphenation")]
             (WordSplitter::Hyphenation(one), WordSplitter::Hyphenation(other)) => {
                 one.language == other.language
@@ -138,6 +151,7 @@ impl WordSplitter {
         match self {
             WordSplitter::NoHyphenation => Ok(Vec::new()),
             WordSplitter::HyphenSplitter => points_at_hyphens(word),
+            WordSplitter::OutsideSequences => points_outside(word),
             WordSplitter::Custom(function) => Ok(function(word)),
             #[cfg(feature = "hyphenation")]
             WordSplitter::Hyphenation(dictionary) => Ok(dictionary.hyphenate(word).breaks),
@@ -150,7 +164,10 @@ impl WordSplitter {
     pub(crate) fn is_built_in(&self) -> bool {
         matches!(
             self,
-            WordSplitter::NoHyphenation | WordSplitter::HyphenSplitter | WordSplitter::Patterns(_)
+            WordSplitter::NoHyphenation
+                | WordSplitter::HyphenSplitter
+                | WordSplitter::OutsideSequences
+                | WordSplitter::Patterns(_)
         )
     }
 
@@ -195,9 +212,18 @@ fn points_at_hyphens(word: &str) -> Result<Vec<usize>, OutOfMemory> {
     Ok(list_by!(hyphens, textwrap_split_points(word))?)
 }
 
+/// Those of them that stand within no escape sequence.
+fn points_outside(word: &str) -> Result<Vec<usize>, OutOfMemory> {
+    let hyphens = guess::count(word, |byte| byte == b'-');
+    if hyphens == 0 {
+        return Ok(Vec::new());
+    }
+    Ok(list_by!(hyphens, textwrap_split_points_outside(word))?)
+}
+
 /// The points of a word by patterns together with those after its hyphens, in order.
 fn with_hyphens(mut points: Vec<usize>, word: &str) -> Result<Vec<usize>, OutOfMemory> {
-    let at_hyphens = points_at_hyphens(word)?;
+    let at_hyphens = points_outside(word)?;
     if points.is_empty() || at_hyphens.is_empty() {
         return Ok(if points.is_empty() { at_hyphens } else { points });
     }

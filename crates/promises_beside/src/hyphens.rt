@@ -1,7 +1,7 @@
 //! Hyphens by a dictionary.
 ghost use Rattle.std.specs.Prelude.{◌≡◌, IfOk, Some, map};
 ghost use Rattle.textwrap_plain.specs.Options.{DividesPlainly, plain_algorithm, plain_settings};
-ghost use Rattle.textwrap_plain.specs.Options.{plain_splitter};
+ghost use Rattle.textwrap_plain.specs.Options.{adds_as};
 ghost use Rattle.textwrap_hyphens.specs.Parsed.{IsParsed};
 ghost use Rattle.textwrap_hyphens.specs.Points.{hyphenation_points};
 ghost use Rattle.textwrap_hyphens.specs.Table.{held};
@@ -44,7 +44,7 @@ pub fn hyphenated_lines<'t>(
     options: &PlainOptions<'_>,
 ) -> Result<Vec<CowStr<'t>>, WrapError>
     ensures lines { IfOk result (λ lines. IsWrapped (plain_settings options.now)
-        (plain_splitter options.now) (Some (plain_algorithm options.now))
+        (adds_as options.now.word_splitter) (Some (plain_algorithm options.now))
         (DividesPlainly options.now (plain_settings options.now)) text.now
         (map line_view lines.items)) }
 {

@@ -23,6 +23,7 @@ ghost use Rattle.textwrap_display.specs.Fitting.{fitting_widths};
 ghost use Rattle.textwrap_display.specs.Needs.{needs_of};
 ghost use Rattle.textwrap_display.specs.Styles.{carried_lines};
 ghost use Rattle.textwrap_display.specs.Tables.{rows_of_cells};
+ghost use Rattle.textwrap_hyphens.specs.Outside.{hyphens_outside};
 ghost use Rattle.textwrap_hyphens.specs.Points.{hyphenation_points};
 ghost use Rattle.textwrap_hyphens.specs.Seal.{is_sealed};
 ghost use Rattle.textwrap_layout.specs.Paragraph.{broken_pieces_of, widths_of};
@@ -64,10 +65,7 @@ use textwrap_more_calls::paragraphs::{TextwrapParagraph, TextwrapWidths};
 use textwrap_more_calls::pieces::TextwrapPiece;
 use textwrap_more_calls::steps::TextwrapSteps;
 use textwrap_more_calls::tables::{TextwrapCell, TextwrapColumn};
-use textwrap_more_calls::{
-    attributes, balancing, breaks, fitting, fragments, justified_steps, paragraphs, pieces, steps,
-    tables, text_steps,
-};
+use textwrap_more_calls::{attributes, balancing, breaks, fitting, fragments, justified_steps, paragraphs, pieces, steps, tables, text_steps};
 
 /// Exports [`textwrap_more_calls::attributes::textwrap_carry_attributes`].
 #[unsafe(no_mangle)]
@@ -107,7 +105,7 @@ pub extern "C" fn textwrap_wrap_balanced(
         → AreByFirstFit options.now text.now others → count.new ≡ length others }
     ensures faults { TellsFaults result (AreKnown options.now) (IsUtf8 text.now × AreTexts options.now) }
     ensures no_memory { options.now.unicode_breaks ≡ 0 → have_dictionary options.now ≡ false
-        → result ≢ out_of_memory }
+        → options.now.split_at_hyphens ≢ 2 → result ≢ out_of_memory }
 {
     balancing::textwrap_wrap_balanced(alloc, text, options, lines, count, room, len)
 }
@@ -125,7 +123,7 @@ pub extern "C" fn textwrap_balanced_width(
     ensures unknown { TellsUnknown result options.now }
     ensures not_utf8 { TellsNotUtf8 result options.now text.now }
     ensures no_memory { options.now.unicode_breaks ≡ 0 → have_dictionary options.now ≡ false
-        → result ≢ out_of_memory }
+        → options.now.split_at_hyphens ≢ 2 → result ≢ out_of_memory }
     ensures statuses { (result ≡ done) ⊎ (result ≡ not_utf8) ⊎ (result ≡ out_of_memory)
         ⊎ (result ≡ unknown_options) }
 {
@@ -400,6 +398,22 @@ pub extern "C" fn textwrap_split_points(
     ensures statuses { result ≤ too_small }
 {
     pieces::textwrap_split_points(alloc, word, points, count)
+}
+
+/// Exports [`textwrap_more_calls::pieces::textwrap_split_points_outside`].
+#[unsafe(no_mangle)]
+pub extern "C" fn textwrap_split_points_outside(
+    alloc: Global,
+    word: &[u8],
+    points: &mut [usize],
+    count: &mut usize,
+) -> u32
+    ensures points { WritesText (λ answer. answer ≡ hyphens_outside word.now)
+        result points.old points.new count.old count.new }
+    ensures not_utf8 { result ≡ not_utf8 ↔ ¬ IsUtf8 word.now }
+    ensures statuses { result ≤ too_small }
+{
+    pieces::textwrap_split_points_outside(alloc, word, points, count)
 }
 
 /// Exports [`textwrap_more_calls::pieces::textwrap_break_apart`].

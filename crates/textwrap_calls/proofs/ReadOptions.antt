@@ -6,12 +6,13 @@ use Rattle.textwrap_calls.{proofs.Common.{Bool, IsUtf8, List, ℕ, ◌==◌}, sp
 use Rattle.textwrap_calls.specs.{Dictionary.minimum_or, Options.{have_dictionary, options_points, AreRead}}
 use Rattle.textwrap_calls.specs.declared.dictionary.TextwrapDictionary.{TextwrapDictionary}
 use Rattle.textwrap_hyphens.specs.{Table.held_in, declared.table.PatternTable.PatternTable}
-use Rattle.textwrap_lines.proofs.Common.{None, AreCuts}
+use Rattle.textwrap_lines.proofs.Common.{AreCuts}
 use Rattle.textwrap_plain.proofs.{Balance.Counts.{IsInside, points_by-inside}, Named.named}
 use Rattle.textwrap_plain.specs.CutSides.{points_by-cuts}
-use Rattle.textwrap_plain.specs.Options.{DividesPlainly, port_splitter, plain_settings, points_by}
+use Rattle.textwrap_plain.specs.Options.{DividesPlainly, is_dictionary, plain_settings, points_by}
 use Rattle.textwrap_plain.specs.declared.options.{PlainOptions.PlainOptions, PlainSplitter.PlainSplitter}
 use Rattle.textwrap_plain.specs.declared.options.PlainSplitter.TheVariants.{BuiltIn, Dictionary}
+use Rattle.textwrap_plain.specs.declared.options.PlainSplitter.TheVariants.{OutsideSequences}
 use Rattle.textwrap_words.proofs.Common.{AreNext}
 use Rattle.textwrap_words.specs.declared.pieces.BuiltInSplitter.TheVariants.{HyphenSplitter, NoHyphenation}
 
@@ -37,25 +38,30 @@ table_of d =
 -- only a dictionary adds hyphens
 pub record IsNamed (o : TextwrapOptions) (splitter : PlainSplitter) : Type 0 where
   pub points : options_points o ≡ points_by splitter
-  pub hyphens : port_splitter splitter ≡ None → 1 ≤ hyphens_of o
+  pub hyphens : is_dictionary splitter ≡ true → 1 ≤ hyphens_of o
 
 pub splitter-named : (o : TextwrapOptions) → (splitter : PlainSplitter) × IsNamed o splitter
 unfolding table_of
-splitter-named o = by (have_dictionary o) refl (o.split_at_hyphens == 0) refl
+splitter-named o = by (have_dictionary o) refl (o.split_at_hyphens == 2) refl (o.split_at_hyphens == 0) refl
   where
-    by : (dictionary : Bool) → have_dictionary o ≡ dictionary → (whole : Bool)
-        → (o.split_at_hyphens == 0) ≡ whole → (splitter : PlainSplitter) × IsNamed o splitter
-    by true is whole whole_is = (
+    by : (dictionary : Bool) → have_dictionary o ≡ dictionary → (outside : Bool)
+        → (o.split_at_hyphens == 2) ≡ outside → (whole : Bool) → (o.split_at_hyphens == 0) ≡ whole
+        → (splitter : PlainSplitter) × IsNamed o splitter
+    by true is outside outside_is whole whole_is = (
       Dictionary (table_of o.dictionary),
       record { points = rw is refl; hyphens = λ none. rw is (omega arith) },
     )
-    by false is true whole_is = (
-      BuiltIn NoHyphenation,
-      record { points = rw (is, whole_is) refl; hyphens = λ none. cc },
+    by false is true outside_is whole whole_is = (
+      OutsideSequences,
+      record { points = rw (is, outside_is) refl; hyphens = λ some. cc },
     )
-    by false is false whole_is = (
+    by false is false outside_is true whole_is = (
+      BuiltIn NoHyphenation,
+      record { points = rw (is, outside_is, whole_is) refl; hyphens = λ none. cc },
+    )
+    by false is false outside_is false whole_is = (
       BuiltIn HyphenSplitter,
-      record { points = rw (is, whole_is) refl; hyphens = λ none. cc },
+      record { points = rw (is, outside_is, whole_is) refl; hyphens = λ none. cc },
     )
 
 -- ---- its points

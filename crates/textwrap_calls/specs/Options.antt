@@ -10,7 +10,7 @@ use Rattle.textwrap_base.specs.declared.penalties.Penalties.{Penalties}
 use Rattle.textwrap_calls.specs.Dictionary.{hyphenation_of, is_whole}
 use Rattle.textwrap_calls.specs.Status.{not_utf8, out_of_memory, unknown_options}
 use Rattle.textwrap_calls.specs.declared.options.TextwrapOptions.{TextwrapOptions}
-use Rattle.textwrap_hyphens.specs.Splitting.{split_points}
+use Rattle.textwrap_hyphens.specs.{Outside.hyphens_outside, Splitting.split_points}
 use Rattle.textwrap_layout.specs.{Places.ArePlacedLines, declared.places.Place.Place}
 use Rattle.textwrap_plain.specs.Options.{plain_algorithm, plain_settings, plain_splitter}
 use Rattle.textwrap_plain.specs.Options.{DividesFrom, points_by, words_by}
@@ -41,10 +41,12 @@ options_splitter o = if o.split_at_hyphens == 0 then Whole else AtHyphens
 abbrev pub have_dictionary : TextwrapOptions → Bool
 have_dictionary o = not (length o.dictionary.numbers.now == 0)
 
--- where words are split: by the dictionary, if there is one
+-- where words are split: by the dictionary, if there is one; by 2 within no escape sequence
 abbrev pub options_points : TextwrapOptions → List ℕ → List ℕ
 options_points o =
-    if have_dictionary o then split_points (hyphenation_of o.dictionary) else points_of (options_splitter o)
+    if have_dictionary o then split_points (hyphenation_of o.dictionary)
+    else if o.split_at_hyphens == 2 then hyphens_outside
+    else points_of (options_splitter o)
 
 -- how numbers are kept together, by the number that says so
 abbrev pub numbers_by : ℕ → Numbers
@@ -93,14 +95,14 @@ pub record AreRead (o : TextwrapOptions) (read : PlainOptions) : Type 0 where
   pub settings : plain_settings read ≡ options_settings o
   pub separator : read.word_separator ≡ separator_of o
   pub points : points_by read.word_splitter ≡ options_points o
-  pub built_in : have_dictionary o ≡ false → plain_splitter read ≢ None
+  pub built_in : have_dictionary o ≡ false → o.split_at_hyphens ≢ 2 → plain_splitter read ≢ None
   pub algorithm : plain_algorithm read ≡ options_algorithm o
 
 -- the version is known, and each number means something
 pub record AreKnown (o : TextwrapOptions) : Type 0 where
   pub version : o.version ≡ 2
   pub optimal_fit : o.optimal_fit ≤ 1
-  pub split_at_hyphens : o.split_at_hyphens ≤ 1
+  pub split_at_hyphens : o.split_at_hyphens ≤ 2
   pub break_words : o.break_words ≤ 1
   pub preserve_trailing_space : o.preserve_trailing_space ≤ 1
   pub even_paragraphs : o.even_paragraphs ≤ 1
@@ -130,7 +132,8 @@ pub record TellsFaults (status : ℕ) (Known Texts : Type 0) : Type 0 where
   pub not_utf8 : status ≡ not_utf8 ↔ Known × ¬ Texts
   pub statuses : status ≤ unknown_options
 
--- at blanks, by first fit and without a dictionary it is never OUT_OF_MEMORY
+-- at blanks, by first fit and where the port splits words it is never OUT_OF_MEMORY
 abbrev pub NeedsNoMemory : ℕ → TextwrapOptions → Type 0
 NeedsNoMemory status o =
-    o.unicode_breaks ≡ 0 → o.optimal_fit ≡ 0 → have_dictionary o ≡ false → status ≢ out_of_memory
+    o.unicode_breaks ≡ 0 → o.optimal_fit ≡ 0 → have_dictionary o ≡ false → o.split_at_hyphens ≢ 2
+    → status ≢ out_of_memory

@@ -19,7 +19,7 @@ use textwrap_plain::fill_into;
 
 /// Writes the filled text to the front of the room, and its length to `len`. Where the room is too
 /// short it holds the beginning of the text, and `len` says what room a second call has to bring. At
-/// blanks, by first fit and without a dictionary nothing is allocated.
+/// blanks, by first fit and without a dictionary nothing is allocated, unless `split_at_hyphens` is 2.
 pub fn textwrap_fill(
     alloc: Global,
     text: &[u8],

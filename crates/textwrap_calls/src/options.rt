@@ -31,7 +31,8 @@ pub struct TextwrapOptions<'a> {
     pub version: u32,
     /// Whether lines have the least cost, at the penalties below, in place of first fit.
     pub optimal_fit: u32,
-    /// Whether words are split after hyphens between letters or digits.
+    /// Whether words are split after hyphens between letters or digits: 0 or 1, or 2 for those alone that
+    /// stand within no escape sequence, as in the address of a link.
     pub split_at_hyphens: u32,
     /// Whether words that are too wide for a line are broken.
     pub break_words: u32,
@@ -61,9 +62,9 @@ pub struct TextwrapOptions<'a> {
     pub short_last_line_penalty: usize,
     /// What a line costs more that ends in an added hyphen, as a dictionary adds it.
     pub hyphen_penalty: usize,
-    /// The dictionary that splits words: where it has hyphens, and behind hyphens of their own, whatever
-    /// `split_at_hyphens` says. A hyphen is printed where a line ends at a point of the dictionary. Without
-    /// numbers there is none.
+    /// The dictionary that splits words: where it has hyphens, and behind hyphens of their own that stand
+    /// within no escape sequence, whatever `split_at_hyphens` says. A hyphen is printed where a line ends
+    /// at a point of the dictionary. Without numbers there is none.
     pub dictionary: TextwrapDictionary<'a>,
     /// 0 each, until a later option takes one, for which 0 will change nothing.
     pub reserved_sizes: [usize; 4],
@@ -194,7 +195,7 @@ pub fn are_known(given: &TextwrapOptions<'_>) -> bool
 {
     given.version == VERSION
         && given.optimal_fit <= 1
-        && given.split_at_hyphens <= 1
+        && given.split_at_hyphens <= 2
         && given.break_words <= 1
         && given.preserve_trailing_space <= 1
         && given.even_paragraphs <= 1
@@ -224,14 +225,15 @@ fn read_algorithm(given: &TextwrapOptions<'_>) -> BuiltInAlgorithm
 fn read_splitter<'a>(given: &TextwrapOptions<'a>) -> PlainSplitter<'a>
     ensures points { points_by result ≡ options_points given.now }
     ensures dictionary { is_dictionary result ≡ have_dictionary given.now }
-    ensures built_in { have_dictionary given.now ≡ false → port_splitter result ≢ None }
+    ensures built_in { have_dictionary given.now ≡ false → given.now.split_at_hyphens ≢ 2
+        → port_splitter result ≢ None }
 {
     if !given.dictionary.numbers.is_empty() {
         return PlainSplitter::Dictionary(read_unchecked(&given.dictionary));
     }
-    PlainSplitter::BuiltIn(if given.split_at_hyphens == 0 {
-        BuiltInSplitter::NoHyphenation
-    } else {
-        BuiltInSplitter::HyphenSplitter
-    })
+    match given.split_at_hyphens {
+        0 => PlainSplitter::BuiltIn(BuiltInSplitter::NoHyphenation),
+        2 => PlainSplitter::OutsideSequences,
+        _ => PlainSplitter::BuiltIn(BuiltInSplitter::HyphenSplitter),
+    }
 }

@@ -19,7 +19,7 @@ use textwrap_plain::placed::place_into;
 /// its own: these go to the front of the room, one after another, and `len` is that of all. Where
 /// the lines or the room are too short for them, they hold the first of them, and `count` and `len` say
 /// what a second call has to bring. At blanks, by first fit and without a dictionary
-/// nothing is allocated.
+/// nothing is allocated, unless `split_at_hyphens` is 2.
 pub fn textwrap_wrap(
     alloc: Global,
     text: &[u8],

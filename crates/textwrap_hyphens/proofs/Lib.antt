@@ -5,6 +5,7 @@ pub mod InnerPoints
 pub mod Lookups
 pub mod Minima
 pub mod MoreLevels
+pub mod OutsideHyphens
 pub mod Parts
 pub mod Raised
 pub mod Runs

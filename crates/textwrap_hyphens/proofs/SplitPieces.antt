@@ -65,18 +65,19 @@ cut_penalty-cases : (text : List ℕ) (point : ℕ)
     → (cut_penalty text point ≡ []) ⊎ (cut_penalty text point ≡ hyphen ∷ [])
 cut_penalty-cases text point = grind (arith, ends_in_hyphen)
 
-module _ (patterns : PatternTable) (words pieces : List WordText) (measured : All IsMeasured words)
-    (plain : All HasNoPenalty words)
-    (are : AreSplit (ArePointsBy (held patterns)) words pieces) where
+module _ (Points : List ℕ → List ℕ → Type 0)
+    (inner : (text points : List ℕ) → IsUtf8 text → Points text points → AreInnerCuts text points)
+    (words pieces : List WordText) (measured : All IsMeasured words)
+    (plain : All HasNoPenalty words) (are : AreSplit Points words pieces) where
   pub split-carries : All CarriesHyphen pieces
   split-carries =
       AreSplit-all CarriesHyphen (λ w start none. omega (arith, ap length none))
       (λ w start point after inside.
       grind (arith, length-slice w.word start point (omega (arith, inside))))
-      (ArePointsBy (held patterns)) (held-inner patterns) words pieces measured plain are
+      Points inner words pieces measured plain are
 
   pub split-hyphens : All HasHyphenAtMost pieces
   split-hyphens =
       AreSplit-all HasHyphenAtMost (λ w start none. inl none)
       (λ w start point after inside. cut_penalty-cases w.word point)
-      (ArePointsBy (held patterns)) (held-inner patterns) words pieces measured plain are
+      Points inner words pieces measured plain are

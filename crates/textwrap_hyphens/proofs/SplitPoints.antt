@@ -3,14 +3,15 @@ use Rattle.std.proofs.{Math.Bool.and-true, Math.Bool.or-false, lemmas.List.Folds
 use Rattle.std.proofs.lemmas.List.FromFn.{get_or-range_with_len, length-range_with_len}
 use Rattle.std.proofs.lemmas.Map.Views.{any-filter_same}
 use Rattle.textwrap_hyphens.specs.{Hyphenation.Hyphenation, Points.hyphenation_points}
+use Rattle.textwrap_hyphens.specs.Outside.{hyphens_outside, is_hyphen_outside}
 use Rattle.textwrap_hyphens.specs.Splitting.{is_split_point, split_points}
-use Rattle.textwrap_text.proofs.Common.{Bool, IsStrictlyIncreasing, IsUtf8, List, [], ap, ap₂, arith}
+use Rattle.textwrap_text.proofs.Common.{Bool, and_parts, IsStrictlyIncreasing, IsUtf8, List, [], ap, ap₂, arith}
 use Rattle.textwrap_text.proofs.Common.{cases_Bool, cases_eq, cond, eq-eqb, eqb-true, false}
 use Rattle.textwrap_text.proofs.Common.{false≢true, filter, get_or, inl, inr, length, list_any}
 use Rattle.textwrap_text.proofs.Common.{ne_eqb, or_cases, range_with_len, refl, suc, sym, true, zero}
 use Rattle.textwrap_text.proofs.Common.{ℕ, ◌+◌, ◌++◌, ◌-◌, ◌&&◌, ◌<◌, ◌==◌, ◌||◌, ◌∙◌, ◌∷◌, ◌≡◌, ◌≤◌}
 use Rattle.textwrap_text.proofs.Lists.Elements.{points-more}
-use Rattle.textwrap_words.proofs.Common.{AreNext, hyphen_points, is_hyphen_point, AreInnerCuts}
+use Rattle.textwrap_words.proofs.Common.{AreInnerCuts, AreNext, hyphen_points, is_hyphen_point}
 use Rattle.textwrap_words.proofs.{Common.IsNextCut, Word.Cuts.next-increasing}
 use Rattle.textwrap_words.proofs.Word.Splitting.{HoldsBetween, after-hyphen}
 use Rattle.textwrap_words.specs.{Cuts.AreLaterCuts, WordSplitters.inner_offsets}
@@ -88,10 +89,15 @@ tests-all text test (suc n) last (point ∷ points) ((after, inside, boundary), 
 
 -- ---- the points of a word
 
+-- behind a hyphen a character begins
+own-between : (text : List ℕ) → IsUtf8 text → HoldsBetween (is_hyphen_outside text) text
+own-between text utf8 at some inside is =
+    after-hyphen text at utf8 some inside (and_parts _ _ is).0
+
 -- a hyphen's point is among them
 pub own-among : (text : List ℕ) (at : ℕ) → 0 < at → at < length text
-    → among (hyphen_points text) at ≡ is_hyphen_point text at
-own-among text at some inside = grind (arith, any-filter_same, is_hyphen_point, eqb-true, here, both)
+    → among (hyphens_outside text) at ≡ is_hyphen_outside text at
+own-among text at some inside = grind (arith, any-filter_same, is_hyphen_outside, eqb-true, here, both)
   where
     here : among (inner_offsets text) at ≡ true
     here = list_any_at (λ point. point == at) (inner_offsets text) (at - 1) 0
@@ -99,11 +105,15 @@ own-among text at some inside = grind (arith, any-filter_same, is_hyphen_point, 
         (eq-eqb (get_or (inner_offsets text) (at - 1) 0) at
         (omega (arith, get_or-range_with_len 1 (length text - 1) (at - 1) 0 (omega arith))))
 
-    both : (is_hyphen_point text at && among (inner_offsets text) at) ≡ is_hyphen_point text at
-    both = rw here (and-true (is_hyphen_point text at))
+    both : (is_hyphen_outside text at && among (inner_offsets text) at) ≡ is_hyphen_outside text at
+    both = rw here (and-true (is_hyphen_outside text at))
 
-pub own-inner : (text : List ℕ) → IsUtf8 text → AreInnerCuts text (hyphen_points text)
-own-inner text utf8 = grind (arith, tests-cut, is_hyphen_point, after-hyphen)
+-- the splitter at hyphens has inner cuts, too
+pub hyphens-inner : (text : List ℕ) → IsUtf8 text → AreInnerCuts text (hyphen_points text)
+hyphens-inner text utf8 = grind (arith, tests-cut, is_hyphen_point, after-hyphen)
+
+pub own-inner : (text : List ℕ) → IsUtf8 text → AreInnerCuts text (hyphens_outside text)
+own-inner text utf8 = grind (arith, tests-cut, own-between)
 
 pub inner-increasing : (text cuts : List ℕ) → AreInnerCuts text cuts → IsStrictlyIncreasing cuts
 inner-increasing text [] are k within = absurd (omega (arith, within))
@@ -112,16 +122,16 @@ inner-increasing text (cut ∷ cuts) (here, rest) k within = grind (arith, next-
 module _ (h : Hyphenation) (text : List ℕ) (inner : AreInnerCuts text (hyphenation_points h text)) where
   split-between : IsUtf8 text → HoldsBetween (is_split_point h text) text
   split-between utf8 at some inside is =
-      elim (or_cases (among (hyphenation_points h text) at) (is_hyphen_point text at) is) [
+      elim (or_cases (among (hyphenation_points h text) at) (is_hyphen_outside text at) is) [
         | inl found ↦ among-between text (hyphenation_points h text) 0 inner at some inside found
-        | inr own ↦ after-hyphen text at utf8 some inside own
+        | inr own ↦ own-between text utf8 at some inside own
       ]
 
   pub split-inner : IsUtf8 text → AreInnerCuts text (split_points h text)
   split-inner utf8 = grind (arith, tests-cut, split-between)
 
   -- a word without hyphens of its own has the points of the dictionary
-  pub split-plain : hyphen_points text ≡ [] → split_points h text ≡ hyphenation_points h text
+  pub split-plain : hyphens_outside text ≡ [] → split_points h text ≡ hyphenation_points h text
   split-plain none =
       tests-all text (is_split_point h text) (length text - 1) 0 (hyphenation_points h text) inner
       (omega arith) (λ some. omega arith) (λ at some inside.
@@ -133,7 +143,7 @@ module _ (h : Hyphenation) (text : List ℕ) (inner : AreInnerCuts text (hyphena
 pub split-more : (h : Hyphenation) (text : List ℕ) (point : ℕ) (items more : List ℕ) (b : Bool)
     → 0 < point → point < length text
     → items ≡ filter (is_split_point h text) (range_with_len 1 (point - 1))
-    → b ≡ (among (hyphenation_points h text) point || among (hyphen_points text) point)
+    → b ≡ (among (hyphenation_points h text) point || among (hyphens_outside text) point)
     → more ≡ cond b (items ++ point ∷ []) items
     → more ≡ filter (is_split_point h text) (range_with_len 1 (point + 1 - 1))
 split-more h text point items more b some inside so_far is grown = grind (arith, points-more, own-among)

@@ -4,6 +4,7 @@ pub mod InnerPlaces
 pub mod Laws
 pub mod Levels
 pub mod Numbers
+pub mod Outside
 pub mod Parsed
 pub mod Points
 pub mod Seal

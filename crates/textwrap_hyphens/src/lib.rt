@@ -6,6 +6,7 @@ mod building;
 pub mod dictionary;
 pub mod laws;
 pub mod levels;
+pub mod outside;
 pub mod points;
 pub mod splitting;
 pub mod table;

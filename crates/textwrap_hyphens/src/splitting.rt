@@ -1,4 +1,5 @@
-//! Words, split where a dictionary has hyphens, and behind hyphens of their own.
+//! Words, split where a dictionary has hyphens, and behind hyphens of their own that stand within
+//! no escape sequence.
 ghost use Rattle.std.specs.Prelude.{◌≡◌, ◌==◌, IfOk};
 ghost use Rattle.std.specs.List.{list_any};
 ghost use Rattle.std.specs.List.Sorted.{IsStrictlyIncreasing};
@@ -6,13 +7,13 @@ ghost use Rattle.textwrap_words.specs.Cuts.{AreCuts};
 ghost use Rattle.textwrap_hyphens.specs.Table.{held};
 ghost use Rattle.textwrap_hyphens.specs.Splitting.{ArePointsBy};
 
+use crate::outside::hyphens_outside;
 use crate::points::points;
 use crate::table::PatternTable;
 use std::alloc::{AllocError, Allocator};
-use textwrap_words::word_splitters::WordSplitter;
 
 /// The offsets in bytes, in order, at which a word may be split: those of the dictionary, and those
-/// behind a hyphen between alphanumeric characters. With the patterns of `hy-phen-ation`,
+/// behind a hyphen between alphanumeric characters, within no escape sequence. With the patterns of `hy-phen-ation`,
 /// `hyphenation` has 2 and 6, and `re-hyphenation` has 3; where the parts of words are asked for, it
 /// has 3, 5 and 9.
 ///
@@ -28,7 +29,7 @@ pub fn split_points<A: Allocator + Copy>(
     ensures cuts { IfOk result (λ points. AreCuts word.now points.items) }
 {
     let found = points(alloc, word, patterns)?;
-    let hyphens = WordSplitter::HyphenSplitter.split_points(alloc, word)?;
+    let hyphens = hyphens_outside(alloc, word)?;
     if hyphens.is_empty() {
         return Ok(found);
     }

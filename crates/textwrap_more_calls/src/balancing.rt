@@ -28,7 +28,7 @@ use textwrap_plain::{BuiltInAlgorithm, PlainOptions, PlainSeparator, balanced_wi
 
 /// Writes the balanced lines of a text as `textwrap_wrap` writes its lines: those of first fit at the
 /// width of `textwrap_balanced_width`. They are as many as by first fit at the width of the options. At
-/// blanks and without a dictionary nothing is allocated.
+/// blanks and without a dictionary nothing is allocated, unless `split_at_hyphens` is 2.
 pub fn textwrap_wrap_balanced(
     alloc: Global,
     text: &[u8],
@@ -44,7 +44,7 @@ pub fn textwrap_wrap_balanced(
         → AreByFirstFit options.now text.now others → count.new ≡ length others }
     ensures faults { TellsFaults result (AreKnown options.now) (IsUtf8 text.now × AreTexts options.now) }
     ensures no_memory { options.now.unicode_breaks ≡ 0 → have_dictionary options.now ≡ false
-        → result ≢ out_of_memory }
+        → options.now.split_at_hyphens ≢ 2 → result ≢ out_of_memory }
 {
     let width = match find_width(alloc, text, options) {
         Ok(width) => width,
@@ -58,7 +58,7 @@ pub fn textwrap_wrap_balanced(
 /// options, and at which each piece of it has room: the wider of the indents, and after it any one
 /// word, split but not broken, with its hyphen. Where some piece has none at the width of the options,
 /// it is that width. The algorithm of the options is not used. At blanks and without a dictionary nothing
-/// is allocated.
+/// is allocated, unless `split_at_hyphens` is 2.
 ///
 /// At 40 columns `It was the best of times, it was the worst` takes two lines, and so it does at 23.
 pub fn textwrap_balanced_width(
@@ -72,7 +72,7 @@ pub fn textwrap_balanced_width(
     ensures unknown { TellsUnknown result options.now }
     ensures not_utf8 { TellsNotUtf8 result options.now text.now }
     ensures no_memory { options.now.unicode_breaks ≡ 0 → have_dictionary options.now ≡ false
-        → result ≢ out_of_memory }
+        → options.now.split_at_hyphens ≢ 2 → result ≢ out_of_memory }
     ensures statuses { (result ≡ done) ⊎ (result ≡ not_utf8) ⊎ (result ≡ out_of_memory)
         ⊎ (result ≡ unknown_options) }
 {
@@ -98,7 +98,8 @@ fn find_width(alloc: Global, text: &[u8], options: &TextwrapOptions<'_>) -> Resu
         ⊎ ((status ≡ not_utf8) × AreKnown options.now × ¬ (IsUtf8 text.now × AreTexts options.now))
         ⊎ ((status ≡ out_of_memory) × AreKnown options.now
         × (IsUtf8 text.now × AreTexts options.now)
-        × ((options.now.unicode_breaks ≢ 0) ⊎ (have_dictionary options.now ≡ true)))) }
+        × ((options.now.unicode_breaks ≢ 0) ⊎ (have_dictionary options.now ≡ true)
+        ⊎ (options.now.split_at_hyphens ≡ 2)))) }
 {
     let options = read_options(options)?;
     let Ok(text) = from_utf8(text) else {

@@ -4,6 +4,7 @@ ghost use Rattle.textwrap_calls.specs.Options.{TellsFaults, AreKnown, AreTexts, 
 ghost use Rattle.textwrap_calls.specs.Options.{options_settings, options_points};
 ghost use Rattle.textwrap_calls.specs.Room.{WritesText};
 ghost use Rattle.textwrap_calls.specs.Status.{done, not_utf8, too_small, wrong_places};
+ghost use Rattle.textwrap_hyphens.specs.Outside.{hyphens_outside};
 ghost use Rattle.textwrap_layout.specs.Options.{settings_view};
 ghost use Rattle.textwrap_layout.specs.Paragraph.{broken_pieces_of, pieces_of};
 ghost use Rattle.textwrap_more_calls.specs.Pieces.{AreOffsets, offsets_past, piece_places};
@@ -25,6 +26,7 @@ use textwrap::words::{BreakApart, Word, display_width};
 use textwrap_calls::options::{TextwrapOptions, read_options, with_layout};
 use textwrap_calls::room::put;
 use textwrap_calls::status::{NOT_UTF8, OUT_OF_MEMORY, WRONG_PLACES};
+use textwrap_hyphens::outside::hyphens_outside;
 use textwrap_lines::inner::paragraph_pieces;
 use textwrap_plain::placed::paragraph_pieces as paragraph_pieces_by;
 use textwrap_plain::{PlainOptions, PlainSeparator, PlainSplitter};
@@ -206,6 +208,28 @@ pub fn textwrap_split_points(
         return NOT_UTF8;
     };
     match WordSplitter::HyphenSplitter.split_points(alloc, word) {
+        Ok(found) => put(&found, points, count),
+        Err(_) => OUT_OF_MEMORY,
+    }
+}
+
+/// Writes those of these offsets that stand within no escape sequence, as `split_at_hyphens` 2 of the
+/// options has words split.
+pub fn textwrap_split_points_outside(
+    alloc: Global,
+    word: &[u8],
+    points: &mut [usize],
+    count: &mut usize,
+) -> u32
+    ensures points { WritesText (λ answer. answer ≡ hyphens_outside word.now)
+        result points.old points.new count.old count.new }
+    ensures not_utf8 { result ≡ not_utf8 ↔ ¬ IsUtf8 word.now }
+    ensures statuses { result ≤ too_small }
+{
+    let Ok(word) = from_utf8(word) else {
+        return NOT_UTF8;
+    };
+    match hyphens_outside(alloc, word) {
         Ok(found) => put(&found, points, count),
         Err(_) => OUT_OF_MEMORY,
     }

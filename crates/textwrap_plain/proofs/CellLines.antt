@@ -18,7 +18,7 @@ use Rattle.textwrap_lines.proofs.Common.{flat, indent_of, inl, inr, ◌-◌, ◌
 use Rattle.textwrap_lines.proofs.Common.{laid_out-cases, length, line_bytes, line_from, map, nat_lt}
 use Rattle.textwrap_lines.proofs.Common.{paragraphs_of, paragraphs_of-utf8, parts_from, parts_of}
 use Rattle.textwrap_lines.proofs.Common.{pieces-tile, refl, rules, sizes_of, subst, sym, tiled}
-use Rattle.textwrap_lines.proofs.Common.{tiled-word_of, true, widths_of, word_of, ℕ, None, ◌++◌}
+use Rattle.textwrap_lines.proofs.Common.{tiled-word_of, true, widths_of, word_of, ℕ, ◌++◌}
 use Rattle.textwrap_lines.proofs.Common.{◌+◌, ◌∷◌, ◌≡◌, ◌≢◌, ◌≤◌, chars-IsAscii}
 use Rattle.textwrap_lines.proofs.PrintableTexts.Bytes.{printable-utf8, printable-ascii}
 use Rattle.textwrap_lines.proofs.Text.{Groups.{groups-all, groups-map}, Printed.ArePrintedWithin-by}
@@ -27,12 +27,11 @@ use Rattle.textwrap_plain.proofs.Pieces.{hyphen-printable, hyphen-prints}
 use Rattle.textwrap_plain.proofs.Words.{close-at, lines-greedy, pieces-at, texts-at}
 use Rattle.textwrap_plain.specs.{CutSides.points_by-cuts, Laws.{CellsKeepToColumns, HasRoomBehind}}
 use Rattle.textwrap_plain.specs.{Laws.{MayKeepToColumn, hyphen_columns}, Options.is_dictionary}
-use Rattle.textwrap_plain.specs.Options.{points_by, port_splitter}
+use Rattle.textwrap_plain.specs.Options.{points_by}
 use Rattle.textwrap_layout.specs.{Direct.as_algorithm, Options.layout_view}
 use Rattle.textwrap_plain.proofs.Named.{PlainColumn}
 use Rattle.textwrap_plain.specs.{Options.words_by, Tables.{PlainMakes, plain_parts, plain_shape}}
 use Rattle.textwrap_plain.specs.declared.options.PlainSplitter.{PlainSplitter}
-use Rattle.textwrap_plain.specs.declared.options.PlainSplitter.TheVariants.{BuiltIn, Dictionary}
 use Rattle.textwrap_styles.proofs.SequenceTexts.{nil-whole, whole_text-append}
 use Rattle.textwrap_text.proofs.Common.{All-map, zip, sum_by, filter, nat_tests, sum_by-cons}
 use Rattle.textwrap_text.proofs.Common.{columns, escape, text_width}
@@ -287,15 +286,14 @@ cell-keeps column text cell may (lines, are, is) =
     may.initial may.subsequent Words Points (IsDividedBy (as_algorithm column.parts.algorithm) sizes_of)
     (texts-at separator) (points_by-cuts splitter)
     (close-at separator settings splitter may.hyphens (later-room splitter may.subsequent.fits))
-    (pieces-at separator settings Marks no-mark hyphen-mark splitter)
+    (pieces-at separator settings splitter Marks no-mark hyphen-mark)
     (lines-greedy may.first_fit) lines may.utf8 may.escape are)
   where
     later-room : (splitter : PlainSplitter)
         → text_width column.layout.subsequent_indent.now + cond (is_dictionary splitter) 1 0
-        ≤ column.layout.width → port_splitter splitter ≡ None
+        ≤ column.layout.width → is_dictionary splitter ≡ true
         → 0 < column.layout.width - text_width column.layout.subsequent_indent.now
-    later-room (BuiltIn splitter) fits none = cc
-    later-room (Dictionary table) fits none = omega (arith, fits)
+    later-room splitter fits is = let fits' = rw is at fits in omega (arith, fits')
 
 abbrev MayKeep : PlainColumn × List ℕ → Type 0
 MayKeep p = MayKeepToColumn p.0 p.1

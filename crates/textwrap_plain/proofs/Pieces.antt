@@ -1,27 +1,24 @@
 -- The pieces of a hyphenated paragraph.
 use Rattle.std.proofs.Common.{eqb, ltb, ◌*◌}
 use Rattle.textwrap_base.specs.Errors.{Fits64Bits}
-use Rattle.textwrap_hyphens.proofs.SplitPieces.{HasHyphenAtMost, held-cuts, split-carries}
-use Rattle.textwrap_hyphens.proofs.SplitPieces.{split-hyphens}
-use Rattle.textwrap_hyphens.specs.{Table.held, declared.table.PatternTable.PatternTable}
+use Rattle.textwrap_hyphens.proofs.SplitPieces.{HasHyphenAtMost, split-carries, split-hyphens}
 use Rattle.textwrap_layout.proofs.Common.{total_width, ArePieces, AreWordsCut, empty_word}
 use Rattle.textwrap_layout.proofs.Common.{fitting_pieces, front_pieces, room_of, broken_pieces}
-use Rattle.textwrap_layout.proofs.Paragraph.Pieces.{AreWordsCut-texts, pieces-bounded}
+use Rattle.textwrap_layout.proofs.Paragraph.Pieces.{AreWordsCut-texts}
 use Rattle.textwrap_layout.proofs.Paragraph.{Room.fitting-tight, Widths.{PiecesClose, close-room}}
-use Rattle.textwrap_lines.proofs.Common.{ArePoints, Settings, as_splitter, later_width, pieces-tile}
+use Rattle.textwrap_lines.proofs.Common.{Settings, later_width}
 use Rattle.textwrap_lines.proofs.Common.{IsPrintable, printable-width, IsPrintableByte, All}
 use Rattle.textwrap_lines.proofs.Common.{All-append, All-cons, All-nil, All-weaker, Bool, IsUtf8}
 use Rattle.textwrap_lines.proofs.Common.{List, [], ap, arith, cond, false, inl, inr, length, refl}
 use Rattle.textwrap_lines.proofs.Common.{subst, sym, true, ℕ, ⊤, ◌++◌, ◌<◌, ◌^◌, ◌∷◌, ◌≡◌, ◌≤◌}
 use Rattle.textwrap_lines.proofs.Common.{WordText, broken_word, sizes_of, AreTexts}
 use Rattle.textwrap_lines.proofs.Text.Printed.{PrintsPenalty}
-use Rattle.textwrap_plain.{proofs.Widths.pieces-wide, specs.Hyphenated.ArePointsBy}
+use Rattle.textwrap_plain.{proofs.Widths.pieces-wide, specs.CutSides.points_by-inner}
 use Rattle.textwrap_plain.specs.{Options.points_by, declared.options.PlainSplitter.PlainSplitter}
-use Rattle.textwrap_plain.specs.declared.options.PlainSplitter.TheVariants.{BuiltIn, Dictionary}
-use Rattle.textwrap_words.proofs.Common.{hyphen, broken_texts}
+use Rattle.textwrap_words.proofs.Common.{AreCuts, AreInnerCuts, broken_texts, hyphen}
 use Rattle.textwrap_words.proofs.Word.BrokenPieces.{IsTight, pieces_with-all}
-use Rattle.textwrap_words.proofs.Word.Pieces.{ArePoints-cuts, ArePoints-hyphens, split-measured}
-use Rattle.textwrap_words.proofs.Word.{Pieces.split-tile, Words.{All-each, total_width-narrow}}
+use Rattle.textwrap_words.proofs.Word.{Cuts.inner-cuts, Pieces.split-measured, Pieces.split-tile}
+use Rattle.textwrap_words.proofs.Word.Words.{All-each}
 
 -- ---- the empty piece in front, and the pieces of a broken word
 
@@ -54,33 +51,36 @@ hyphen-prints w is = rw is (printable-width (hyphen ∷ []) hyphen-printable)
 
 module _ (settings : Settings) (Words : List ℕ → List WordText → Type 0)
     (texts : (line : List ℕ) (words : List WordText) → IsUtf8 line → Words line words
-    → AreTexts line words) (patterns : PatternTable) where
+    → AreTexts line words) (Points : List ℕ → List ℕ → Type 0)
+    (inner : (text points : List ℕ) → IsUtf8 text → Points text points → AreInnerCuts text points) where
+  cuts : (text points : List ℕ) → IsUtf8 text → Points text points → AreCuts text points
+  cuts text points utf8 are = inner-cuts text points (inner text points utf8 are)
+
   -- the pieces of a paragraph are together at most twice as wide as it has bytes
   pub hyphenated-wide : (paragraph : List ℕ) (pieces : List WordText) → IsUtf8 paragraph
-      → ArePieces settings Words (ArePointsBy (held patterns)) paragraph pieces
+      → ArePieces settings Words Points paragraph pieces
       → total_width sizes_of pieces ≤ 2 * length paragraph
   hyphenated-wide paragraph pieces utf8 (words, split, words_are, split_are, is) =
       let are = texts paragraph words utf8 words_are in
-      let Points = ArePointsBy (held patterns) in
       omega (
         arith,
         ap (total_width sizes_of) is,
         pieces-wide settings split
-            (split-measured Words Points texts (held-cuts patterns) paragraph split utf8
+            (split-measured Words Points texts cuts paragraph split utf8
             (words, words_are, split_are))
-            (split-carries patterns words split are.measured are.plain split_are),
-        ap length (split-tile Words Points texts (held-cuts patterns) paragraph split utf8
+            (split-carries Points inner words split are.measured are.plain split_are),
+        ap length (split-tile Words Points texts cuts paragraph split utf8
             (words, words_are, split_are)),
       )
 
   -- behind each of them nothing is printed, or a hyphen
   pub hyphenated-hyphens : (paragraph : List ℕ) (pieces : List WordText) → IsUtf8 paragraph
-      → ArePieces settings Words (ArePointsBy (held patterns)) paragraph pieces
+      → ArePieces settings Words Points paragraph pieces
       → All HasHyphenAtMost pieces
   hyphenated-hyphens paragraph pieces utf8 (words, split, words_are, split_are, is) =
       let are = texts paragraph words utf8 words_are in
       let room = room_of settings in
-      let hyphens = split-hyphens patterns words split are.measured are.plain split_are in
+      let hyphens = split-hyphens Points inner words split are.measured are.plain split_are in
       subst (All HasHyphenAtMost) (sym is) (elim settings.break_words
       as (λ b. All HasHyphenAtMost (cond b (front_pieces settings
       ++ fitting_pieces settings split) split)) [
@@ -95,11 +95,11 @@ module _ (settings : Settings) (Words : List ℕ → List WordText → Type 0)
   -- where words are broken, one that is wider than a line has one character that takes columns
   pub hyphenated-tight : (paragraph : List ℕ) (pieces : List WordText) → IsUtf8 paragraph
       → settings.break_words ≡ true
-      → ArePieces settings Words (ArePointsBy (held patterns)) paragraph pieces
+      → ArePieces settings Words Points paragraph pieces
       → All (IsTight (later_width settings)) pieces
   hyphenated-tight paragraph pieces utf8 breaks (words, split, words_are, split_are, is) =
       let limit = later_width settings in
-      let measured = split-measured Words (ArePointsBy (held patterns)) texts (held-cuts patterns)
+      let measured = split-measured Words Points texts cuts
       paragraph split utf8 (words, words_are, split_are) in
       subst (All (IsTight limit)) (sym is) (rw breaks
       (All-append (IsTight limit) (front_pieces settings) (fitting_pieces settings split)
@@ -109,14 +109,14 @@ module _ (settings : Settings) (Words : List ℕ → List WordText → Type 0)
   -- where hyphens are to have room, and later lines have it, each piece keeps to a later line that ends
   -- with it, or has one character that takes columns
   pub hyphenated-close : settings.room_for_hyphens ≡ true → 0 < later_width settings
-      → settings.break_words ≡ true → PiecesClose settings Words (ArePointsBy (held patterns))
+      → settings.break_words ≡ true → PiecesClose settings Words Points
   hyphenated-close asked room breaks =
-      close-room settings Words (ArePointsBy (held patterns)) breaks texts (held-cuts patterns) asked
+      close-room settings Words Points breaks texts cuts asked
       (λ paragraph words split utf8 words_are split_are.
       let are = texts paragraph words utf8 words_are in
       All-weaker HasHyphenAtMost (λ w. length w.penalty ≤ later_width settings)
       (λ w has. short w has) split
-      (split-hyphens patterns words split are.measured are.plain split_are))
+      (split-hyphens Points inner words split are.measured are.plain split_are))
     where
       short : (w : WordText) → HasHyphenAtMost w → length w.penalty ≤ later_width settings
       short w (inl none) = omega (arith, ap length none)
@@ -129,19 +129,10 @@ pub plain-fits : (splitter : PlainSplitter) (settings : Settings) (paragraph : L
     (pieces : List WordText) → IsUtf8 paragraph → length paragraph < 2 ^ 63
     → ArePieces settings AreWordsCut (λ word points. points ≡ points_by splitter word) paragraph pieces
     → Fits64Bits (total_width sizes_of pieces)
-plain-fits (BuiltIn given) settings paragraph pieces utf8 short are =
-    let splitter = as_splitter given in
+plain-fits splitter settings paragraph pieces utf8 short are =
     omega (
       arith,
-      ap length
-          (pieces-tile settings AreWordsCut (ArePoints splitter) AreWordsCut-texts
-          (ArePoints-cuts splitter) paragraph pieces utf8 are),
-      total_width-narrow pieces
-          (pieces-bounded settings AreWordsCut (ArePoints splitter) AreWordsCut-texts
-          (ArePoints-cuts splitter) (ArePoints-hyphens splitter) paragraph pieces utf8 are),
-    )
-plain-fits (Dictionary table) settings paragraph pieces utf8 short are =
-    omega (
-      arith,
-      hyphenated-wide settings AreWordsCut AreWordsCut-texts table paragraph pieces utf8 are,
+      hyphenated-wide settings AreWordsCut AreWordsCut-texts
+          (λ word points. points ≡ points_by splitter word) (points_by-inner splitter) paragraph pieces
+          utf8 are,
     )

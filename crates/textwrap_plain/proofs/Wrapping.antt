@@ -1,6 +1,6 @@
 -- What a hyphenated text promises.
 use Rattle.textwrap.proofs.Common.{text_width-nil}
-use Rattle.textwrap_hyphens.proofs.SplitPieces.{HasHyphenAtMost, held-cuts}
+use Rattle.textwrap_hyphens.proofs.SplitPieces.{HasHyphenAtMost, held-cuts, held-inner}
 use Rattle.textwrap_hyphens.specs.{Hyphenation.Hyphenation, Table.held}
 use Rattle.textwrap_hyphens.specs.declared.table.PatternTable.{PatternTable}
 use Rattle.textwrap_layout.proofs.Common.{IsWrapped, front_pieces, LinesKeepToWidth, fitting_pieces}
@@ -31,7 +31,7 @@ use Rattle.textwrap_plain.specs.declared.options.PlainOptions.{PlainOptions}
 use Rattle.textwrap_plain.specs.declared.options.PlainSeparator.TheVariants.{AtBlanks}
 use Rattle.textwrap_plain.specs.declared.options.PlainSplitter.TheVariants.{Dictionary}
 use Rattle.textwrap_text.proofs.Common.{None, Some, ⊎_elim}
-use Rattle.textwrap_words.proofs.{Common.Begins, Word.Divisions.MayDivide-begins}
+use Rattle.textwrap_words.proofs.{Common.AreInnerCuts, Common.Begins, Word.Divisions.MayDivide-begins}
 use Rattle.textwrap_words.proofs.Word.Divisions.{MayDivide-greedy, MayDivide-some, MayDivide-whole}
 use Rattle.textwrap_words.proofs.Word.Parts.{MaySeparate-texts}
 use Rattle.textwrap_words.specs.declared.wrap_algorithms.WrapAlgorithm.TheVariants.{FirstFit}
@@ -40,12 +40,13 @@ use Rattle.textwrap_words.specs.declared.wrap_algorithms.WrapAlgorithm.TheVarian
 
 module _ (settings : Settings) (Words : List ℕ → List WordText → Type 0)
     (texts : (line : List ℕ) (words : List WordText) → IsUtf8 line → Words line words
-    → AreTexts line words) (patterns : PatternTable)
+    → AreTexts line words) (Points : List ℕ → List ℕ → Type 0)
+    (inner : (text points : List ℕ) → IsUtf8 text → Points text points → AreInnerCuts text points)
     (Lines : List ℕ → List WordText → List (List WordText) → Type 0)
     (begins : (widths : List ℕ) (pieces : List WordText) (division : List (List WordText))
     → Lines widths pieces division → Begins pieces (flat division)) where
   abbrev Divides : Bool → List ℕ → List (List WordText) → Type 0
-  Divides = IsDividedInto settings Words (ArePointsBy (held patterns)) Lines
+  Divides = IsDividedInto settings Words Points Lines
 
   abbrev AreParts : Bool → List ℕ → List LineParts → Type 0
   AreParts = AreParagraphParts settings Divides
@@ -59,7 +60,7 @@ module _ (settings : Settings) (Words : List ℕ → List WordText → Type 0)
       (λ (pieces, are, divided).
       let (rest, whole) = begins (widths_of settings is_later) pieces division divided in
       all-left HasHyphenAtMost (flat division) rest (subst (All HasHyphenAtMost) (sym whole)
-      (hyphenated-hyphens settings Words texts patterns paragraph pieces utf8 are)))
+      (hyphenated-hyphens settings Words texts Points inner paragraph pieces utf8 are)))
       (is_whole settings is_later paragraph) laid_out))
 
   pub hyphens-alone : (text : List ℕ) (lines : List Line) → IsUtf8 text
@@ -89,7 +90,7 @@ module _ (settings : Settings) (Words : List ℕ → List WordText → Type 0)
         ∙ ap (λ b. cond b (front_pieces settings ++ broken) are.1) breaks in
         greedy_passes settings is_later broken division
         (rw same at (greedy (widths_of settings is_later) pieces division divided))
-        (rw same at (hyphenated-tight settings Words texts patterns paragraph pieces utf8 breaks are))
+        (rw same at (hyphenated-tight settings Words texts Points inner paragraph pieces utf8 breaks are))
 
     paragraph-keeps : (is_later : Bool) (paragraph : List ℕ) (parts : List LineParts)
         → IsUtf8 paragraph → AreParts is_later paragraph parts
@@ -160,7 +161,8 @@ module _ {E C : Type 0} {e : _} {c : _} (options : Options E C e c) (patterns : 
 
     pub AddOnlyHyphens-hyphenated : AddOnlyHyphens settings By text lines
     AddOnlyHyphens-hyphenated =
-        AddOnlyHyphens-by settings Words (MaySeparate-texts options.word_separator) patterns
+        AddOnlyHyphens-by settings Words (MaySeparate-texts options.word_separator)
+        (ArePointsBy (held patterns)) (held-inner patterns)
         (MayDivide options.wrap_algorithm (λ w. w)) begins text lines utf8 are
 
     pub AreTheText-hyphenated : algorithm_view options.wrap_algorithm ≢ None
@@ -170,7 +172,8 @@ module _ {E C : Type 0} {e : _} {c : _} (options : Options E C e c) (patterns : 
           groups = wrapped.are.groups;
           given = wrapped.are.given;
           covered = wrapped.tile built_in;
-          hyphens = hyphens-alone settings Words (MaySeparate-texts options.word_separator) patterns
+          hyphens = hyphens-alone settings Words (MaySeparate-texts options.word_separator)
+              (ArePointsBy (held patterns)) (held-inner patterns)
               (MayDivide options.wrap_algorithm (λ w. w)) begins text lines utf8 wrapped.are;
           blanks = wrapped.loses.blanks;
         }
@@ -179,7 +182,8 @@ module _ {E C : Type 0} {e : _} {c : _} (options : Options E C e c) (patterns : 
       pub LinesKeepButHyphens-hyphenated : settings.break_words ≡ true
           → LinesKeepButHyphens settings By text lines
       LinesKeepButHyphens-hyphenated breaks =
-          LinesKeepButHyphens-by settings Words (MaySeparate-texts options.word_separator) patterns
+          LinesKeepButHyphens-by settings Words (MaySeparate-texts options.word_separator)
+          (ArePointsBy (held patterns)) (held-inner patterns)
           (MayDivide options.wrap_algorithm (λ w. w)) begins (greedy (ap algorithm_view first)) breaks
           text lines utf8 are
 
@@ -187,7 +191,8 @@ module _ {E C : Type 0} {e : _} {c : _} (options : Options E C e c) (patterns : 
       module _ (asked : settings.room_for_hyphens ≡ true) (room : 0 < later_width settings) where
         close : settings.break_words ≡ true → PiecesClose settings Words (ArePointsBy (held patterns))
         close =
-            hyphenated-close settings Words (MaySeparate-texts options.word_separator) patterns asked
+            hyphenated-close settings Words (MaySeparate-texts options.word_separator)
+            (ArePointsBy (held patterns)) (held-inner patterns) asked
             room
 
         pub LinesKeepToWidth-hyphenated : settings.even_paragraphs ≡ true
@@ -206,7 +211,8 @@ module _ {E C : Type 0} {e : _} {c : _} (options : Options E C e c) (patterns : 
             (held-cuts patterns) close
             (λ paragraph pieces utf8 pieces_are. All-weaker HasHyphenAtMost PrintsPenalty
             (λ w. ⊎_elim (λ none. rw none text_width-nil) (hyphen-prints w)) pieces
-            (hyphenated-hyphens settings Words (MaySeparate-texts options.word_separator) patterns
+            (hyphenated-hyphens settings Words (MaySeparate-texts options.word_separator)
+            (ArePointsBy (held patterns)) (held-inner patterns)
             paragraph pieces utf8 pieces_are)) (greedy (ap algorithm_view first)) text lines utf8 can are
 
 -- ---- where words stand between blanks and the algorithm is built in

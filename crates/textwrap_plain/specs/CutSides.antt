@@ -3,19 +3,22 @@
 use Rattle.std.proofs.lemmas.Bool.{and_parts, eqb-true, not-true}
 use Rattle.std.specs.Char.{is_ascii_alphanumeric}
 use Rattle.std.specs.Prelude.{ℕ, ◌-◌, List, None, Some, slice_index, ◌≡◌}
-use Rattle.textwrap_hyphens.proofs.SplitPieces.{held-cuts}
+use Rattle.textwrap_hyphens.proofs.{SplitPieces.held-inner, SplitPoints.hyphens-inner, SplitPoints.own-inner}
 use Rattle.textwrap_layout.specs.{Direct.AreWordsCut, Printable.AfterOthers, Printable.BeforeOthers}
 use Rattle.textwrap_plain.specs.Options.{is_cut_plainly, points_by, words_by}
 use Rattle.textwrap_plain.specs.declared.options.PlainSeparator.{PlainSeparator}
 use Rattle.textwrap_plain.specs.declared.options.PlainSeparator.TheVariants.{AtBlanks, AtBreaks}
 use Rattle.textwrap_plain.specs.declared.options.PlainSplitter.{PlainSplitter}
 use Rattle.textwrap_plain.specs.declared.options.PlainSplitter.TheVariants.{BuiltIn, Dictionary}
+use Rattle.textwrap_plain.specs.declared.options.PlainSplitter.TheVariants.{OutsideSequences}
 use Rattle.textwrap_text.proofs.Common.{false≢true, ap, IsPrintable, IsUtf8, is_blank, refl, stripped}
+use Rattle.textwrap_text.proofs.Common.{subst, sym}
 use Rattle.textwrap_unicode.proofs.PrintableCuts.{cut-after_other, cut-before_other}
 use Rattle.textwrap_unicode.specs.{Breaks.breaks_by, Cuts.cuts_by, Cuts.offsets_of}
 use Rattle.textwrap_unicode.specs.declared.numbers.Numbers.TheVariants.{ByExpression, ByPairs}
-use Rattle.textwrap_words.proofs.Word.{Offsets.cuts_at-AreInnerCuts, Pieces.ArePoints-cuts}
-use Rattle.textwrap_words.specs.{Cuts.AreCuts, Pieces.as_splitter}
+use Rattle.textwrap_words.proofs.Word.{Cuts.inner-cuts, Offsets.cuts_at-AreInnerCuts}
+use Rattle.textwrap_words.specs.Cuts.{AreCuts, AreInnerCuts}
+use Rattle.textwrap_words.specs.declared.pieces.BuiltInSplitter.TheVariants.{HyphenSplitter, NoHyphenation}
 
 pub cuts-before_others : (separator : PlainSeparator) (text : List ℕ) → IsPrintable text
     → BeforeOthers (is_cut_plainly separator text) text
@@ -44,7 +47,17 @@ words_by-cut (AtBreaks numbers) text utf8 = (
   refl,
 )
 
+-- a word is split into parts that are not empty
+pub points_by-inner : (splitter : PlainSplitter) (word points : List ℕ) → IsUtf8 word
+    → points ≡ points_by splitter word → AreInnerCuts word points
+points_by-inner (BuiltIn NoHyphenation) word points utf8 are = subst (AreInnerCuts word) (sym are) tt
+points_by-inner (BuiltIn HyphenSplitter) word points utf8 are =
+    subst (AreInnerCuts word) (sym are) (hyphens-inner word utf8)
+points_by-inner OutsideSequences word points utf8 are =
+    subst (AreInnerCuts word) (sym are) (own-inner word utf8)
+points_by-inner (Dictionary table) word points utf8 are = held-inner table word points utf8 are
+
 pub points_by-cuts : (splitter : PlainSplitter) (word points : List ℕ) → IsUtf8 word
     → points ≡ points_by splitter word → AreCuts word points
-points_by-cuts (BuiltIn splitter) = ArePoints-cuts (as_splitter splitter)
-points_by-cuts (Dictionary table) = held-cuts table
+points_by-cuts splitter word points utf8 are =
+    inner-cuts word points (points_by-inner splitter word points utf8 are)

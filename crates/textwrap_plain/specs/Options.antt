@@ -6,7 +6,7 @@ use Rattle.textwrap.specs.{Cuts.parts_between, Options.default_algorithm, Option
 use Rattle.textwrap.specs.{Options.settings_at, WordSplitters.Splitter, WordSplitters.AtHyphens}
 use Rattle.textwrap.specs.Words.{WordText, is_cut, word_of, words_of}
 use Rattle.textwrap.specs.WrapAlgorithms.{Algorithm, ByFirstFit}
-use Rattle.textwrap_hyphens.specs.{Splitting.split_points, Table.held}
+use Rattle.textwrap_hyphens.specs.{Outside.hyphens_outside, Splitting.split_points, Table.held}
 use Rattle.textwrap_layout.specs.{Direct.as_algorithm, Options.layout_view, Paragraph.IsDividedInto}
 use Rattle.textwrap_layout.specs.declared.layout.Layout.{Layout}
 use Rattle.textwrap_plain.specs.declared.options.PlainOptions.{PlainOptions}
@@ -14,6 +14,7 @@ use Rattle.textwrap_plain.specs.declared.options.PlainSeparator.{PlainSeparator}
 use Rattle.textwrap_plain.specs.declared.options.PlainSeparator.TheVariants.{AtBlanks, AtBreaks}
 use Rattle.textwrap_plain.specs.declared.options.PlainSplitter.{PlainSplitter}
 use Rattle.textwrap_plain.specs.declared.options.PlainSplitter.TheVariants.{BuiltIn, Dictionary}
+use Rattle.textwrap_plain.specs.declared.options.PlainSplitter.TheVariants.{OutsideSequences}
 use Rattle.textwrap_text.specs.Units.{text_width}
 use Rattle.textwrap_unicode.specs.{Cuts.cuts_by, Pairs.at_breaks}
 use Rattle.textwrap_unicode.specs.declared.numbers.Numbers.TheVariants.{ByExpression, ByPairs}
@@ -34,6 +35,7 @@ is_cut_plainly (AtBreaks ByExpression) text place = false
 
 abbrev pub is_dictionary : PlainSplitter → Bool
 is_dictionary (BuiltIn splitter) = false
+is_dictionary OutsideSequences = false
 is_dictionary (Dictionary table) = true
 
 -- with a dictionary hyphens are to have room
@@ -48,11 +50,19 @@ plain_layout o = record o.layout { room_for_hyphens = is_dictionary o.word_split
 -- the splitter of the port, if it is one
 abbrev pub port_splitter : PlainSplitter → Option Splitter
 port_splitter (BuiltIn splitter) = Some (as_splitter splitter)
+port_splitter OutsideSequences = None
 port_splitter (Dictionary table) = None
+
+-- a splitter of the port that adds as little behind a line: a dictionary adds hyphens
+abbrev pub adds_as : PlainSplitter → Option Splitter
+adds_as (BuiltIn splitter) = Some (as_splitter splitter)
+adds_as OutsideSequences = Some AtHyphens
+adds_as (Dictionary table) = None
 
 -- where it splits a word
 abbrev pub points_by : PlainSplitter → List ℕ → List ℕ
 points_by (BuiltIn splitter) = points_of (as_splitter splitter)
+points_by OutsideSequences = hyphens_outside
 points_by (Dictionary table) = split_points (held table)
 
 abbrev pub plain_splitter : PlainOptions → Option Splitter
@@ -80,10 +90,11 @@ DividesPlainly o =
 
 -- if a dictionary splits words, a later line has room for a hyphen behind its indent
 abbrev pub HasRoomForHyphen : PlainOptions → Type 0
-HasRoomForHyphen o = plain_splitter o ≡ None → text_width o.layout.subsequent_indent.now < o.layout.width
+HasRoomForHyphen o =
+    is_dictionary o.word_splitter ≡ true → text_width o.layout.subsequent_indent.now < o.layout.width
 
--- words stand between blanks, no dictionary splits them, and each line takes as many of their pieces
--- as fit
+-- words stand between blanks, a splitter of the port splits them, and each line takes as many of their
+-- pieces as fit
 pub record AreDirect (o : PlainOptions) : Type 0 where
   pub separator : o.word_separator ≡ AtBlanks
   pub splitter : plain_splitter o ≢ None

@@ -46,8 +46,8 @@ pub struct Balance {
 /// The least width at which first fit takes no more lines of a text than at the width of the layout,
 /// and at which each piece of it has room: the wider of the indents, and after it any one word, split
 /// but not broken, with its hyphen. Where some piece has none at the width of the layout, it is that
-/// width. Words end and are split as the parts say; their algorithm is not used. At blanks and without a
-/// dictionary nothing is allocated.
+/// width. Words end and are split as the parts say; their algorithm is not used. At blanks and by a
+/// built-in splitter nothing is allocated.
 ///
 /// It tells also how many fillings that took: none where some piece has no room, else one at the width of
 /// the layout and at most 64 more, as each of these leaves at most half of the widths.
@@ -170,7 +170,7 @@ fn widest_in<A: Allocator + Copy, W: PrintableCuts + Copy>(
             };
             Ok(widest_of(cut_paragraph(paragraph, &frame, &cuts)))
         }
-        PlainSplitter::Dictionary(_) => {
+        PlainSplitter::OutsideSequences | PlainSplitter::Dictionary(_) => {
             let pieces = find_pieces(alloc, paragraph, &frame, parts)?;
             Ok(widest_of_list(&pieces))
         }

@@ -4,6 +4,7 @@ ghost use Rattle.std.specs.Prelude.{◌≡◌};
 
 use crate::options::PlainSplitter;
 use std::alloc::{AllocError, Allocator};
+use textwrap_hyphens::outside::hyphens_outside;
 use textwrap_hyphens::splitting::split_points;
 use textwrap_hyphens::table::PatternTable;
 use textwrap_layout::built_in::BuiltIn;
@@ -136,7 +137,7 @@ impl<A: Allocator + Copy, W: PrintableCuts + Copy> Parts<A> for PlainParts<'_, W
                 splitter,
                 algorithm: self.algorithm,
             }),
-            PlainSplitter::Dictionary(_) => None,
+            PlainSplitter::OutsideSequences | PlainSplitter::Dictionary(_) => None,
         }
     }
 
@@ -157,6 +158,7 @@ impl<A: Allocator + Copy, W: PrintableCuts + Copy> Parts<A> for PlainParts<'_, W
             PlainSplitter::BuiltIn(splitter) => self
                 .built_in_by(splitter)
                 .split_points(alloc, word),
+            PlainSplitter::OutsideSequences => hyphens_outside(alloc, word),
             PlainSplitter::Dictionary(patterns) => split_points(alloc, word, &patterns),
         }
     }
@@ -178,7 +180,7 @@ impl<A: Allocator + Copy, W: PrintableCuts + Copy> Parts<A> for PlainParts<'_, W
     fn has_points(&self) -> bool {
         match self.splitter {
             PlainSplitter::BuiltIn(_) => false,
-            PlainSplitter::Dictionary(_) => true,
+            PlainSplitter::OutsideSequences | PlainSplitter::Dictionary(_) => true,
         }
     }
 }

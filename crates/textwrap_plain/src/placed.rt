@@ -22,7 +22,7 @@ use textwrap_lines::placed::{LineCounts, PlacedLines, TextwrapLine, write_places
 
 /// Writes where the lines of [`wrap`](crate::wrap) stand to the front of `lines`, and those that are no
 /// slices of the text to the front of the room, as much of both as has room, and returns how long they
-/// are. What follows stays as it was. At blanks, by first fit and without a dictionary nothing is
+/// are. What follows stays as it was. At blanks, by first fit and a built-in splitter nothing is
 /// allocated.
 ///
 /// # Errors

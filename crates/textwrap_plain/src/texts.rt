@@ -6,7 +6,7 @@ ghost use Rattle.textwrap.specs.Paragraph.{line_view};
 ghost use Rattle.textwrap.specs.Text.{ArePrintedWithin, CanKeepToWidth, IsWrapped, LinesKeepToWidth};
 ghost use Rattle.textwrap.specs.WrapAlgorithms.{ByFirstFit};
 ghost use Rattle.textwrap_plain.specs.Options.{plain_algorithm, DividesPlainly, plain_settings};
-ghost use Rattle.textwrap_plain.specs.Options.{AreDirect, HasRoomForHyphen, plain_splitter};
+ghost use Rattle.textwrap_plain.specs.Options.{AreDirect, HasRoomForHyphen, adds_as, plain_splitter};
 ghost use Rattle.textwrap_plain.specs.Hyphenated.{AddOnlyHyphens, AreTheText, LinesKeepButHyphens};
 ghost use Rattle.textwrap_text.specs.LentText.{as_len, written_over};
 ghost use Rattle.textwrap_base.specs.Errors.{OnlyMemoryRunsOut};
@@ -33,7 +33,7 @@ pub fn wrap<'t>(
     options: &PlainOptions<'_>,
 ) -> Result<Vec<CowStr<'t>>, WrapError>
     ensures lines { IfOk result (λ lines. IsWrapped (plain_settings options.now)
-        (plain_splitter options.now) (Some (plain_algorithm options.now))
+        (adds_as options.now.word_splitter) (Some (plain_algorithm options.now))
         (DividesPlainly options.now (plain_settings options.now)) text.now
         (map line_view lines.items)) }
     // Where paragraphs are even, lines keep to the width with their indents and hyphens, if they can.
@@ -47,7 +47,7 @@ pub fn wrap<'t>(
         → CanKeepToWidth (plain_settings options.now) text.now → IfOk result (λ lines. ArePrintedWithin
         (plain_settings options.now) (DividesPlainly options.now (plain_settings options.now)) text.now
         (map line_view lines.items)) }
-    // By a dictionary nothing is printed behind a line, or a hyphen.
+    // By a splitter beside the port nothing is printed behind a line, or a hyphen of the dictionary.
     ensures hyphens { plain_splitter options.now ≡ None → IfOk result (λ lines. AddOnlyHyphens
         (plain_settings options.now) (DividesPlainly options.now (plain_settings options.now)) text.now
         (map line_view lines.items)) }
@@ -79,7 +79,7 @@ pub fn fill(alloc: Global, text: &str, options: &PlainOptions<'_>) -> Result<Str
 
 /// Writes the text of [`fill`] into lent room, as much of it as there is room for, and returns how many
 /// bytes it has, or the greatest number if they are more. The rest of the room stays as it was. At
-/// blanks, by first fit and without a dictionary nothing is allocated. By other options the text is made
+/// blanks, by first fit and by a built-in splitter nothing is allocated. By other options the text is made
 /// before any of it is written, since an error changes nothing.
 ///
 /// # Errors

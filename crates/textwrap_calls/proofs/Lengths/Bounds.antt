@@ -5,7 +5,7 @@ use Rattle.std.proofs.lemmas.{List.FromFn.{length-range_with_len, fill_by_all}, 
 use Rattle.std.specs.Int.{div_ceil}
 use Rattle.textwrap.proofs.Common.{div_ceil_times, length-replicate, and_parts, max, range_with_len}
 use Rattle.textwrap.proofs.Common.{indent_of, Bool, length-append, ending_bytes, arith, All-head}
-use Rattle.textwrap.proofs.Common.{paragraphs_of, All-weaker, None, length-map, line_bytes}
+use Rattle.textwrap.proofs.Common.{paragraphs_of, All-weaker, length-map, line_bytes}
 use Rattle.textwrap.proofs.Common.{LineParts, join_with, line_from, nat_tests, All, All-tail}
 use Rattle.textwrap.proofs.Common.{cases_lt, flat_map, IsUtf8, get_or, length, false, subst, inl}
 use Rattle.textwrap.proofs.Common.{List, cond, refl, true, ◌==◌, inr, map, ℕ, sym, ◌*◌, ◌+◌, ◌-◌}
@@ -30,9 +30,10 @@ use Rattle.textwrap_lines.proofs.Text.Groups.{groups-tile}
 use Rattle.textwrap_plain.proofs.Balance.Counts.{slices, text-size}
 use Rattle.textwrap_plain.proofs.Words.{IsWrapped-at, hyphens-at}
 use Rattle.textwrap_plain.specs.{CutSides.words_by-cut, Hyphenated.AddsHyphenAtMost}
-use Rattle.textwrap_plain.specs.Options.{DividesFrom, points_by, port_splitter, words_by}
+use Rattle.textwrap_plain.specs.Options.{DividesFrom, is_dictionary, points_by, words_by}
 use Rattle.textwrap_plain.specs.declared.options.PlainSplitter.{PlainSplitter}
 use Rattle.textwrap_plain.specs.declared.options.PlainSplitter.TheVariants.{BuiltIn, Dictionary}
+use Rattle.textwrap_plain.specs.declared.options.PlainSplitter.TheVariants.{OutsideSequences}
 
 -- ---- lines of their own
 
@@ -145,12 +146,20 @@ added o settings text lines utf8 are =
     (DividesFrom (words_by (separator_of o)) points (options_algorithm o) settings) text lines)
     is.points are))
   where
-    by : (splitter : PlainSplitter) → (port_splitter splitter ≡ None → 1 ≤ hyphens_of o)
+    by : (splitter : PlainSplitter) → (is_dictionary splitter ≡ true → 1 ≤ hyphens_of o)
         → AreTextLines settings (DividesFrom (words_by (separator_of o)) (points_by splitter)
         (options_algorithm o) settings) text lines
         → AreAdded o settings text lines (points_by splitter)
     by (BuiltIn splitter) hyphens are =
         let all = IsWrapped-at (separator_of o) utf8 (BuiltIn splitter) are in
+        record {
+          are = all.are;
+          indents = all.adds.indents;
+          adds = All-weaker HasNoHyphen (AddsAtMost (hyphens_of o)) (none-short (hyphens_of o))
+              (flat all.are.groups) (all.adds.no_hyphen (λ e. cc));
+        }
+    by OutsideSequences hyphens are =
+        let all = IsWrapped-at (separator_of o) utf8 OutsideSequences are in
         record {
           are = all.are;
           indents = all.adds.indents;
@@ -164,7 +173,7 @@ added o settings text lines utf8 are =
           indents = all.adds.indents;
           adds = All-weaker AddsHyphenAtMost (AddsAtMost (hyphens_of o))
               (λ p is_one. omega (arith, hyphen-short p is_one, hyphens refl)) (flat all.are.groups)
-              (hyphens-at (separator_of o) table (options_algorithm o) utf8 all.are);
+              (hyphens-at (separator_of o) (Dictionary table) (options_algorithm o) utf8 all.are);
         }
 
 pub lines-bounded : (o : TextwrapOptions) (settings : Settings) (len : ℕ) (text : List ℕ)

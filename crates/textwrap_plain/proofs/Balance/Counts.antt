@@ -25,6 +25,8 @@ use Rattle.textwrap_plain.proofs.Split.{AreAt, pieces-from, split-computed}
 use Rattle.textwrap_plain.specs.Options.{DividesFrom, points_by, split_by_points}
 use Rattle.textwrap_plain.specs.declared.options.PlainSplitter.{PlainSplitter}
 use Rattle.textwrap_plain.specs.declared.options.PlainSplitter.TheVariants.{BuiltIn, Dictionary}
+use Rattle.textwrap_plain.specs.declared.options.PlainSplitter.TheVariants.{OutsideSequences}
+use Rattle.textwrap_hyphens.specs.Outside.{is_hyphen_outside}
 use Rattle.textwrap_text.proofs.Common.{flat_map-append, All-map, chunks, encodes-chars, filter}
 use Rattle.textwrap_text.proofs.Common.{lines, ne_eqb, range_with_len, units, taken_at, units_past}
 use Rattle.textwrap_text.proofs.Units.Chunks.{AreChunks-chunks}
@@ -144,6 +146,9 @@ pub points_by-inside : (splitter : PlainSplitter) (word : List ℕ)
 points_by-inside (BuiltIn NoHyphenation) word = tt
 points_by-inside (BuiltIn HyphenSplitter) word =
     points-inside (is_hyphen_point word) word (length word - 1) 1 0 (omega arith)
+    (λ more. omega (arith, more))
+points_by-inside OutsideSequences word =
+    points-inside (is_hyphen_outside word) word (length word - 1) 1 0 (omega arith)
     (λ more. omega (arith, more))
 points_by-inside (Dictionary table) word =
     points-inside (is_split_point (held table) word) word (length word - 1) 1 0 (omega arith)

@@ -4,10 +4,10 @@ use Rattle.textwrap_hyphens.proofs.splitting.split_points.Goals.{else-is_among+e
 use Rattle.textwrap_hyphens.proofs.splitting.split_points.Goals.{then-is_among+in_ok-push}
 use Rattle.textwrap_hyphens.proofs.splitting.split_points.Goals.{then-is_among-via-then-is_among}
 use Rattle.textwrap_hyphens.proofs.splitting.split_points.Goals.{then-is_among-via-else-is_among+then-is_among-2}
-use Rattle.textwrap_hyphens.specs.{Splitting.is_split_point, Table.held}
+use Rattle.textwrap_hyphens.specs.{Outside.hyphens_outside, Splitting.is_split_point, Table.held}
 use Rattle.textwrap_text.proofs.Common.{Bool, List, [], ap, arith, cond, false, filter, length, nil_from_length}
 use Rattle.textwrap_text.proofs.Common.{range_with_len, sym, true, ℕ, ◌+◌, ◌++◌, ◌-◌, ◌||◌, ◌∙◌, ◌∷◌, ◌≡◌}
-use Rattle.textwrap_words.proofs.{Common.hyphen_points, Word.Cuts.inner-cuts}
+use Rattle.textwrap_words.proofs.Word.Cuts.{inner-cuts}
 use Rattle.textwrap_hyphens.proofs.splitting.split_points.Goals as goal
 
 pub returns-then-is_empty-clause-points : goal.returns-then-is_empty-clause-points
@@ -46,7 +46,7 @@ loop-point-preserved g c = record {
     point = c.loop-point.point
 
     own : Bool
-    own = among (hyphen_points c.args.word.now) point
+    own = among (hyphens_outside c.args.word.now) point
 
     so_far : List ℕ
     so_far = c.loop-point.points.items

@@ -7,20 +7,22 @@ use Rattle.textwrap_lines.proofs.Common.{subst, sym, ◌∙◌, ◌≡◌, as_sp
 use Rattle.textwrap_lines.proofs.Common.{stand_from}
 use Rattle.textwrap_plain.proofs.{Balance.Room.places-widest, Pieces.hyphenated-wide}
 use Rattle.textwrap_plain.{proofs.Split.pieces-from, specs.Options.{points_by, split_by_points}}
+use Rattle.textwrap_plain.specs.CutSides.{points_by-inner}
 use Rattle.textwrap_plain.specs.Widest.{widest_of_words, widest_place}
 use Rattle.textwrap_plain.proofs.balancing.widest_in.Goals as goal
 
 pub widest_of_list-requires : goal.widest_of_list-requires
 widest_of_list-requires g c =
     let words = g.W.PrintableCuts.words c.args.parts.now.words in
-    let are = rw c.in-Dictionary.is at c.in_ok-pieces-in-Dictionary.ensures.pieces in
+    let are = c.in_ok-pieces-in-OutsideSequences.ensures.pieces in
     rw c.deref.ensures.value (omega (
       arith,
       hyphenated-wide (frame_settings c.of-frame.result) (λ line ws. ws ≡ words line)
           (λ line ws utf8 is. subst (AreTexts line) (sym is)
           (AreWordsCut-texts line (words line) utf8
           (g.met.W.PrintableCuts.are_cut c.args.parts.now.words line utf8)))
-          c.in-Dictionary.field-0 c.args.paragraph.now _ c.utf8.paragraph are,
+          (λ word points. points ≡ points_by c.args.parts.now.splitter word)
+          (points_by-inner c.args.parts.now.splitter) c.args.paragraph.now _ c.utf8.paragraph are,
     ))
 
 pub returns-in_ok-found-in-BuiltIn-clause-widest : goal.returns-in_ok-found-in-BuiltIn-clause-widest
@@ -43,17 +45,17 @@ returns-in_ok-found-in-BuiltIn-clause-widest g c =
     (AreWordsCut-texts paragraph words c.utf8.paragraph
     (g.met.W.PrintableCuts.are_cut c.args.parts.now.words paragraph c.utf8.paragraph))))
 
-pub returns-in_ok-pieces-in-Dictionary-clause-widest :
-    goal.returns-in_ok-pieces-in-Dictionary-clause-widest
-returns-in_ok-pieces-in-Dictionary-clause-widest g c =
+pub returns-in_ok-pieces-in-OutsideSequences-clause-widest :
+    goal.returns-in_ok-pieces-in-OutsideSequences-clause-widest
+returns-in_ok-pieces-in-OutsideSequences-clause-widest g c =
     let words = g.W.PrintableCuts.words c.args.parts.now.words in
     let whole : Settings = record (layout_view c.args.layout) { break_words = false } in
     let framed : frame_settings c.of-frame.result ≡ whole = ap layout_view c.of-frame.ensures.layout in
     let points = points_by c.args.parts.now.splitter in
-    let pieces = map word_view c.in_ok-pieces-in-Dictionary.pieces.items in
+    let pieces = map word_view c.in_ok-pieces-in-OutsideSequences.pieces.items in
     c.widest_of_list.ensures
     ∙ ap (λ ps. widest_of_words (map word_view ps)) c.deref.ensures.value
     ∙ ap widest_of_words (pieces-from points (λ line ws. ws ≡ words line) words (λ line ws is. is)
     (frame_settings c.of-frame.result) c.args.paragraph.now pieces
-    c.in_ok-pieces-in-Dictionary.ensures.pieces
+    c.in_ok-pieces-in-OutsideSequences.ensures.pieces
     ∙ ap (λ s. broken_pieces_of s (split_by_points points (words c.args.paragraph.now))) framed)

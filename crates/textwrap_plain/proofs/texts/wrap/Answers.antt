@@ -1,11 +1,11 @@
 use Rattle.std.proofs.Common.{IfOk}
-use Rattle.textwrap_lines.proofs.Common.{IfOk-weaker, AreTextLines, later_width, line_view, None}
-use Rattle.textwrap_lines.proofs.Common.{arith, map, refl, ◌<◌, ◌≡◌}
+use Rattle.textwrap_lines.proofs.Common.{IfOk-weaker, AreTextLines, later_width, line_view}
+use Rattle.textwrap_lines.proofs.Common.{arith, map, true, ◌<◌, ◌≡◌, refl}
 use Rattle.textwrap_plain.proofs.Words.{AddOnlyHyphens-at, ArePrintedWithin-at, AreTheText-at}
 use Rattle.textwrap_plain.proofs.Words.{IsWrapped-at, LinesKeepButHyphens-at, LinesKeepToWidth-at}
 use Rattle.textwrap_plain.{proofs.texts.wrap.Goals.After-wrap_by, specs.Options.DividesPlainly}
-use Rattle.textwrap_plain.specs.Options.{HasRoomForHyphen, plain_algorithm, plain_settings}
-use Rattle.textwrap_plain.specs.{Options.plain_splitter, declared.options.PlainOptions.PlainOptions}
+use Rattle.textwrap_plain.specs.Options.{HasRoomForHyphen, is_dictionary, plain_algorithm, plain_settings}
+use Rattle.textwrap_plain.specs.declared.options.PlainOptions.{PlainOptions}
 use Rattle.textwrap_plain.proofs.texts.wrap.Goals as goal
 
 lines : (c : After-wrap_by) → IfOk c.wrap_by.result (λ lines.
@@ -16,7 +16,7 @@ lines c =
     let o = c.parts.ensures in
     rw (c.layout.ensures, o.words, o.splitter, o.algorithm) at c.wrap_by.ensures.lines
 
-later-room : (o : PlainOptions) → HasRoomForHyphen o → plain_splitter o ≡ None
+later-room : (o : PlainOptions) → HasRoomForHyphen o → is_dictionary o.word_splitter ≡ true
     → 0 < later_width (plain_settings o)
 later-room o room dictionary = omega (arith, room dictionary)
 
@@ -44,17 +44,17 @@ pub returns-clause-hyphens : goal.returns-clause-hyphens
 returns-clause-hyphens c = λ dictionary.
     let o = c.args.options.now in
     IfOk-weaker c.wrap_by.result _ _ (λ found.
-    AddOnlyHyphens-at o.word_separator o.word_splitter (plain_algorithm o) c.utf8.text dictionary) (lines c)
+    AddOnlyHyphens-at o.word_separator o.word_splitter (plain_algorithm o) c.utf8.text) (lines c)
 
 pub returns-clause-spelled : goal.returns-clause-spelled
 returns-clause-spelled c = λ dictionary.
     let o = c.args.options.now in
     IfOk-weaker c.wrap_by.result _ _ (λ found.
-    AreTheText-at o.word_separator o.word_splitter (plain_algorithm o) c.utf8.text dictionary) (lines c)
+    AreTheText-at o.word_separator o.word_splitter (plain_algorithm o) c.utf8.text) (lines c)
 
 pub returns-clause-keeps : goal.returns-clause-keeps
 returns-clause-keeps c = λ dictionary first breaks.
     let o = c.args.options.now in
     IfOk-weaker c.wrap_by.result _ _ (λ found.
-    LinesKeepButHyphens-at o.word_separator c.utf8.text first o.word_splitter dictionary breaks)
+    LinesKeepButHyphens-at o.word_separator c.utf8.text first o.word_splitter breaks)
     (lines c)

@@ -241,6 +241,15 @@ const AT_6: TextwrapOptions<'_> = TextwrapOptions {
     ..DEFAULTS
 };
 
+/// First fit at 4 columns.
+const AT_4: TextwrapOptions<'_> = TextwrapOptions { width: 4, ..AT_11 };
+
+/// A word that is a link, with hyphens in its address and in what is shown.
+const LINK: &[u8] = b"a \x1b]8;;x-y\x1b\\b-c\x1b]8;;\x1b\\";
+
+/// Its lines at 4 columns, split behind the hyphen that is shown.
+const OUTSIDE: &[u8] = b"a \x1b]8;;x-y\x1b\\b-\nc\x1b]8;;\x1b\\__";
+
 /// A hyphen is written at a point of the patterns, and none behind a hyphen of the word.
 #[rattlefmt::skip]
 const FILLED: &[TextRow<'_>] = &[
@@ -262,6 +271,10 @@ const FILLED: &[TextRow<'_>] = &[
     ((TextCall::Fill(AT_11), b"the hy\xc2\xadphenation"), (DONE, 19, b"the hy\xc2\xadphen-\nation__")),
     ((TextCall::Fill(TextwrapOptions { dictionary: SOFT, ..AT_11 }), b"the hy\xc2\xadphenation"), (DONE, 19, b"the hy\xc2\xad-\nphenation__")),
     ((TextCall::Fill(TextwrapOptions { split_at_hyphens: 0, ..AT_11 }), b"the re-hyphenation"), (DONE, 19, b"the re-\nhyphenation__")),
+    // No line ends within the address of a link, unless any hyphen is a point.
+    ((TextCall::Fill(AT_4), LINK), (DONE, 23, OUTSIDE)),
+    ((TextCall::Fill(TextwrapOptions { split_at_hyphens: 2, dictionary: NO_DICTIONARY, ..AT_4 }), LINK), (DONE, 23, OUTSIDE)),
+    ((TextCall::Fill(TextwrapOptions { dictionary: NO_DICTIONARY, ..AT_4 }), LINK), (DONE, 23, b"a \x1b]8;;x-\ny\x1b\\b-c\x1b]8;;\x1b\\__")),
     // Without numbers there is no dictionary.
     ((TextCall::Fill(TextwrapOptions { dictionary: NO_NUMBERS, ..AT_11 }), b"the hyphenation"), (DONE, 15, b"the\nhyphenation__")),
     // A line of the least cost may do without a hyphen.

@@ -64,10 +64,17 @@ fn pieces_are_words_that_are_split_and_broken(rt: HostRuntime) {
 /// The line `foo-bar 日本`.
 const UNICODE: &[u8] = b"foo-bar \xe6\x97\xa5\xe6\x9c\xac";
 
+/// A link, with a hyphen in its address and one in what is shown.
+const LINK: &[u8] = b"\x1b]8;;x-y\x1b\\b-c\x1b]8;;\x1b\\";
+
 /// Words are split after hyphens, and lines cut at Unicode breaks.
 #[rattlefmt::skip]
 const OFFSETS: &[OffsetsRow] = &[
     (OffsetsCall::SplitPoints(b"can-be-split"), (DONE, 2), &[4, 7, NO_OFFSET]),
+    (OffsetsCall::SplitPoints(LINK), (DONE, 2), &[7, 12, NO_OFFSET]),
+    (OffsetsCall::SplitPointsOutside(LINK), (DONE, 1), &[12, NO_OFFSET]),
+    (OffsetsCall::SplitPointsOutside(b"can-be-split"), (TOO_SMALL, 2), &[4]),
+    (OffsetsCall::SplitPointsOutside(b"a-\xff"), (NOT_UTF8, BEFORE), &[NO_OFFSET]),
     (OffsetsCall::UnicodeCuts(UNICODE), (DONE, 2), &[8, 11, NO_OFFSET]),
     (OffsetsCall::UnicodeCuts(UNICODE), (TOO_SMALL, 2), &[8]),
     (OffsetsCall::UnicodeCuts(b"a \xff"), (NOT_UTF8, BEFORE), &[NO_OFFSET, NO_OFFSET, NO_OFFSET]),

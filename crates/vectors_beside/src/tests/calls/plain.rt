@@ -31,7 +31,7 @@ use textwrap_more_calls::hyphens::points::textwrap_hyphen_points;
 use textwrap_more_calls::justified_steps::textwrap_fill_justified_at;
 use textwrap_more_calls::pieces::{
     TextwrapPiece, textwrap_break_apart, textwrap_find_words_at, textwrap_pieces,
-    textwrap_split_points,
+    textwrap_split_points, textwrap_split_points_outside,
 };
 use textwrap_more_calls::steps::{
     TextwrapSteps, textwrap_ends_at, textwrap_lines_at, textwrap_pieces_at,
@@ -396,6 +396,7 @@ pub(super) fn write_pieces(
 #[derive(Clone, Copy)]
 pub(super) enum OffsetsCall<'a> {
     SplitPoints(&'a [u8]),
+    SplitPointsOutside(&'a [u8]),
     UnicodeCuts(&'a [u8]),
     HyphenPoints(&'a [u8], TextwrapDictionary<'a>),
     /// How many columns, and their width together.
@@ -416,6 +417,9 @@ pub(super) fn write_offsets(
 ) -> u32 {
     match call {
         OffsetsCall::SplitPoints(word) => textwrap_split_points(alloc, word, offsets, count),
+        OffsetsCall::SplitPointsOutside(word) => {
+            textwrap_split_points_outside(alloc, word, offsets, count)
+        }
         OffsetsCall::UnicodeCuts(line) => textwrap_unicode_cuts(alloc, line, offsets, count),
         OffsetsCall::HyphenPoints(word, dictionary) => {
             textwrap_hyphen_points(alloc, &dictionary, word, offsets, count)

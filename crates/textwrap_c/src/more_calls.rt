@@ -65,7 +65,10 @@ use textwrap_more_calls::paragraphs::{TextwrapParagraph, TextwrapWidths};
 use textwrap_more_calls::pieces::TextwrapPiece;
 use textwrap_more_calls::steps::TextwrapSteps;
 use textwrap_more_calls::tables::{TextwrapCell, TextwrapColumn};
-use textwrap_more_calls::{attributes, balancing, breaks, fitting, fragments, justified_steps, paragraphs, pieces, steps, tables, text_steps};
+use textwrap_more_calls::{
+    attributes, balancing, breaks, fitting, fragments, justified_steps, paragraphs, pieces, steps,
+    tables, text_steps,
+};
 
 /// Exports [`textwrap_more_calls::attributes::textwrap_carry_attributes`].
 #[unsafe(no_mangle)]

@@ -84,6 +84,7 @@ fn matches_need_no_other_arm_than_the_original_has_but_for_patterns() {
         WordSplitter::Custom(_) => "a function",
         #[cfg(feature = "hyphenation")]
         WordSplitter::Hyphenation(_) => "a dictionary",
+        WordSplitter::OutsideSequences => "outside sequences",
         WordSplitter::Patterns(_) => "patterns",
     };
     let algorithm = match WrapAlgorithm::FirstFit {

@@ -251,6 +251,25 @@ fn a_word_may_have_any_number_of_points() {
 }
 
 #[test]
+fn no_word_is_split_within_an_escape_sequence() {
+    let link = "a \x1b]8;;x-y\x1b\\b-c\x1b]8;;\x1b\\";
+    let at_blanks = Options::new(4)
+        .word_separator(WordSeparator::AsciiSpace)
+        .wrap_algorithm(WrapAlgorithm::FirstFit);
+    let by_a_function = at_blanks.clone().word_separator(WordSeparator::Custom(|line| {
+        WordSeparator::AsciiSpace.find_words(line)
+    }));
+    for options in [at_blanks, by_a_function] {
+        for splitter in [WordSplitter::OutsideSequences, whole()] {
+            let filled = fill(link, options.clone().word_splitter(splitter));
+            assert_eq!(filled, "a \x1b]8;;x-y\x1b\\b-\nc\x1b]8;;\x1b\\");
+        }
+        let filled = fill(link, options.word_splitter(WordSplitter::HyphenSplitter));
+        assert_eq!(filled, "a \x1b]8;;x-\ny\x1b\\b-c\x1b]8;;\x1b\\");
+    }
+}
+
+#[test]
 fn a_splitter_has_the_points_of_the_patterns_and_those_after_hyphens() {
     for (word, points, points_in_parts) in [
         ("hyphenation", &[2, 6][..], &[2, 6][..]),

@@ -4,7 +4,7 @@
 # proved and compiled with: rattle-kit-13f logic dac8208d650f15bf
 # proved for: aarch64-unknown-linux-gnu
 # crates: textwrap_text textwrap_base textwrap_words textwrap_layout textwrap_lines textwrap textwrap_unicode textwrap_styles textwrap_display textwrap_patterns textwrap_dictionaries textwrap_hyphens textwrap_marks textwrap_marked_lines textwrap_marked textwrap_plain textwrap_program text_files text_filters filter_programs fill
-# sum of their sources: ece477a50d567cf22e68f34cf5a29c6da70830feb0de4945a7cbbbdea47d971a
+# sum of their sources: 528331afe311f98581bc767c337f8b00c2782fdcf181b44c7da85aab287a6c8e
 # sum of the lines below: 14cc675bd09ee785775ce152a4a1b62aa299295c086bf6994bf74fe2f8cb2bd2
 	.section	".text.core::str::utf8::from_utf8","ax",@progbits
 	.p2align	2

@@ -4,7 +4,7 @@
 # proved and compiled with: rattle-kit-13f logic dac8208d650f15bf
 # proved for: x86_64-unknown-linux-gnu
 # crates: textwrap_text textwrap_base textwrap_words textwrap_layout textwrap_lines textwrap textwrap_unicode textwrap_styles textwrap_display textwrap_patterns textwrap_dictionaries textwrap_hyphens textwrap_marks textwrap_marked_lines textwrap_marked textwrap_plain textwrap_program text_files text_filters filter_programs fill
-# sum of their sources: ece477a50d567cf22e68f34cf5a29c6da70830feb0de4945a7cbbbdea47d971a
+# sum of their sources: 528331afe311f98581bc767c337f8b00c2782fdcf181b44c7da85aab287a6c8e
 # sum of the lines below: bf12f05c569af785389fff01b789ba4233cb325525095abe74336d84e32b1cd1
 	.section	.rodata.cst16,"aM",@progbits,16
 	.p2align	4, 0x0

@@ -549,6 +549,7 @@ extern "C" {
         points_len: usize,
         count: *mut usize,
     ) -> u32;
+
     pub fn textwrap_split_points_outside(
         word: *const u8,
         word_len: usize,

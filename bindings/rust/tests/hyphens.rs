@@ -267,6 +267,9 @@ fn no_word_is_split_within_an_escape_sequence() {
         let filled = fill(link, options.word_splitter(WordSplitter::HyphenSplitter));
         assert_eq!(filled, "a \x1b]8;;x-\ny\x1b\\b-c\x1b]8;;\x1b\\");
     }
+    let long = format!("\x1b]8;;x-y\x1b\\{}", "a-".repeat(10_000));
+    let points: Vec<usize> = (0..9_999).map(|k| 12 + 2 * k).collect();
+    assert_eq!(WordSplitter::OutsideSequences.split_points(&long), points);
 }
 
 #[test]

@@ -13,9 +13,9 @@ use crate::table::PatternTable;
 use std::alloc::{AllocError, Allocator};
 
 /// The offsets in bytes, in order, at which a word may be split: those of the dictionary, and those
-/// behind a hyphen between alphanumeric characters, within no escape sequence. With the patterns of `hy-phen-ation`,
-/// `hyphenation` has 2 and 6, and `re-hyphenation` has 3; where the parts of words are asked for, it
-/// has 3, 5 and 9.
+/// behind a hyphen between alphanumeric characters, within no escape sequence. With the patterns of
+/// `hy-phen-ation`, `hyphenation` has 2 and 6, and `re-hyphenation` has 3; where the parts of words are
+/// asked for, it has 3, 5 and 9.
 ///
 /// # Errors
 /// [`AllocError`] where memory runs out.

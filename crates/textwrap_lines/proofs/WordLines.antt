@@ -20,6 +20,7 @@ use Rattle.textwrap_words.specs.Cuts.{AreInnerCuts, AreLaterCuts}
 use Rattle.textwrap_layout.proofs.Paragraph.Covered.{covered-push}
 use Rattle.textwrap_layout.proofs.Paragraph.LeftOff.{parts_of-push}
 use Rattle.textwrap_lines.proofs.Common.{CutLine, cut_line, cut_lines, cut_lines-next}
+use Rattle.textwrap_layout.specs.Direct.{HasInnerPoints}
 use Rattle.textwrap_layout.specs.Layout.{front_of}
 use Rattle.textwrap_layout.specs.Paragraph.{assembled_line, broken_pieces_of, broken_split, empty_word}
 use Rattle.textwrap_layout.specs.Paragraph.{fitting_pieces, front_pieces, keeps_whitespace, room_of}
@@ -28,24 +29,24 @@ use Rattle.textwrap_lines.proofs.Common.{HasTaken, HasTaken-end, HasTaken-next, 
 use Rattle.textwrap_lines.proofs.Common.{AreCuts, break_limit, IsCharBoundary-start, IsMeasured, map}
 use Rattle.textwrap_lines.proofs.Common.{parts_from, Word, word_view}
 use Rattle.textwrap_layout.proofs.Paragraph.Room.{fitting-tile}
-use Rattle.textwrap_lines.specs.WordLines.{AreOn, GoesOnBehind, lines_onward, with_word}
+use Rattle.textwrap_lines.specs.WordLines.{after_line, AreOn, GoesOnBehind, lines_onward, with_word}
 use Rattle.textwrap_lines.specs.declared.word_lines.WordLine.{WordLine}
 
 -- ---- a line that ends with a piece
 
 -- behind what the pieces before it tile
-abbrev ended_line : Settings → Bool → List ℕ → WordText → Line
+abbrev pub ended_line : Settings → Bool → List ℕ → WordText → Line
 ended_line settings is_later front x =
     assembled_line (indent_of settings is_later)
     (cond (keeps_whitespace settings x) (front ++ tile_of x) (front ++ x.word)) x.penalty
 
-line-push : (settings : Settings) (is_later : Bool) (ws : List WordText) (x : WordText)
+pub line-push : (settings : Settings) (is_later : Bool) (ws : List WordText) (x : WordText)
     → line_from (parts_of settings is_later (ws ++ x ∷ []))
     ≡ ended_line settings is_later (tiled ws) x
 line-push settings is_later ws x =
     rw (parts_of-push settings is_later ws x, tiled-push ws x, covered-push ws x) refl
 
-pushed-some : (ws : List WordText) (x : WordText) → (length (ws ++ x ∷ []) == 0) ≡ false
+pub pushed-some : (ws : List WordText) (x : WordText) → (length (ws ++ x ∷ []) == 0) ≡ false
 pushed-some ws x = search (arith, length_push, add-one)
 
 -- one more piece
@@ -100,7 +101,7 @@ module _ (w : WordText) where
             ∙ sym (drop_split w.word start point (omega (arith, after)));
       }
 
-  cut_penalty-short : (point : ℕ) → length (cut_penalty w.word point) ≤ 1
+  pub cut_penalty-short : (point : ℕ) → length (cut_penalty w.word point) ≤ 1
   cut_penalty-short point =
       cond_both (ends_in_hyphen (take point w.word)) [] (45 ∷ []) (λ p. length p ≤ 1)
       (λ _. omega arith) (λ _. omega arith)
@@ -330,31 +331,30 @@ module _ {S : Type 0} (Holds : S → S → ℕ → List CutLine → Type 0) (set
       )
 
   -- one that has none, where the line is pushed
-  pub takes-full : (line : WordLine) (held : List WordText) (lines : S) (x : WordText)
-      (next : WordLine) (after : S) → 0 < length held
-      → line.width < line.columns + x.width + length x.penalty
-      → next.start ≡ line.start + length (tiled held) → next.width ≡ later
-      → next.is_later ≡ true → next.columns ≡ 0
+  pub takes-full : (line : WordLine) (held : List WordText) (lines : S) (x : WordText) (after : S)
+      → 0 < length held → line.width < line.columns + x.width + length x.penalty
       → Pushed Holds lines after
       (cut_lines line.start (parts_of settings line.is_later held ∷ []))
-      → GoesOnBehind Holds settings line held lines (x ∷ []) (with_word next x) (x ∷ []) after
-  takes-full line held lines x next after some over start width is_later columns pushed = λ pieces are.
+      → GoesOnBehind Holds settings line held lines (x ∷ [])
+      (with_word (after_line later line held) x) (x ∷ []) after
+  takes-full line held lines x after some over pushed = λ pieces are.
+      let next = after_line later line held in
       let many : 0 < length pieces = any held pieces are some in
       let past : line.width < closed_width sizes_of (pieces ++ x ∷ []) =
       omega (arith, over, are.columns, closed_width-push sizes_of pieces x) in
       let seam : next.start ≡ line.start + length (tiled pieces) =
-      start ∙ ap (λ t. line.start + length t) are.tiles in (
+      ap (λ t. line.start + length t) are.tiles in (
         x ∷ [],
-        are_on-push next [] [] x (record { columns = columns; tiles = refl; some = refl; same = λ _ _. refl }),
+        are_on-push next [] [] x (record { columns = refl; tiles = refl; some = refl; same = λ _ _. refl }),
         λ all first left has.
             let goes_on = subst (λ cuts. HasTaken Holds all first lines cuts)
             (ap (λ division. cut_lines line.start (parts_from settings line.is_later division))
             (grown-full sizes_of later line.width x left pieces many past)
             ∙ cut_lines-next settings line.is_later line.start next.start pieces
             (grown sizes_of later later left (x ∷ [])) seam) has in
-            rw (width, is_later) (HasTaken-next all first lines after _ _ goes_on
+            HasTaken-next all first lines after _ _ goes_on
             (subst (λ l. Pushed Holds lines after (cut_line line.start l ∷ []))
-            (are.same settings line.is_later) pushed)),
+            (are.same settings line.is_later) pushed),
       )
     where
       any : (held pieces : List WordText) → AreOn line held pieces → 0 < length held → 0 < length pieces
@@ -456,6 +456,20 @@ module _ {S : Type 0} (Holds : S → S → ℕ → List CutLine → Type 0) (set
                     (broken_split-append settings (split_pieces points w) split) has),
               );
         }
+
+    -- a word that has room as a whole
+    pub taken-whole : HasInnerPoints Points → (first : S) (line : WordLine) (held : List WordText)
+        (lines : S) (w : WordText) (left : List WordText) → IsPrintable w.word → IsMeasured w
+        → HasNoPenalty w → line.columns + w.width ≤ line.width
+        → (settings.break_words ≡ true → w.width ≤ later)
+        → AreTaken first line held lines (w ∷ left)
+        → AreTaken first (with_word line w) (held ++ w ∷ []) lines left
+    taken-whole have_points first line held lines w left printable measured plain room narrow so_far =
+        let (points, are, cuts) = have_points w.word measured.utf8 in
+        taken-next first line (with_word line w) held (held ++ w ∷ []) lines lines w left points are
+        so_far
+        (takes-word line held lines w points printable (measured.width ∙ printable-width w.word printable)
+        plain cuts room narrow)
 
     -- where none is left, and the line is pushed
     pub taken-end : (first : S) (line : WordLine) (held : List WordText) (lines last : S)

@@ -1,5 +1,5 @@
 -- Lines by first fit that are found word by word.
-use Rattle.std.specs.Prelude.{◌≡◌, ℕ, ◌+◌, ◌==◌, Bool, List, ◌++◌, length}
+use Rattle.std.specs.Prelude.{◌≡◌, ℕ, ◌+◌, ◌==◌, Bool, true, List, ◌++◌, length}
 use Rattle.textwrap_base.specs.Division.{open_width}
 use Rattle.textwrap_base.proofs.Division.Grown.{grown}
 use Rattle.textwrap_words.specs.Words.{WordText, sizes_of, tiled}
@@ -11,6 +11,15 @@ use Rattle.textwrap_lines.specs.declared.word_lines.WordLine.{WordLine}
 
 abbrev pub with_word : WordLine → WordText → WordLine
 with_word line w = record line { columns = line.columns + (w.width + length w.whitespace) }
+
+-- the line behind this one, before it takes a word
+abbrev pub after_line : ℕ → WordLine → List WordText → WordLine
+after_line width line held = record {
+  start = line.start + length (tiled held);
+  width = width;
+  is_later = true;
+  columns = 0;
+}
 
 -- a line holds words, and these are all their pieces
 pub record AreOn (line : WordLine) (held pieces : List WordText) : Type 0 where

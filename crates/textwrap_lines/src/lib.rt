@@ -19,6 +19,7 @@ pub mod parts;
 mod piece_lines;
 pub mod placed;
 mod printable;
+mod printable_words;
 mod spans;
 pub mod steps;
 mod word_lines;

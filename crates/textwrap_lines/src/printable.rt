@@ -111,7 +111,7 @@ fn line_end<C: PrintableCuts>(
 
 /// The last place after the start up to the end at which a printable text is cut, the start where
 /// there is none.
-fn last_cut<C: PrintableCuts>(
+pub(crate) fn last_cut<C: PrintableCuts>(
     text: &[u8],
     start: usize,
     end: usize,
@@ -136,7 +136,7 @@ fn last_cut<C: PrintableCuts>(
 }
 
 /// The first place from the start on at which a printable text is cut, its end where there is none.
-fn next_cut<C: PrintableCuts>(
+pub(crate) fn next_cut<C: PrintableCuts>(
     text: &[u8],
     start: usize,
     cuts: &C,

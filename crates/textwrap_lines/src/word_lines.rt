@@ -1,7 +1,7 @@
 //! Lines by first fit that are found word by word. A word is asked for its points only where it has no
 //! room as a whole: else no line ends in it.
 ghost use Rattle.std.specs.Prelude.{◌≡◌, ◌+◌, ◌^◌, ◌<◌, ◌≤◌, ℕ, List, [], ◌∷◌, ◌++◌, drop, length, map};
-ghost use Rattle.std.specs.Prelude.{◌↔◌, false, IfOk, IsCharBoundary, IsTrue, OnOk};
+ghost use Rattle.std.specs.Prelude.{◌↔◌, ◌≢◌, false, IfOk, IsCharBoundary, IsTrue, OnOk};
 ghost use Rattle.textwrap_text.specs.Units.{IsPrintable};
 ghost use Rattle.textwrap_words.specs.Words.{WordText, tiled, word_view};
 ghost use Rattle.textwrap_layout.specs.Direct.{HasInnerPoints, TakesWhatFits};
@@ -23,11 +23,11 @@ use textwrap_words::words::Word;
 #[derive(Clone, Copy)]
 pub(crate) struct WordLine {
     /// Where it begins in the paragraph.
-    start: usize,
+    pub(crate) start: usize,
     /// The columns that it is divided for.
     width: usize,
     /// Whether a line stands before it.
-    is_later: bool,
+    pub(crate) is_later: bool,
     /// The columns of its words and of all their whitespace.
     columns: u128,
 }
@@ -52,15 +52,15 @@ pub(crate) fn push_word_by_word<'t, A: Allocator + Copy, S: LineSink<'t, A>, P: 
         × Pushed S.holds lines.old lines.new (frame_lines frame.now division)) }
 {
     let words = find_words(alloc, paragraph, parts)?;
-    let mut line = WordLine {
-        start: 0,
-        width: frame.first_columns,
-        is_later: frame.is_later,
-        columns: 0,
-    };
+    let mut line = WordLine::first(frame);
     let mut held = words_in_front(alloc, frame)?;
     for word in &words {
-        line = line.take_word(alloc, paragraph, word, parts, frame, &mut held, lines)?;
+        if line.has_room(word, frame.limit) {
+            held.push(*word)?;
+            line = line.with(word);
+        } else {
+            line = line.take_word(alloc, paragraph, word, parts, frame, &mut held, lines)?;
+        }
     }
     push_line(
         alloc,
@@ -75,7 +75,7 @@ pub(crate) fn push_word_by_word<'t, A: Allocator + Copy, S: LineSink<'t, A>, P: 
 }
 
 /// What stands on a first line before its words: where that may be the indent alone, an empty word.
-fn words_in_front<'t, A: Allocator>(
+pub(crate) fn words_in_front<'t, A: Allocator>(
     alloc: A,
     frame: &Frame<'_>,
 ) -> Result<Vec<Word<'t>, A>, AllocError>
@@ -90,16 +90,46 @@ fn words_in_front<'t, A: Allocator>(
 
 impl WordLine {
     ghost use Rattle.textwrap_layout.specs.Paragraph.{broken_split};
-    ghost use Rattle.textwrap_lines.specs.WordLines.{AreOn, GoesOnBehind, with_word};
-    ghost use Rattle.textwrap_words.proofs.Word.Words.{HasNoPenalty, IsMeasured};
+    ghost use Rattle.textwrap_lines.specs.WordLines.{AreOn, GoesOnBehind, after_line, with_word};
+    ghost use Rattle.std.specs.Io.{StartsWith};
+    ghost use Rattle.textwrap_text.specs.Blanks.{blank};
+    ghost use Rattle.textwrap_layout.specs.Paragraph.{later_width, parts_of};
+    ghost use Rattle.textwrap_layout.specs.Places.{cut_lines};
+    ghost use Rattle.textwrap_words.proofs.Word.Words.{IsMeasured};
     ghost use Rattle.textwrap_words.specs.WordSplitters.{split_pieces};
 
-    /// Takes a word: whole where it has room so, and else its pieces, one after another. Returns the line
-    /// that is open behind it.
+    /// The first line of a paragraph, before it takes a word.
+    pub(crate) fn first(frame: &Frame<'_>) -> WordLine
+        ensures start { result.start ≡ 0 }
+        ensures width { result.width ≡ frame.now.first_columns }
+        ensures later { result.is_later ≡ frame.now.is_later }
+        ensures columns { result.columns ≡ 0 }
+    {
+        WordLine {
+            start: 0,
+            width: frame.first_columns,
+            is_later: frame.is_later,
+            columns: 0,
+        }
+    }
+
+    /// The columns that words may take on it, no more than the limit.
+    pub(crate) fn room(&self, limit: usize) -> usize
+        ensures limit { result ≤ limit }
+        ensures fits { 0 < result → self.now.columns + result ≤ self.now.width }
+        ensures small { 0 < result → self.now.columns < 2 ^ 64 }
+    {
+        if self.columns >= self.width as u128 {
+            return 0;
+        }
+        limit.min(self.width - self.columns as usize)
+    }
+
+    /// Takes a word by its pieces, one after another. Returns the line that is open behind it.
     ///
     /// # Errors
     /// [`AllocError`] where memory runs out, or a function of the caller says so.
-    fn take_word<'t, A: Allocator + Copy, S: LineSink<'t, A>, P: Parts<A>>(
+    pub(crate) fn take_word<'t, A: Allocator + Copy, S: LineSink<'t, A>, P: Parts<A>>(
         self,
         alloc: A,
         paragraph: &'t str,
@@ -109,9 +139,7 @@ impl WordLine {
         held: &mut Vec<Word<'t>, A>,
         lines: &mut S,
     ) -> Result<WordLine, AllocError>
-        requires points { HasInnerPoints (P.may parts.now).Points }
         requires word { IsMeasured (word_view word.now) }
-        requires plain { HasNoPenalty (word_view word.now) }
         requires small { self.columns < 2 ^ 66 }
         requires on { (on : List WordText) × AreOn self (map word_view held.old.items) on }
         requires begins { IsCharBoundary paragraph.now self.start }
@@ -129,10 +157,6 @@ impl WordLine {
             lines.old (broken_split (frame_settings frame.now) (split_pieces points (word_view word.now)))
             next (map word_view held.new.items) lines.new) }
     {
-        if self.has_room(word, frame.limit) {
-            held.push(*word)?;
-            return Ok(self.with(word));
-        }
         let pieces = pieces_of_word(alloc, *word, parts, frame)?;
         self.take_pieces(alloc, paragraph, &pieces, frame, held, lines)
     }
@@ -201,28 +225,66 @@ impl WordLine {
             next (map word_view held.new.items) lines.new) }
     {
         if !held.is_empty() && self.is_past(piece) {
-            let layout = &frame.layout;
-            let end = push_line(
-                alloc,
-                paragraph,
-                self.start,
-                held,
-                layout,
-                self.is_later,
-                lines,
-            )?;
-            held.clear();
+            let next = self.close(alloc, paragraph, frame, held, lines)?;
             held.push(*piece)?;
-            let next = WordLine {
-                start: end,
-                width: frame.later_columns,
-                is_later: true,
-                columns: 0,
-            };
             return Ok(next.with(piece));
         }
         held.push(*piece)?;
         Ok(self.with(piece))
+    }
+
+    /// Pushes the line, and returns the next one, which has no word yet.
+    ///
+    /// # Errors
+    /// [`AllocError`] where memory runs out.
+    pub(crate) fn close<'t, A: Allocator + Copy, S: LineSink<'t, A>>(
+        self,
+        alloc: A,
+        paragraph: &'t str,
+        frame: &Frame<'_>,
+        held: &mut Vec<Word<'t>, A>,
+        lines: &mut S,
+    ) -> Result<WordLine, AllocError>
+        requires begins { IsCharBoundary paragraph.now self.start }
+        requires tiles { StartsWith (drop self.start paragraph.now) (tiled (map word_view held.old.items)) }
+        ensures name { S.name lines.new ≡ S.name lines.old }
+        ensures emptied { IfOk result (λ next. held.new.items ≡ []) }
+        ensures next { IfOk result (λ next. next ≡ after_line (later_width (frame_settings frame.now))
+            self (map word_view held.old.items)) }
+        ensures begins { IfOk result (λ next. IsCharBoundary paragraph.now next.start) }
+        ensures pushed { OnOk result (Pushed S.holds lines.old lines.new (cut_lines self.start
+            (parts_of (frame_settings frame.now) self.is_later (map word_view held.old.items) ∷ []))) }
+    {
+        let start = push_line(
+            alloc,
+            paragraph,
+            self.start,
+            held,
+            &frame.layout,
+            self.is_later,
+            lines,
+        )?;
+        held.clear();
+        Ok(WordLine {
+            start,
+            width: frame.later_columns,
+            is_later: true,
+            columns: 0,
+        })
+    }
+
+    /// Whether the next word is known to begin another line: where that word takes columns, of which
+    /// this line has none left.
+    pub(crate) fn ends_before(&self, next: u8, held: &[Word<'_>], frame: &Frame<'_>) -> bool
+        ensures word { IsTrue result → next ≢ blank }
+        ensures full { IsTrue result → self.now.width ≤ self.now.columns }
+        ensures some { IsTrue result → 0 < length held.now }
+        ensures room { IsTrue result → 1 < frame.now.later_columns }
+    {
+        next != b' '
+            && self.columns >= self.width as u128
+            && !held.is_empty()
+            && frame.later_columns > 1
     }
 
     /// Whether the line has no room for a piece.
@@ -250,7 +312,7 @@ impl WordLine {
     }
 
     /// The line with one more piece.
-    fn with(self, piece: &Word<'_>) -> WordLine
+    pub(crate) fn with(self, piece: &Word<'_>) -> WordLine
         requires { self.columns < 2 ^ 64 }
         ensures more { result ≡ with_word self (word_view piece.now) }
         ensures small { result.columns < 2 ^ 66 }

@@ -31,7 +31,7 @@ ghost use Rattle.textwrap_base.specs.Errors.{OnlyMemoryRunsOut};
 
 use crate::first_fit::push_by_first_fit;
 use crate::least_cost::{push_by_least_cost, suits_search};
-use crate::word_lines::push_word_by_word;
+use crate::printable_words::push_with_points;
 use std::alloc::{AllocError, Allocator};
 use std::borrow::CowStr;
 use textwrap_layout::frame::Frame;
@@ -242,7 +242,7 @@ fn push_paragraph<'t, A: Allocator + Copy, S: LineSink<'t, A>, P: Parts<A>>(
 /// |---|---|---|---|
 /// | built in | first fit | any | [`push_by_first_fit`], which has its own table |
 /// | built in | least cost | not empty, no number too great | [`push_by_least_cost`] |
-/// | with a dictionary | first fit | any | [`push_word_by_word`] |
+/// | with a dictionary | first fit | any | [`push_with_points`] |
 /// | any | any | any | [`push_divided`]: by lists of its words and pieces |
 ///
 /// # Errors
@@ -271,7 +271,7 @@ fn push_pieces<'t, A: Allocator + Copy, S: LineSink<'t, A>, P: Parts<A>>(
 {
     let Some(methods) = built_in else {
         if parts.takes_what_fits() && parts.has_points() {
-            return Ok(push_word_by_word(alloc, paragraph, parts, frame, lines)?);
+            return Ok(push_with_points(alloc, paragraph, parts, frame, lines)?);
         }
         return push_divided(alloc, paragraph, parts, frame, lines);
     };

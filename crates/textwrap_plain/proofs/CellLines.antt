@@ -29,8 +29,7 @@ use Rattle.textwrap_plain.specs.{CutSides.points_by-cuts, Laws.{CellsKeepToColum
 use Rattle.textwrap_plain.specs.{Laws.{MayKeepToColumn, hyphen_columns}, Options.is_dictionary}
 use Rattle.textwrap_plain.specs.Options.{points_by}
 use Rattle.textwrap_layout.specs.{Direct.as_algorithm, Options.layout_view}
-use Rattle.textwrap_plain.proofs.Named.{PlainColumn}
-use Rattle.textwrap_plain.specs.{Options.words_by, Tables.{PlainMakes, plain_parts, plain_shape}}
+use Rattle.textwrap_plain.specs.{Options.words_by, Tables.{PlainColumn, PlainMakes, plain_parts, plain_shape}}
 use Rattle.textwrap_plain.specs.declared.options.PlainSplitter.{PlainSplitter}
 use Rattle.textwrap_styles.proofs.SequenceTexts.{nil-whole, whole_text-append}
 use Rattle.textwrap_text.proofs.Common.{All-map, zip, sum_by, filter, nat_tests, sum_by-cons}

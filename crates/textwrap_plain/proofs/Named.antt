@@ -3,10 +3,9 @@ use Rattle.textwrap.proofs.Common.{Settings, Bool, List, [], map, refl, ℕ, ◌
 use Rattle.textwrap.proofs.Common.{Algorithm, WordText}
 use Rattle.textwrap_display.proofs.TableGroups.{MakeThose, table-map}
 use Rattle.textwrap_display.specs.Tables.{ColumnMakes, IsTableBy, RowGaps, shape_of}
-use Rattle.textwrap_display.specs.declared.tables.Column.{Column}
 use Rattle.textwrap_layout.specs.{Direct.as_algorithm, Paragraph.Relations}
 use Rattle.textwrap_plain.specs.Options.{DividesFrom, points_by, words_by}
-use Rattle.textwrap_plain.specs.Tables.{IsPlainTable, PlainMakes, plain_parts, plain_shape}
+use Rattle.textwrap_plain.specs.Tables.{IsPlainTable, PlainColumn, PlainMakes, plain_parts, plain_shape}
 use Rattle.textwrap_plain.specs.declared.parts.PlainParts.{PlainParts}
 use Rattle.textwrap_plain.specs.declared.printable.PlainWords.{PlainWords}
 use Rattle.textwrap_words.specs.{Words.sizes_of, WrapAlgorithms.IsDividedBy}
@@ -18,9 +17,6 @@ pub named : (P : Settings → (Settings → Bool → List ℕ → List (List Wor
 named P settings words points algorithm is = rw (settings, words, points, algorithm) at is
 
 -- ---- what a table of columns without functions shows
-
-abbrev pub PlainColumn : Type 0
-PlainColumn = Column (PlainParts PlainWords)
 
 -- what the parts of such a column may find
 abbrev may_find : PlainParts PlainWords → Relations

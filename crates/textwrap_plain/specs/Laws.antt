@@ -14,10 +14,7 @@ use Rattle.textwrap_layout.specs.declared.options.Options.{Options}
 use Rattle.textwrap_plain.specs.Hyphenated.{AddOnlyHyphens, DividesAtPoints, AreTheText}
 use Rattle.textwrap_plain.specs.Hyphenated.{DividesHyphenatedUnder, HasPartsBeside, LinesKeepButHyphens}
 use Rattle.textwrap_plain.specs.Options.{is_dictionary, DividesPlainly, plain_algorithm, plain_settings}
-use Rattle.textwrap_plain.specs.Tables.{PlainMakes, plain_parts, plain_shape}
-use Rattle.textwrap_display.specs.declared.tables.Column.{Column}
-use Rattle.textwrap_plain.specs.declared.parts.PlainParts.{PlainParts}
-use Rattle.textwrap_plain.specs.declared.printable.PlainWords.{PlainWords}
+use Rattle.textwrap_plain.specs.Tables.{PlainColumn, PlainMakes, plain_parts, plain_shape}
 use Rattle.textwrap_plain.specs.declared.options.PlainOptions.{PlainOptions}
 use Rattle.textwrap_plain.specs.declared.options.PlainSeparator.TheVariants.{AtBlanks}
 use Rattle.textwrap_plain.specs.declared.options.PlainSplitter.{PlainSplitter}
@@ -123,7 +120,7 @@ hyphen_columns splitter = if is_dictionary splitter then 1 else 0
 
 -- a text without escape sequences, in a column that may keep to its width, has room for each of the
 -- text's characters, with a hyphen where a dictionary splits words, and breaks words by first fit
-pub record MayKeepToColumn (column : Column (PlainParts PlainWords)) (text : List ℕ) : Type 0 where
+pub record MayKeepToColumn (column : PlainColumn) (text : List ℕ) : Type 0 where
   pub first_fit : as_algorithm column.parts.algorithm ≡ ByFirstFit
   pub hyphens : column.layout.room_for_hyphens ≡ is_dictionary column.parts.splitter
   pub utf8 : IsUtf8 text
@@ -137,7 +134,7 @@ pub record MayKeepToColumn (column : Column (PlainParts PlainWords)) (text : Lis
 -- the lines of such texts keep to their columns
 abbrev pub CellsKeepToColumns : Type 0
 CellsKeepToColumns =
-    (columns : List (Column (PlainParts PlainWords))) (texts : List (List ℕ))
+    (columns : List PlainColumn) (texts : List (List ℕ))
     (cells : List (List (List ℕ))) → All (λ p. MayKeepToColumn p.0 p.1) (zip columns texts)
     → AreCells PlainMakes (map plain_parts columns) texts cells
     → KeepToColumns (map plain_shape (map plain_parts columns)) cells

@@ -10,6 +10,10 @@ use Rattle.textwrap_plain.specs.Options.{DividesFrom, points_by, words_by}
 use Rattle.textwrap_plain.specs.declared.parts.PlainParts.{PlainParts}
 use Rattle.textwrap_plain.specs.declared.printable.PlainWords.{PlainWords}
 
+-- a column whose parts hold no function
+abbrev pub PlainColumn : Type 0
+PlainColumn = Column (PlainParts PlainWords)
+
 -- how a column wraps its texts, and where their lines stand in it
 pub record PlainColumnParts : Type 0 where
   pub words : List ℕ → List WordText
@@ -18,7 +22,7 @@ pub record PlainColumnParts : Type 0 where
   pub algorithm : Algorithm
   pub alignment : Alignment
 
-abbrev pub plain_parts : Column (PlainParts PlainWords) → PlainColumnParts
+abbrev pub plain_parts : PlainColumn → PlainColumnParts
 plain_parts c = record {
   words = words_by c.parts.words.separator;
   settings = layout_view c.layout;

@@ -30,9 +30,9 @@ pub enum PlainSplitter<'a> {
     OutsideSequences,
     /// Where this dictionary has hyphens, and behind hyphens of their own as `OutsideSequences` says. A
     /// hyphen is printed where a line ends at a point of the dictionary, and is counted as a part of the
-    /// line; by least cost such a line costs the hyphen penalty. Behind a hyphen of the word none is added.
-    /// The parts of such a word are hyphenated only if the dictionary is asked for them. Where words are broken, a part of
-    /// a word that fits the line but for its hyphen is broken, too.
+    /// line; by least cost such a line costs the hyphen penalty. Behind a hyphen of the word none is
+    /// added. The parts of such a word are hyphenated only if the dictionary is asked for them. Where
+    /// words are broken, a part of a word that fits the line but for its hyphen is broken, too.
     Dictionary(PatternTable<'a>),
 }
 

@@ -47,16 +47,16 @@ pub fn wrap<'t>(
         → CanKeepToWidth (plain_settings options.now) text.now → IfOk result (λ lines. ArePrintedWithin
         (plain_settings options.now) (DividesPlainly options.now (plain_settings options.now)) text.now
         (map line_view lines.items)) }
-    // By a splitter beside the port nothing is printed behind a line, or a hyphen of the dictionary.
-    ensures hyphens { plain_splitter options.now ≡ None → IfOk result (λ lines. AddOnlyHyphens
+    // Nothing is printed behind a line but a hyphen of the dictionary.
+    ensures hyphens { IfOk result (λ lines. AddOnlyHyphens
         (plain_settings options.now) (DividesPlainly options.now (plain_settings options.now)) text.now
         (map line_view lines.items)) }
     // Indents, hyphens and blanks at line ends apart, the lines are the text.
-    ensures spelled { plain_splitter options.now ≡ None → IfOk result (λ lines. AreTheText
+    ensures spelled { IfOk result (λ lines. AreTheText
         (plain_settings options.now) text.now (map line_view lines.items)) }
     // And by first fit, where words are broken, a line passes its width only where it is one piece, by
     // its hyphen or as one character that takes columns.
-    ensures keeps { plain_splitter options.now ≡ None → plain_algorithm options.now ≡ ByFirstFit
+    ensures keeps { plain_algorithm options.now ≡ ByFirstFit
         → options.now.layout.break_words ≡ true → IfOk result (λ lines. LinesKeepButHyphens
         (plain_settings options.now) (DividesPlainly options.now (plain_settings options.now)) text.now
         (map line_view lines.items)) }

@@ -79,7 +79,7 @@ exact-words (w ∷ ws) measured none printable =
     }) (exact-words ws (All-tail IsMeasured w ws measured) (All-tail HasNoPenalty w ws none)
     (all-right IsPrintableByte (tile_of w) (tiled ws) printable))
 
-closed-exact : (ws : List WordText) → All IsExact ws
+pub closed-exact : (ws : List WordText) → All IsExact ws
     → closed_width sizes_of ws ≡ length (covered ws)
 closed-exact [] all = refl
 closed-exact (w ∷ []) all =

@@ -62,7 +62,7 @@ wide-first limit n vs wide w ws is = search (rules, arith)
 
 module _ (test : ℕ → Bool) (limit width : ℕ) (text : List ℕ) (printable : IsPrintable text)
     (before : BeforeOthers test text) where
-  others-front : (n : ℕ) → BeforeOthers test (take n text)
+  pub others-front : (n : ℕ) → BeforeOthers test (take n text)
   others-front n k some inside is = search (rules, arith, length-take, get_or-take)
 
   -- a line up to a place where the text is cut, or ends

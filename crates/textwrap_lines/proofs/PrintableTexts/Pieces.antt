@@ -115,7 +115,7 @@ printable-slice text i j printable = search (rules, arith, All-take, All-drop)
 -- ---- the pieces that a printable text begins with
 
 -- a slice goes past a byte that is no blank
-past-byte : (text : List ℕ) (at place end : ℕ) → at ≤ place → place < end → end ≤ length text
+pub past-byte : (text : List ℕ) (at place end : ℕ) → at ≤ place → place < end → end ≤ length text
     → is_blank (get_or text place 0) ≡ false → place - at < trimmed_len (slice_range text at end)
 past-byte text at place end from before within other =
     let k = place - at in

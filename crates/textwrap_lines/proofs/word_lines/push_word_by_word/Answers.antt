@@ -1,4 +1,8 @@
 use Rattle.textwrap_lines.proofs.word_lines.push_word_by_word.Goals as goal
+use Rattle.textwrap_lines.proofs.word_lines.push_word_by_word.Goals.{else-has_room+in_ok-line, then-has_room+in_ok-push}
+use Rattle.textwrap_lines.proofs.Common.{get_or, List, tiled-append, Word, ℕ, ◌∷◌}
+use Rattle.textwrap_lines.proofs.WordLines.{limit-later, taken-whole}
+use Rattle.textwrap_text.proofs.Common.{map_push}
 use Rattle.textwrap_base.proofs.Division.Grown.{grown, grown-greedy}
 use Rattle.textwrap_layout.proofs.Paragraph.Widths.{later_is}
 use Rattle.textwrap_layout.specs.Paragraph.{broken_split}
@@ -19,16 +23,18 @@ loop-word-init g c =
     let (cuts, can, words_are, is) = c.in_ok-words.ensures in
     let texts = subst (AreTexts text) (sym (ap (map word_view) c.deref-word-items.ensures.value ∙ is))
     (words_cut-texts cuts text c.utf8.paragraph can) in
+    let start = c.first-line.ensures in
     let front = c.in_ok-held.ensures in record {
-      small = omega arith;
-      begins = IsCharBoundary-start text c.utf8.paragraph;
-      seam = sym (append-nil (tiled (map word_view c.in_ok-held.held.items)
+      small = rw start.columns (omega arith);
+      begins = rw start.start (IsCharBoundary-start text c.utf8.paragraph);
+      seam = rw start.start (sym (append-nil (tiled (map word_view c.in_ok-held.held.items)
           ++ tiled (map word_view words)) ∙ ap (λ t. t ++ tiled (map word_view words))
-          (ap tiled front ∙ front-tile settings) ∙ texts.tile);
+          (ap tiled front ∙ front-tile settings) ∙ texts.tile));
       taken = taken-start g.S.LineSink.holds settings (g.P.Parts.may c.args.parts.now).Points
           (map word_view words) (first_width settings c.args.frame.now.is_later)
-          c.args.frame.now.is_later c.args.lines.now _ (map word_view c.in_ok-held.held.items) refl
-          c.args.frame.now.first refl refl front;
+          c.args.frame.now.is_later c.args.lines.now c.first-line.result
+          (map word_view c.in_ok-held.held.items) start.start (start.width ∙ c.args.frame.now.first)
+          start.later start.columns front;
       name = refl;
     }
 
@@ -43,24 +49,18 @@ take_word-requires g c = λ k.
     let taken = c.loop-word.invariant.taken in (
       (refl, tt),
       (
-        c.requires.points,
+        at-word IsMeasured words i _ c.loop-word-test.true texts.measured,
         (
-          at-word IsMeasured words i _ c.loop-word-test.true texts.measured,
+          c.loop-word.invariant.small,
           (
-            at-word HasNoPenalty words i _ c.loop-word-test.true texts.plain,
+            (taken.on, taken.are),
             (
-              c.loop-word.invariant.small,
+              c.loop-word.invariant.begins,
               (
-                (taken.on, taken.are),
-                (
-                  c.loop-word.invariant.begins,
-                  (
-                    tiled (map word_view (drop (i + 1) words)) ++ [],
-                    standing text c.loop-word.line.start
-                        (tiled (map word_view c.loop-word.held.items)) words i _ []
-                        c.loop-word-test.true c.loop-word.invariant.seam,
-                  ),
-                ),
+                tiled (map word_view (drop (i + 1) words)) ++ [],
+                standing text c.loop-word.line.start
+                    (tiled (map word_view c.loop-word.held.items)) words i _ []
+                    c.loop-word-test.true c.loop-word.invariant.seam,
               ),
             ),
           ),
@@ -68,31 +68,66 @@ take_word-requires g c = λ k.
       ),
     )
 
+-- the word at a place
+abbrev item : List Word → ℕ → Word
+item words i = get_or words i (record {
+  word = record { ref_ptr = (0, 0); now = [] };
+  whitespace = record { ref_ptr = (0, 0); now = [] };
+  penalty = record { ref_ptr = (0, 0); now = [] };
+  width = 0;
+})
+
 pub loop-word-preserved : goal.loop-word-preserved
 loop-word-preserved g c =
-    let settings = frame_settings c.args.frame.now in
+    let frame = c.args.frame.now in
+    let settings = frame_settings frame in
     let text = c.args.paragraph.now in
     let words = c.deref-word-items.result.now in
     let i = c.loop-word.word-index in
-    let others = tiled (map word_view (drop (i + 1) words)) in
-    let held = map word_view c.take_word.new.held.items in
-    let (points, are, goes) = c.in_ok-line.ensures.lines in record {
-      small = c.in_ok-line.ensures.small;
-      begins = c.in_ok-line.ensures.begins;
-      seam = c.in_ok-line.ensures.seam (others ++ []) (standing text c.loop-word.line.start
-          (tiled (map word_view c.loop-word.held.items)) words i _ [] c.loop-word-test.true
-          c.loop-word.invariant.seam) ∙ sym (append_assoc (tiled held) others []);
-      taken = taken-next g.S.LineSink.holds settings (g.P.Parts.may c.args.parts.now).Points
-          (map word_view words) (first_width settings c.args.frame.now.is_later)
-          c.args.frame.now.is_later c.args.lines.now c.loop-word.line c.in_ok-line.line
-          (map word_view c.loop-word.held.items) held c.loop-word.lines c.take_word.new.lines _
-          (map word_view (drop (i + 1) words)) points are
-          (taken-left g.S.LineSink.holds settings (g.P.Parts.may c.args.parts.now).Points
-          (map word_view words) (first_width settings c.args.frame.now.is_later)
-          c.args.frame.now.is_later (ap (map word_view) (drop_more words i _ c.loop-word-test.true))
-          c.loop-word.invariant.taken) goes;
-      name = c.take_word.ensures.name ∙ c.loop-word.invariant.name;
-    }
+    let w = word_view (item words i) in
+    let left = map word_view (drop (i + 1) words) in
+    let before = map word_view c.loop-word.held.items in
+    let inv = c.loop-word.invariant in
+    let seam = standing text c.loop-word.line.start (tiled before) words i _ [] c.loop-word-test.true
+    inv.seam in
+    let so_far = taken-left g.S.LineSink.holds settings (g.P.Parts.may c.args.parts.now).Points
+    (map word_view words) (first_width settings frame.is_later) frame.is_later
+    (ap (map word_view) (drop_more words i _ c.loop-word-test.true)) inv.taken in
+    elim c.if-has_room.branch [
+      | then-has_room+in_ok-push r ↦
+          let (cuts, can, words_are, is) = c.in_ok-words.ensures in
+          let texts = subst (AreTexts text) (sym (ap (map word_view) c.deref-word-items.ensures.value ∙ is))
+          (words_cut-texts cuts text c.utf8.paragraph can) in
+          let fits = c.has_room.ensures in
+          let room = r.if-has_room.true in
+          rw (r.line-is, r.held-is, r.lines-is, r.with-line.ensures.more, r.in_ok-push.ensures.items, map_push) (record {
+            small = rw r.with-line.ensures.more at r.with-line.ensures.small;
+            begins = inv.begins;
+            seam = seam ∙ ap (λ t. t ++ (tiled left ++ [])) (sym (tiled-append before (w ∷ [])))
+                ∙ sym (append_assoc (tiled (before ++ w ∷ [])) (tiled left) []);
+            taken = taken-whole g.S.LineSink.holds settings (g.P.Parts.may c.args.parts.now).Points
+                (map word_view words) (first_width settings frame.is_later) frame.is_later
+                c.requires.points c.args.lines.now c.loop-word.line before c.loop-word.lines w left
+                (fits.printable room) (at-word IsMeasured words i _ c.loop-word-test.true texts.measured)
+                (at-word HasNoPenalty words i _ c.loop-word-test.true texts.plain) (fits.fits room)
+                (limit-later settings frame.limit w.width frame.limited (fits.narrow room)) so_far;
+            name = inv.name;
+          })
+      | else-has_room+in_ok-line r ↦
+          let held = map word_view r.take_word.new.held.items in
+          let (points, are, goes) = r.in_ok-line.ensures.lines in
+          rw (r.line-is, r.held-is, r.lines-is) (record {
+            small = r.in_ok-line.ensures.small;
+            begins = r.in_ok-line.ensures.begins;
+            seam = r.in_ok-line.ensures.seam (tiled left ++ []) seam
+                ∙ sym (append_assoc (tiled held) (tiled left) []);
+            taken = taken-next g.S.LineSink.holds settings (g.P.Parts.may c.args.parts.now).Points
+                (map word_view words) (first_width settings frame.is_later) frame.is_later
+                c.args.lines.now c.loop-word.line r.in_ok-line.line before held c.loop-word.lines
+                r.take_word.new.lines w left points are so_far goes;
+            name = r.take_word.ensures.name ∙ inv.name;
+          })
+    ]
 
 pub push_line-requires : goal.push_line-requires
 push_line-requires g c = λ k.

@@ -41,19 +41,19 @@ returns-clause-printed c = λ room first can.
     (lines c)
 
 pub returns-clause-hyphens : goal.returns-clause-hyphens
-returns-clause-hyphens c = λ dictionary.
+returns-clause-hyphens c =
     let o = c.args.options.now in
     IfOk-weaker c.wrap_by.result _ _ (λ found.
     AddOnlyHyphens-at o.word_separator o.word_splitter (plain_algorithm o) c.utf8.text) (lines c)
 
 pub returns-clause-spelled : goal.returns-clause-spelled
-returns-clause-spelled c = λ dictionary.
+returns-clause-spelled c =
     let o = c.args.options.now in
     IfOk-weaker c.wrap_by.result _ _ (λ found.
     AreTheText-at o.word_separator o.word_splitter (plain_algorithm o) c.utf8.text) (lines c)
 
 pub returns-clause-keeps : goal.returns-clause-keeps
-returns-clause-keeps c = λ dictionary first breaks.
+returns-clause-keeps c = λ first breaks.
     let o = c.args.options.now in
     IfOk-weaker c.wrap_by.result _ _ (λ found.
     LinesKeepButHyphens-at o.word_separator c.utf8.text first o.word_splitter breaks)

@@ -3,7 +3,7 @@ use Rattle.textwrap_lines.proofs.word_lines.WordLine.take_piece.Goals.{else-not-
 use Rattle.textwrap_lines.proofs.word_lines.WordLine.take_piece.Goals.{else-not-is_empty-via-then-not-is_empty+else-is_past}
 use Rattle.textwrap_lines.proofs.Common.{[], ap, append_assoc, arith, drop, drop-drop, drop_at}
 use Rattle.textwrap_lines.proofs.Common.{frame_settings, length, length-map, map, refl, sym, tiled}
-use Rattle.textwrap_lines.proofs.Common.{word_view, true, ◌++◌, ◌+◌, ◌∙◌, ◌≡◌}
+use Rattle.textwrap_lines.proofs.Common.{word_view, ◌++◌, ◌∙◌}
 use Rattle.textwrap_lines.proofs.Common.{tile_of}
 use Rattle.textwrap_lines.proofs.WordLines.{columns-none, takes-full, takes-room}
 use Rattle.textwrap_text.proofs.Common.{eqb-false, eqb-true, map_push}
@@ -22,27 +22,20 @@ with-requires-2 g c = elim c.else-not-is_empty.branch [
 pub returns-then-is_past-clause-seam : goal.returns-then-is_past-clause-seam
 returns-then-is_past-clause-seam g c = λ rest seam.
     let held = tiled (map word_view c.args.held.now.items) in
-    let end : c.in_ok-end.end ≡ c.args.self.start + length held =
-    c.in_ok-end.ensures.end
-    ∙ ap (λ ws. c.args.self.start + length (tiled (map word_view ws))) c.deref.ensures.value in
     let begins = sym (drop-drop (length held) c.args.self.start c.args.paragraph.now)
     ∙ ap (drop (length held)) (seam ∙ append_assoc held (tile_of (word_view c.args.piece.now) ++ []) rest)
     ∙ drop_at held ((tile_of (word_view c.args.piece.now) ++ []) ++ rest) (length held) refl in
-    rw (c.with.ensures.more, end, c.in_ok-push.ensures.items, c.clear.ensures.items) begins
+    rw (c.with.ensures.more, c.in_ok-next.ensures.next, c.in_ok-push.ensures.items, c.in_ok-next.ensures.emptied) begins
 
 pub returns-then-is_past-clause-lines : goal.returns-then-is_past-clause-lines
 returns-then-is_past-clause-lines g c =
-    let frame = c.args.frame.now in
+    let settings = frame_settings c.args.frame.now in
     let held = c.args.held.now.items in
-    let end : c.in_ok-end.end ≡ c.args.self.start + length (tiled (map word_view held)) =
-    c.in_ok-end.ensures.end
-    ∙ ap (λ ws. c.args.self.start + length (tiled (map word_view ws))) c.deref.ensures.value in
-    rw (c.with.ensures.more, c.in_ok-push.ensures.items, c.clear.ensures.items)
-    (takes-full g.S.LineSink.holds (frame_settings frame) c.args.self (map word_view held)
-    c.args.lines.now (word_view c.args.piece.now)
-    (record { start = c.in_ok-end.end; width = frame.later_columns; is_later = true; columns = 0 })
-    c.push_line.new.lines (omega (arith, c.args.held.now.ok, length-map held word_view, eqb-false c.args.held.now.len 0 (sym c.if-not-is_empty.ensures))) (c.is_past.ensures.past.0 c.if-is_past.true) end frame.later refl refl
-    (rw c.deref.ensures.value at c.in_ok-end.ensures.line))
+    rw (c.with.ensures.more, c.in_ok-next.ensures.next, c.in_ok-push.ensures.items, c.in_ok-next.ensures.emptied)
+    (takes-full g.S.LineSink.holds settings c.args.self (map word_view held) c.args.lines.now
+    (word_view c.args.piece.now) c.close.new.lines
+    (omega (arith, c.args.held.now.ok, length-map held word_view, eqb-false c.args.held.now.len 0 (sym c.if-not-is_empty.ensures)))
+    (c.is_past.ensures.past.0 c.if-is_past.true) c.in_ok-next.ensures.pushed)
 
 pub returns-clause-lines : goal.returns-clause-lines
 returns-clause-lines g c =

@@ -1,30 +1,12 @@
 use Rattle.textwrap_lines.proofs.word_lines.WordLine.take_word.Goals as goal
 use Rattle.textwrap_lines.proofs.Common.{[], ap, append-nil, frame_settings, map, refl}
-use Rattle.textwrap_lines.proofs.Common.{printable-width, subst, sym, tile_of, tiled, word_view, ◌++◌, ◌∙◌, ◌≡◌}
-use Rattle.textwrap_lines.proofs.WordLines.{broken-tile, limit-later, takes-word}
+use Rattle.textwrap_lines.proofs.Common.{subst, sym, tile_of, tiled, word_view, ◌++◌, ◌∙◌, ◌≡◌}
+use Rattle.textwrap_lines.proofs.WordLines.{broken-tile}
 use Rattle.textwrap_lines.proofs.Common.{IfOk-weaker}
 use Rattle.textwrap_lines.specs.WordLines.{GoesOnBehind}
-use Rattle.textwrap_text.proofs.Common.{map_push}
 
 pub pieces_of_word-requires : goal.pieces_of_word-requires
 pieces_of_word-requires g c = c.requires.word.width
-
-pub returns-then-has_room-clause-lines : goal.returns-then-has_room-clause-lines
-returns-then-has_room-clause-lines g c =
-    let w = word_view c.args.word.now in
-    let frame = c.args.frame.now in
-    let held = map word_view c.args.held.now.items in
-    let printable = c.has_room.ensures.printable c.if-has_room.true in
-    let (points, are, cuts) = c.requires.points w.word c.requires.word.utf8 in (
-      points,
-      are,
-      rw (c.with.ensures.more, c.in_ok-push.ensures.items, map_push)
-          (takes-word g.S.LineSink.holds (frame_settings frame) c.args.self held c.args.lines.now w
-          points printable (c.requires.word.width ∙ printable-width w.word printable)
-          c.requires.plain cuts (c.has_room.ensures.fits c.if-has_room.true)
-          (limit-later (frame_settings frame) frame.limit w.width frame.limited
-          (c.has_room.ensures.narrow c.if-has_room.true))),
-    )
 
 pub take_pieces-requires : goal.take_pieces-requires
 take_pieces-requires g c = λ k.

@@ -171,6 +171,10 @@ static textwrap_status justified(struct lent *lent) {
     return textwrap_justify(bytes("a few words"), 11, 14, lent->room, 256, &lent->len);
 }
 
+static textwrap_status without_others(struct lent *lent) {
+    return textwrap_strip_other_sequences(bytes("a\x1b(Bb"), 5, lent->room, 256, &lent->len);
+}
+
 static textwrap_status without_tabs(struct lent *lent) {
     return textwrap_expand_tabs(bytes("a\tb"), 3, 8, lent->room, 256, &lent->len);
 }
@@ -554,6 +558,7 @@ static const struct call CALLS[] = {
     {"align", aligned},
     {"justify", justified},
     {"expand_tabs", without_tabs},
+    {"strip_other_sequences", without_others},
     {"fill_justified", filled_justified},
     {"reflow", reflowed},
     {"shorten", shortened},

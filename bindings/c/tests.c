@@ -397,6 +397,20 @@ static void lines_are_justified(void) {
     CHECK(is_text(room, len, "ab"));
 }
 
+static void terminals_are_told(void) {
+    uint8_t room[24] = "...";
+    size_t len = 7, columns = 7;
+    CHECK(textwrap_terminal_width(bytes("\x1b(B\x1b[1mab\x1bP1q\x1b\\"), 16, &columns) == TEXTWRAP_DONE
+          && columns == 2);
+    CHECK(textwrap_terminal_width(bytes("\xff"), 1, &columns) == TEXTWRAP_NOT_UTF8 && columns == 2);
+    CHECK(textwrap_strip_other_sequences(bytes("\xff"), 1, room, sizeof room, &len) == TEXTWRAP_NOT_UTF8);
+    CHECK(len == 7 && memcmp(room, "...", 4) == 0);
+    CHECK(textwrap_strip_other_sequences(bytes("a\x1b(B\x1b[1mb"), 9, room, 5, &len) == TEXTWRAP_TOO_SMALL);
+    CHECK(len == 6);
+    CHECK(textwrap_strip_other_sequences(bytes("a\x1b(B\x1b[1mb"), 9, room, 6, &len) == TEXTWRAP_DONE);
+    CHECK(is_text(room, len, "a\x1b[1mb"));
+}
+
 static void tabs_are_expanded(void) {
     uint8_t room[24] = "...";
     size_t len = 7;
@@ -1641,6 +1655,8 @@ static void a_pointer_to_nothing_may_be_null(void) {
     CHECK(textwrap_align(NULL, 0, 3, TEXTWRAP_LEFT, room, 10, &len) == TEXTWRAP_DONE && len == 3);
     CHECK(textwrap_justify(NULL, 0, 3, NULL, 0, &len) == TEXTWRAP_DONE && len == 0);
     CHECK(textwrap_expand_tabs(NULL, 0, 3, NULL, 0, &len) == TEXTWRAP_DONE && len == 0);
+    CHECK(textwrap_terminal_width(NULL, 0, &count) == TEXTWRAP_DONE && count == 0);
+    CHECK(textwrap_strip_other_sequences(NULL, 0, NULL, 0, &len) == TEXTWRAP_DONE && len == 0);
     CHECK(textwrap_fill_justified(NULL, 0, &o, NULL, 0, &len) == TEXTWRAP_DONE && len == 0);
     textwrap_reflow_options reflowed = textwrap_reflow_options_new(10);
     reflowed.markers = reflowed.prefixes = NULL;
@@ -1716,6 +1732,7 @@ int main(void) {
     lines_are_aligned();
     lines_are_justified();
     tabs_are_expanded();
+    terminals_are_told();
     texts_are_filled_and_justified();
     texts_with_marks_are_reflowed();
     reflowing_is_refused();

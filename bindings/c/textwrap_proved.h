@@ -427,6 +427,19 @@ TEXTWRAP_CHECKED
 textwrap_status textwrap_expand_tabs(const uint8_t *text, size_t text_len, size_t stop,
                                      uint8_t *room, size_t room_len, size_t *len);
 
+/* Writes the columns that a text takes on a terminal, by the whole grammar of ECMA-48. The other calls take
+ * ESC with the character behind it for a sequence, unless that is [ or ]: so "\x1b(Ba" has 1 column here, and 2
+ * by textwrap_display_width. Allocates nothing. DONE or NOT_UTF8. */
+TEXTWRAP_CHECKED
+textwrap_status textwrap_terminal_width(const uint8_t *text, size_t text_len, size_t *columns);
+
+/* Writes the text without the sequences that a terminal takes as such and the other calls do not: charsets,
+ * control strings but commands (OSC), and the controls from U+0080 to U+009F. Colours and links stay. Of what
+ * is left each call counts the columns as a terminal does. */
+TEXTWRAP_CHECKED
+textwrap_status textwrap_strip_other_sequences(const uint8_t *text, size_t text_len, uint8_t *room,
+                                               size_t room_len, size_t *len);
+
 /* Writes the line; one that is wider than the width is cut, so that it ends in the placeholder. It is
  * cut between words, and in no escape sequence; a style or a link that is open there is ended before
  * the placeholder. */

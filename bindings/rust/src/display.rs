@@ -158,6 +158,41 @@ pub fn expand_tabs(text: &str, stop: usize) -> String {
     or_abort(fallible::expand_tabs(text, stop))
 }
 
+/// The columns that a text takes on a terminal, by the whole grammar of ECMA-48.
+///
+/// The other calls take ESC with the character behind it for a sequence, unless that is `[` or `]`. Here
+/// control strings (DCS, SOS, PM, APC), sequences such as `ESC ( B` and the controls from U+0080 to U+009F
+/// take no columns, either.
+///
+/// # Examples
+///
+/// ```
+/// use textwrap_proved::core::display_width;
+/// use textwrap_proved::display::terminal_width;
+///
+/// assert_eq!(terminal_width("\u{1b}(B\u{1b}[1mab"), 2);
+/// assert_eq!(display_width("\u{1b}(B\u{1b}[1mab"), 3);
+/// ```
+pub fn terminal_width(text: &str) -> usize {
+    value_by!(textwrap_terminal_width(text))
+}
+
+/// The text without those sequences that a terminal takes as such and the other calls do not.
+///
+/// Colours and links stay. Call this before a text from a terminal is filled or aligned: of what is left
+/// each call counts the columns as a terminal does.
+///
+/// # Examples
+///
+/// ```
+/// use textwrap_proved::display::strip_other_sequences;
+///
+/// assert_eq!(strip_other_sequences("a\u{1b}(B\u{1b}[1mb"), "a\u{1b}[1mb");
+/// ```
+pub fn strip_other_sequences(text: &str) -> String {
+    or_abort(fallible::strip_other_sequences(text))
+}
+
 /// The text, filled as by [`fill()`](crate::fill()), with all lines but the last of each paragraph
 /// justified.
 ///

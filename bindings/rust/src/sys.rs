@@ -324,6 +324,16 @@ extern "C" {
         len: *mut usize,
     ) -> u32;
 
+    pub fn textwrap_terminal_width(text: *const u8, text_len: usize, columns: *mut usize) -> u32;
+
+    pub fn textwrap_strip_other_sequences(
+        text: *const u8,
+        text_len: usize,
+        room: *mut u8,
+        room_len: usize,
+        len: *mut usize,
+    ) -> u32;
+
     pub fn textwrap_expand_tabs(
         text: *const u8,
         text_len: usize,

@@ -5,8 +5,9 @@ use drawn::Random;
 use textwrap_proved::core::Word;
 use textwrap_proved::display::{
     align, balanced_width, carry_attributes, carry_styles, expand_tabs, fallible, fill_justified,
-    fitting_widths, justify, shorten, shorten_by, shorten_lines, shorten_lines_by, table,
-    wrap_balanced, Alignment, Column, Gaps, Shortening,
+    fitting_widths, justify, shorten, shorten_by, shorten_lines, shorten_lines_by,
+    strip_other_sequences, table, terminal_width, wrap_balanced, Alignment, Column, Gaps,
+    Shortening,
 };
 use textwrap_proved::{
     wrap, LineEnding, Options, OutOfMemory, WordSeparator, WordSplitter, WrapAlgorithm,
@@ -51,6 +52,22 @@ fn lines_are_aligned_and_justified() {
         assert_eq!(justify(line, width), justified);
     }
     assert_eq!(justify("words", usize::MAX), "words");
+}
+
+#[test]
+fn terminals_are_told() {
+    for (text, width, left) in [
+        ("ab", 2, "ab"),
+        ("\u{1b}(Ba\u{1b}[1mb", 2, "a\u{1b}[1mb"),
+        ("a\u{1b}P1q\u{7}x\u{1b}\\b", 2, "ab"),
+        ("a\u{1b}]8;;x\u{7}b\u{1b}]8;;\u{7}", 2, "a\u{1b}]8;;x\u{7}b\u{1b}]8;;\u{7}"),
+        ("a\u{9b}1m日\u{85}", 3, "a日"),
+        ("a\u{1b}_no end", 1, "a"),
+    ] {
+        assert_eq!(terminal_width(text), width);
+        assert_eq!(strip_other_sequences(text), left);
+        assert_eq!(display_width(left), width);
+    }
 }
 
 #[test]

@@ -140,6 +140,9 @@ fn calls_for_display() {
     refuse_each("align", || display::fallible::align("foo", 9, Alignment::Right));
     refuse_each("justify", || display::fallible::justify("a few words", 14));
     refuse_each("expand_tabs", || display::fallible::expand_tabs("a\tb", 8));
+    refuse_each("strip_other_sequences", || {
+        display::fallible::strip_other_sequences("a\u{1b}(Bb")
+    });
     refuse_each("shorten", || display::fallible::shorten("foo bar", 5, ".."));
     refuse_each("shorten_lines", || display::fallible::shorten_lines(&["foo", "bar"], 1, 5, ".."));
     let shortening = Shortening::new(5, "..").break_words(true);

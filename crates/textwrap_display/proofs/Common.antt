@@ -1,5 +1,4 @@
--- The names of definitions and lemmas of other crates, and of definitions of this one, that most
--- proofs cite. Declares nothing.
+-- The names of this crate and of others that most proofs cite. Declares nothing.
 pub use Rattle.std.proofs.{Math.Nat.suc-mul, lemmas.Bool.or_cases, lemmas.List.Folds.length-prefix_len}
 pub use Rattle.std.proofs.lemmas.{Simd.map-map, Str.IsCharBoundary-start, Str.encode_ascii}
 pub use Rattle.std.specs.{Cow.cow_str_bytes, List.AllZip, List.concat, List.flat_map, List.slice_index}

@@ -1,5 +1,4 @@
--- What columns need: the widest of some texts, part by part; and widths that fit: shares in
--- proportion, what rounding leaves over, and that they add up.
+-- What columns need, and widths that fit: shares in proportion, and that they add up.
 use Rattle.std.proofs.{Common.sum, Math.Nat.div-lt_iff_lt-mul}
 use Rattle.std.proofs.Math.Nat.{le_of_mul-le-mul_left, lt-div-mul-add, mul-add, mul-div-le}
 use Rattle.std.proofs.Math.Nat.{mul-le-mul_right, mul-lt-mul_of_pos_left, mul_comm, zero-div}
@@ -74,8 +73,7 @@ module _ (weight : Need → ℕ) (left weights : ℕ) (some : 0 < weights) where
   shares-close (need ∷ needs) =
       simp (sum_by-cons, mul-add) (omega (arith, shares-close needs, share-close need))
 
--- together the shares are no more than what is shared, and short of it by one for each column that
--- has a weight at most
+-- the shares are what is shared, but for one at most for each column that has a weight
 pub shares-within : (weight : Need → ℕ) (left : ℕ) (needs : List Need) → 0 < sum_by weight needs
     → let all = sum_by (λ need. left * weight need / sum_by weight needs) needs in
     (all ≤ left) × (left ≤ all + sum_by (λ need. min (weight need) 1) needs)

@@ -1,5 +1,4 @@
--- A text that is filled with its lines justified, one paragraph after another, and what justifies
--- lines as they are found.
+-- A text filled with its lines justified, one paragraph after another.
 use Rattle.{std.proofs.Math.Bool.or-true, textwrap_display.proofs.Common.HoldsJustified}
 use Rattle.textwrap_display.proofs.Common.{IsJustifiedText, WordText, justified, layout_view, line_bytes}
 use Rattle.textwrap_display.specs.JustifiedSinks.{TakesLine, Writes, WritesParagraph, waiting}

@@ -1,5 +1,4 @@
--- The longest beginning of a line that may be kept, words that are cut between their characters, and
--- the first lines as they are.
+-- The longest beginning of a line that may be kept, words that are cut, and the first lines.
 use Rattle.std.proofs.lemmas.List.Sums.{take_while-cons}
 use Rattle.textwrap_display.proofs.Common.{AreShortened, CanCut, CanEnd, CowStr, IsCut, IsKeptBeginning}
 use Rattle.textwrap_display.proofs.Common.{IsShortened, Line, Slice, State, Text, added, chars, cow_str_bytes}

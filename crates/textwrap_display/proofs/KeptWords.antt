@@ -1,5 +1,4 @@
--- The beginning of a line that is kept: its words, where it may end, and the reader that finds it,
--- which is outside of sequences where the beginning ends in none.
+-- The beginning of a line that is kept: its words, where it may end, and the reader that finds it.
 use Rattle.std.proofs.{Math.Seq.take-add, lemmas.Str.IsCharBoundary-end}
 use Rattle.textwrap_display.proofs.Common.{AreBlanks, IsCharBoundary-start, IsRead, IsWhole, State}
 use Rattle.textwrap_display.proofs.Common.{Text, added, can_end, chars, chunks, chunks-from}

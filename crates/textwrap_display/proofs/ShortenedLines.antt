@@ -1,5 +1,4 @@
--- Lines that are cut: whole words are kept, and of the next word, which is a text by itself, what has
--- room; what closes that, what the lines show, and their widths. Only one number of bytes may be kept.
+-- Lines that are cut: the words that are kept whole, what has room of the next, and what closes it.
 use Rattle.std.proofs.lemmas.{List.Sums.prefix_len-le-length, Str.IsCharBoundary-from_rest}
 use Rattle.textwrap_display.proofs.Common.{CanCut, IsCut, IsKeptBeginning, IsShortened, IsWhole, IsWholeText}
 use Rattle.textwrap_display.proofs.Common.{Line, chars, closing, concat, indent_len, is_blank, line_bytes}

@@ -1,5 +1,4 @@
--- Texts with blanks in the place of their tabs: what stands behind the last line feed, one part
--- after another, and the laws of them.
+-- Texts with blanks in the place of their tabs, one part after another, and the laws of them.
 use Rattle.std.proofs.{Common.◌%◌, Math.Nat.add-mul, lemmas.List.get_or_default}
 use Rattle.std.proofs.lemmas.List.{Elements.All-replicate, Folds.list_any-append, Folds.list_any_none}
 use Rattle.std.proofs.lemmas.List.Splits.{length-slice_split, slice_split_at, slice_split_first}

@@ -1,5 +1,4 @@
--- The groups of a table's texts, the cells of each, and the rows of these: their text, that they are
--- even, and that they show each line once.
+-- The groups of a table's texts, the cells of each, and the rows of these, even, each line once.
 use Rattle.std.proofs.{Common.replicate, Math.ListN.get_or-append}
 use Rattle.std.proofs.Math.{Nat.add-div_right, Nat.div-le_self, Seq.get_or-append_right}
 use Rattle.std.proofs.lemmas.List.{drop_min, get_or-replicate, length-replicate, nil_from_length, take_min}

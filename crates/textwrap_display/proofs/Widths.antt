@@ -1,5 +1,4 @@
--- Lines that are aligned or justified: how wide they are, and what they show, by the pen; and rows
--- of texts that stand alone.
+-- Lines that are aligned or justified, and rows: how wide they are, and what they show, by the pen.
 use Rattle.std.proofs.{Math.Nat.div-add-mod, lemmas.List.length-replicate}
 use Rattle.std.proofs.lemmas.List.{Elements.All-replicate, Elements.filter-append, Sums.fold-append}
 use Rattle.std.{proofs.lemmas.List.Sums.prefix_len_passes, specs.Str.chars}

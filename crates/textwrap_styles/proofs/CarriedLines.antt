@@ -190,8 +190,6 @@ all-may_carry indent later (line ∷ lines) own plain more closed whole = (
       (All-tail IsWholeText line lines whole),
 )
 
--- ---- lines without indents
-
 bare-shown : (lines : List (List ℕ)) (now : Rendition) → All IsWholeText lines
     → flat_map (λ shown. shown) (penned_lines [] [] now lines) ≡ penned_text now (concat lines)
 bare-shown [] now whole = ap (λ cs. penned_units now (units cs)) (sym chars-nil)

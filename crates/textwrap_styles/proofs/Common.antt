@@ -1,5 +1,4 @@
--- The names of definitions and lemmas of other crates, and of definitions of this one, that most
--- proofs cite. Declares nothing.
+-- The names of this crate and of others that most proofs cite. Declares nothing.
 pub use Rattle.std.proofs.lemmas.List.{Elements.All-filter, Sums.fold-append}
 pub use Rattle.std.specs.{Char.is_ascii_digit, Int.is_in_range, List.concat, Str.Parse.digits_value}
 pub use Rattle.std.specs.Str.{chars}

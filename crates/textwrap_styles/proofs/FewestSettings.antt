@@ -1,5 +1,4 @@
--- No fewer settings give a pen than those that are open: each of these leaves the field of its kind
--- unlike that of the plain pen, and one setting does so to one field alone.
+-- No fewer settings give a pen than those that are open: each of these changes one field alone.
 use Rattle.std.proofs.lemmas.{Bool.true_from_ne_false, Cmp.nat_eq_equiv, Map.Made.length-le_from_is_member}
 use Rattle.std.specs.Set.{is_member}
 use Rattle.textwrap_styles.proofs.Common.{apply, in_effect, kind_of, latest, open_settings, Pen, plain_pen}

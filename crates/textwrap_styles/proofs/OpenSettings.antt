@@ -1,5 +1,4 @@
--- Which settings a later one takes back, by their kinds, and settings that are open: with one more,
--- once more, and what holds of each of them.
+-- Which settings a later one takes back, by their kinds, and what holds of those that are open.
 use Rattle.std.{proofs.lemmas.{List.Folds.list_any-append, Slice.Eq.bytes_eq-Decides}, specs.Str.bytes_eq}
 use Rattle.textwrap_styles.proofs.Common.{in_effect, Kind, kind_of, latest, open_settings, Reset}
 use Rattle.textwrap_styles.specs.Settings.{is_unknown, number, replaces, takes_back}

@@ -1,5 +1,4 @@
--- What parameters do to a pen: they set some fields to values of their own and leave the others. So
--- which numbers the table has to know, and which of them end something.
+-- What parameters do to a pen, and so which numbers the table has to know, and which of them end.
 use Rattle.textwrap_styles.proofs.Common.{apply, between, Color, first_of, numbers_of, Pen, plain_pen}
 use Rattle.textwrap_styles.specs.Pen.{color_of, is_whole_color, Own, Reading, with_code, with_color}
 use Rattle.textwrap_styles.specs.Pen.{with_field, with_parts}
@@ -62,8 +61,7 @@ mix-swap m n v w p none = grind (arith, pick-swap, none)
 
 -- ---- the rows of the table
 
--- the fields that a kind sets, by the numbers of their own kinds: all, for 3 bold and faint, or for 6
--- italic and Gothic
+-- the fields that a kind sets: 0 all, 3 bold and faint, 6 italic and Gothic, others that of their number
 abbrev pub sets : ℕ → Mask
 sets k i = (k == 0) || (k == i) || (k == 3) && ((i == 1) || (i == 2)) || (k == 6) && ((i == 4) || (i == 5))
 

@@ -1,5 +1,4 @@
--- Pens after parameters are pens after their settings, one after another, and the settings that are
--- open give the pen that all of them gave.
+-- The settings that are open give the pen that all parameters gave, setting after setting.
 use Rattle.std.proofs.lemmas.{List.Folds.list_any_at, Slice.Eq.bytes_eq-Decides}
 use Rattle.textwrap_styles.proofs.Common.{apply, fields, fold-append, in_effect, Kind, latest, open_settings}
 use Rattle.textwrap_styles.proofs.{Common.{Pen, plain_pen, Reset, settings}, OpenSettings.all-latest}

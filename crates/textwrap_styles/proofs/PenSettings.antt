@@ -1,5 +1,4 @@
--- What a setting that the table knows does to a pen: it sets the fields of its kind, one that ends
--- something as in the plain pen, and any other unlike it.
+-- What a setting that the table knows does to a pen: it sets or ends the fields of its kind.
 use Rattle.textwrap_styles.proofs.Common.{apply, between, Color, digits_value, fields, first_of}
 use Rattle.textwrap_styles.proofs.Common.{is_ascii_digit, is_in_range, numbers_of, Pen, plain_pen}
 use Rattle.textwrap_styles.proofs.PenCodes.{differs_at, is_many, is_own, mix, row, sets}

@@ -1,5 +1,4 @@
--- What is open gives, set anew, the pen and the link of all sequences, and what ends it gives a plain
--- pen and no link.
+-- What is open, set anew, gives the pen and the link of all sequences; what ends it, a plain pen.
 use Rattle.textwrap_styles.proofs.Common.{fold-append, is_link, is_style, link_end, open_link, open_styles}
 use Rattle.textwrap_styles.proofs.Common.{Pen, plain_pen, plain_rendition, Rendition, rendition_of}
 use Rattle.textwrap_styles.proofs.{Common.{settings_of, style_end, with_sequence}, OpenSettings.after-more}
@@ -11,8 +10,6 @@ use Rattle.textwrap_styles.specs.{Penned.{with_link, with_style}, Styles.reopene
 use Rattle.textwrap_text.proofs.Common.{◌++◌, [], All, All-head, All-tail, ap, arith, Bool, cases_Bool, cond}
 use Rattle.textwrap_text.proofs.Common.{eqb-true, false, flat_map, flat_map-append, fold, List, ltb-false}
 use Rattle.textwrap_text.proofs.Common.{nil_from_length, refl, rules, sym, true, ℕ, ◌∙◌, ◌∷◌, ◌≡◌}
-
--- ---- the pen and the link, each by itself
 
 -- the pen of sequences is that of their settings
 given : (s : List ℕ) (p : Pen) → with_style p s ≡ pen_by p (settings_of s)

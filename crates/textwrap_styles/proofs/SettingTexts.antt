@@ -1,5 +1,4 @@
--- The fields of parameters, as the table of the settings and as a pen read them, and settings, each
--- of which is its own first one.
+-- The fields of parameters, as the table and a pen read them, and settings, each its own first one.
 use Rattle.std.proofs.lemmas.List.Sums.{AllPass-from_list_all, list_all-from_AllPass, take_while-cons}
 use Rattle.textwrap_styles.proofs.Common.{between, digits_value, fields, first_of, is_ascii_digit}
 use Rattle.textwrap_styles.{proofs.Common.{is_in_range, numbers_of, settings}, specs.Pen.with_first}

@@ -1,5 +1,4 @@
--- Worked rows on what parameters do to the plain pen, on what sequences leave open, and on what the
--- visible characters of a text are written with. In a text `\u{1b}` is ESC.
+-- Worked rows: what parameters do to the plain pen, and what sequences leave open (`\u{1b}` is ESC).
 use lib.Utf8.{encode}
 use Rattle.std.specs.Str.{chars}
 use Rattle.textwrap_styles.proofs.Common.{apply, has_target, is_link, is_style, open_settings, open_styles}
@@ -15,9 +14,7 @@ use Rattle.textwrap_text.proofs.Common.{[], ℕ, ◌++◌, ◌∷◌, ◌≡◌,
 abbrev Give : List (List ℕ × Pen) → Type 0
 Give rows = map (λ row. apply row.0 plain_pen) rows ≡ map (λ row. row.1) rows
 
--- 22 ends bold and faint, and nothing else; 39 ends the foreground, and 49 the background; 24 ends
--- every underline, but not its colour, which 59 ends; 0, no number and no parameter end all, and
--- what is unknown is passed over
+-- what each end ends, 0 and no parameter all; what is unknown is passed over
 ended : Give ((codes "1;2;3;22", record plain_pen { italic = true })
     ∷ (codes "31;42;39", record plain_pen { background = Indexed 2 })
     ∷ (codes "31;42;49", record plain_pen { foreground = Indexed 1 })
@@ -31,9 +28,7 @@ ended : Give ((codes "1;2;3;22", record plain_pen { italic = true })
 unfolding with_field with_code with_parts is_whole_color with_color color_of
 ended = (refl, refl)
 
--- colours of the table, and by red, green and blue, with a space of colours or without one between
--- colons; what follows them is read on. A colour that is not whole does nothing, and takes what
--- follows. 90 to 107 are the eight colours behind the first
+-- colours of the table and by red, green and blue; one that is not whole takes what follows
 colors : Give ((codes "38;5;196;1", record plain_pen { foreground = Indexed 196; bold = true })
     ∷ (codes "48;2;1;2;3;7", record plain_pen { background = Direct 1 2 3; inverse = true })
     ∷ (codes "38:2::1:2:3;58:5:7", record plain_pen { underline_color = Indexed 7; foreground = Direct 1 2 3 })
@@ -52,8 +47,7 @@ others-set : Give ((codes "3;20;6", record plain_pen { italic = true; gothic = t
 unfolding with_field with_code
 others-set = refl
 
--- an end is open behind what the table does not know, and this may end what it knows; of an
--- attribute the last setting is open, and none that ended
+-- an end is open behind what the table does not know; of an attribute the last setting is open
 left-open : (open_settings (settings (codes "4:3;4:0:3;38:5:1;39;48:5:1;49;58:2:1:2:3;59;38;5;1;39"
     ++ codes ";48;2;1;2;3;49;58;5;1;59")) ≡ [])
     × (open_settings (codes "99" ∷ codes "39" ∷ []) ≡ codes "99" ∷ codes "39" ∷ [])

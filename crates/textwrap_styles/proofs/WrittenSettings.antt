@@ -1,5 +1,4 @@
--- Settings that are open, each written as a sequence: what the sequences set, and that each is a text
--- by itself.
+-- Settings that are open, each written as a sequence, which is a text by itself, and what they set.
 use Rattle.std.proofs.lemmas.{List.Sums.AllPass-from_list_all, Str.Ascii.IsAscii-from_all}
 use Rattle.textwrap_styles.proofs.Common.{is_in_range, is_link, is_style, open_settings, open_styles}
 use Rattle.textwrap_styles.proofs.Common.{settings, settings_of, style_parameters, written}

@@ -43,6 +43,14 @@ pub fn expand_tabs(text: &str, stop: usize) -> Result<String, OutOfMemory> {
     text_by!(text.len(), textwrap_expand_tabs(text; stop))
 }
 
+/// [`crate::display::strip_other_sequences`].
+///
+/// # Errors
+/// [`OutOfMemory`] if memory runs out.
+pub fn strip_other_sequences(text: &str) -> Result<String, OutOfMemory> {
+    text_by!(text.len(), textwrap_strip_other_sequences(text))
+}
+
 /// [`crate::display::fill_justified`].
 ///
 /// # Errors

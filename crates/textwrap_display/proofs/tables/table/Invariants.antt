@@ -4,8 +4,7 @@ use Rattle.textwrap_display.specs.Tables.{ColumnMakes, ColumnMayPass, IsTableBy,
 use Rattle.textwrap_display.specs.Tables.{groups_of, shape_of, texts_in}
 use Rattle.textwrap_text.proofs.Common.{All, List, length, map, string_bytes, ℕ, ◌++◌, ◌≡◌}
 
--- with any table of the texts that are left, the rows so far are that of all; and if all texts fit,
--- those that are left do
+-- with any table of the texts that are left, the rows are that of all; if all fit, those left do
 abbrev pub invariant-loop-texts : goal.invariant-loop-texts
 invariant-loop-texts g l = (chunks_size l.texts-iterator ≡ length l.columns) × ((others : List (List ℕ))
     → IsTableBy (ColumnMakes g.P.Parts.may) shape_of l.columns (gaps_view l.gaps) (texts_in (chunks_rest l.texts-iterator)) others

@@ -9,6 +9,7 @@ use textwrap_calls::refilling::textwrap_unfill;
 use textwrap_calls::status::{DONE, NOT_UTF8, TOO_SMALL, UNKNOWN_OPTIONS};
 use textwrap_calls::widths::textwrap_display_width;
 use textwrap_more_calls::breaks::{TextwrapLineBreak, textwrap_line_breaks};
+use textwrap_more_calls::terminal::textwrap_terminal_width;
 
 /// The status and the columns that are told of a text.
 pub(super) fn told_width(text: &[u8]) -> (u32, usize) {
@@ -21,6 +22,19 @@ pub(super) fn told_width(text: &[u8]) -> (u32, usize) {
 fn columns_are_counted(rt: HostRuntime) {
     assert_told(&rt, 0, told_width("Café".as_bytes()), (DONE, 4));
     assert_told(&rt, 1, told_width(b"Caf\xe9"), (NOT_UTF8, BEFORE));
+}
+
+/// The same of a text as a terminal reads it.
+fn told_terminal_width(text: &[u8]) -> (u32, usize) {
+    let mut columns = BEFORE;
+    let status = textwrap_terminal_width(text, &mut columns);
+    (status, columns)
+}
+
+#[test]
+fn columns_are_counted_as_by_a_terminal(rt: HostRuntime) {
+    assert_told(&rt, 0, told_terminal_width(b"\x1b(BCaf\xc3\xa9\x1b[m\x1bP1q\x1b\\"), (DONE, 4));
+    assert_told(&rt, 1, told_terminal_width(b"Caf\xe9"), (NOT_UTF8, BEFORE));
 }
 
 /// A width, so many columns with these gaps, and the status and the width of a column.

@@ -271,6 +271,12 @@ const FILLED: &[TextRow<'_>] = &[
     ((TextCall::Fill(AT_11), b"the hy\xc2\xadphenation"), (DONE, 19, b"the hy\xc2\xadphen-\nation__")),
     ((TextCall::Fill(TextwrapOptions { dictionary: SOFT, ..AT_11 }), b"the hy\xc2\xadphenation"), (DONE, 19, b"the hy\xc2\xad-\nphenation__")),
     ((TextCall::Fill(TextwrapOptions { split_at_hyphens: 0, ..AT_11 }), b"the re-hyphenation"), (DONE, 19, b"the re-\nhyphenation__")),
+    // A line without room, one with a blank in front, and one that is wider than the later ones.
+    ((TextCall::Fill(AT_4), b"aaaa hyphenation"), (DONE, 22, b"aaaa\nhy-\nphe\nn-\natio\nn__")),
+    ((TextCall::Fill(TextwrapOptions { width: 5, ..AT_11 }), b"aa bb hyphenation cc"), (DONE, 24, b"aa bb\nhy-\nphen-\nation\ncc__")),
+    ((TextCall::Fill(TextwrapOptions { width: 8, ..AT_11 }), b"  hyphenation"), (DONE, 17, b"  hy-\nphen-\nation__")),
+    ((TextCall::Fill(TextwrapOptions { width: 8, subsequent_indent: b"    ", ..AT_11 }), b"a hyphenation"),
+        (DONE, 29, b"a hyphe\n    n-\n    atio\n    n__")),
     // No line ends within the address of a link, unless any hyphen is a point.
     ((TextCall::Fill(AT_4), LINK), (DONE, 23, OUTSIDE)),
     ((TextCall::Fill(TextwrapOptions { split_at_hyphens: 2, dictionary: NO_DICTIONARY, ..AT_4 }), LINK), (DONE, 23, OUTSIDE)),

@@ -82,6 +82,7 @@ const TEXTS: &[TextRow] = &[
     (TextCall::Refill(TextwrapOptions { width: 11, ..DEFAULTS }), LINE, LINES, LEN),
     (TextCall::Fill(TextwrapOptions { unicode_breaks: 1, ..AT_80 }), LINE, LINES, LEN),
     (TextCall::Strip, LINE, LINES, LEN),
+    (TextCall::StripOther, "\x1b(Bab\n", LINES, 3 * LINES),
     (TextCall::Unfill, LINE, LINES, LEN),
     (TextCall::Indent(b"> "), LINE, LINES, LEN + 2 * LINES),
     (TextCall::Dedent, LINE, LINES, LEN),

@@ -39,6 +39,7 @@ use textwrap_more_calls::steps::{
 use textwrap_more_calls::tables::{
     TextwrapCell, TextwrapColumn, textwrap_table, textwrap_table_of_lines,
 };
+use textwrap_more_calls::terminal::textwrap_strip_other_sequences;
 use textwrap_more_calls::text_steps::{textwrap_fill_at, textwrap_wrap_at};
 
 /// The library's defaults at 10 columns.
@@ -203,6 +204,7 @@ pub(super) enum TextCall<'a> {
     /// The same, and whether words are broken.
     ShortenBy(usize, &'a [u8], u32),
     Strip,
+    StripOther,
     FillAt(&'a [TextwrapSteps<'a>], TextwrapOptions<'a>),
     JustifyAt(&'a [TextwrapSteps<'a>], TextwrapOptions<'a>),
 }
@@ -250,6 +252,7 @@ pub(super) fn write_text(
             len,
         ),
         TextCall::Strip => textwrap_strip_ansi_escape_sequences(alloc, text, room, len),
+        TextCall::StripOther => textwrap_strip_other_sequences(alloc, text, room, len),
         TextCall::FillAt(steps, options) => {
             textwrap_fill_at(alloc, text, steps, &options, room, len)
         }

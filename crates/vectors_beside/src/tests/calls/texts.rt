@@ -158,13 +158,14 @@ const WIDENED: &[TextRow<'_>] = &[
     ((TextCall::ShortenBy(8, b"..", 0), b"a verylong"), (DONE, 3, b"a.._____________")),
     ((TextCall::FillJustified(AT_6), b"a bb cc dd"), (DONE, 12, b"a   bb\ncc dd____")),
     ((TextCall::ExpandTabs(4), b"a\tb\n\tc"), (DONE, 11, b"a   b\n    c_____")),
+    ((TextCall::StripOther, b"a\x1b(B\x1b[1mb"), (DONE, 6, b"a\x1b[1mb__________")),
 ];
 
 /// An alignment or a form that is not known is refused before a line that is no text.
 #[rattlefmt::skip]
 const REFUSED_TEXTS: &[RefusedTexts] = &[
     (UNKNOWN_OPTIONS, &[(TextCall::ShortenBy(8, b"..", 2), b"a verylong"), (TextCall::Align(6, 3), b"\xe9")]),
-    (NOT_UTF8, &[(TextCall::Fill(DEFAULTS), b"foo\xff"), (TextCall::Align(6, 2), b"\xe9"), (TextCall::ExpandTabs(4), b"a\tb\xff")]),
+    (NOT_UTF8, &[(TextCall::Fill(DEFAULTS), b"foo\xff"), (TextCall::Align(6, 2), b"\xe9"), (TextCall::ExpandTabs(4), b"a\tb\xff"), (TextCall::StripOther, b"\x1b(B\xff")]),
 ];
 
 #[test]

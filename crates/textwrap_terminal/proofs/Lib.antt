@@ -1,0 +1,3 @@
+pub mod Units
+pub mod Reading
+pub mod Kept

@@ -1,0 +1,175 @@
+-- The units of a text as a terminal reads it, which are its visible characters and its sequences
+-- (ECMA-48), and the text without the sequences that the library does not take as such.
+use Rattle.std.specs.Prelude.{◌≡◌, ℕ, zero, suc, ◌+◌, ◌-◌, ◌<◌, ◌≤◌, Bool, true, false, not, ◌==◌, ◌&&◌}
+use Rattle.std.specs.Prelude.{◌||◌, List, [], ◌∷◌, length, take, slice_index, if◌then◌else◌}
+use Rattle.std.specs.Prelude.{chars, encode_utf8_all, filter, Option, None, Some, ⊤, ◌⊎◌}
+use Rattle.std.specs.Int.{is_in_range}
+use Rattle.std.specs.List.{flat_map, list_all}
+use Rattle.textwrap_terminal.specs.declared.states.Part.{Part}
+use Rattle.textwrap_terminal.specs.declared.states.Part.TheVariants.{Control, Command, Other}
+use Rattle.textwrap_terminal.specs.declared.states.Part.TheVariants.{Intermediates}
+use Rattle.textwrap_text.specs.Lists.{last}
+use Rattle.textwrap_text.specs.Units as library
+use Rattle.textwrap_text.specs.Units.{TextUnit, Visible, Sequence, characters, escape, is_control_end}
+use Rattle.textwrap_text.specs.Units.{is_control_start, is_command_start, units_width, visible_of}
+
+-- ---- what opens a sequence, and what is behind that
+
+-- a control character of C1 in its 8-bit form (5.3)
+abbrev pub is_control : ℕ → Bool
+is_control = is_in_range 0x80 0x9F
+
+-- a sequence begins with ESC, or with such a character
+abbrev pub is_opening : ℕ → Bool
+is_opening c = (c == escape) || is_control c
+
+-- what a control character of C1 has behind it: CSI the rest of a control sequence (5.4), OSC that
+-- of a command, and DCS, SOS, PM and APC that of another control string (5.6)
+abbrev pub control_part : ℕ → Option Part
+control_part c =
+    if c == 0x9B then Some Control
+    else if c == 0x9D then Some Command
+    else if (c == 0x90) || (c == 0x98) || (c == 0x9E) || (c == 0x9F) then Some Other
+    else None
+
+-- a character that stands between ESC and the last character of its sequence
+abbrev pub is_intermediate : ℕ → Bool
+is_intermediate = is_in_range 0x20 0x2F
+
+-- what is behind ESC and this character, which together are the 7-bit form of the control character
+-- that stands 64 places later (5.3)
+abbrev pub escape_part : ℕ → Option Part
+escape_part c = if is_intermediate c then Some Intermediates else control_part (c + 64)
+
+-- ---- where it ends
+
+-- ST, which is U+009C, or `\` directly after an ESC
+abbrev pub is_terminator : ℕ → ℕ → Bool
+is_terminator before c = (c == 0x9C) || ((before == escape) && (c == 92))
+
+-- a character ends the part, where this one is before it
+abbrev pub ends_in : Part → ℕ → ℕ → Bool
+ends_in Control before c = is_control_end c
+ends_in Command before c = (c == 7) || is_terminator before c
+ends_in Other before c = is_terminator before c
+ends_in Intermediates before c = not (is_intermediate c)
+
+abbrev pub last_but_one : List ℕ → ℕ
+last_but_one cs = slice_index cs (length cs - 2)
+
+-- the last of these characters, which follow this one, passes a test of the one before it and it
+abbrev pub last_passes : (ℕ → ℕ → Bool) → ℕ → List ℕ → Bool
+last_passes test before [] = false
+last_passes test before (c ∷ cs) = test (last_but_one (before ∷ c ∷ cs)) (last (before ∷ c ∷ cs))
+
+-- the last of these characters, which follow this one, ends the part, unless one before it did; with
+-- no part the sequence is whole without them
+abbrev pub ends_behind : Option Part → ℕ → List ℕ → Bool
+ends_behind None before cs = true
+ends_behind (Some part) before cs = last_passes (ends_in part) before cs
+
+abbrev pub ends_escape : List ℕ → Bool
+ends_escape [] = false
+ends_escape (c ∷ cs) = ends_behind (escape_part c) c cs
+
+-- the last of these characters, which follow what opens a sequence, ends it, unless one before it
+-- did, or the opening alone is whole
+abbrev pub ends : ℕ → List ℕ → Bool
+ends opening cs =
+    if opening == escape then ends_escape cs else ends_behind (control_part opening) opening cs
+
+-- ---- what a unit is
+
+-- a visible character, or what opens a sequence and all characters up to the first that ends it
+abbrev pub IsWhole : TextUnit → Type 0
+IsWhole (Visible c) = is_opening c ≡ false
+IsWhole (Sequence cs) =
+    (c : ℕ) × (body : List ℕ) × (cs ≡ c ∷ body) × (is_opening c ≡ true) × (ends c body ≡ true)
+    × ((k : ℕ) → k < length body → ends c (take k body) ≡ false)
+
+-- what opens a sequence, and characters of which none ends it
+abbrev pub IsOpen : TextUnit → Type 0
+IsOpen (Visible c) = ⊥
+IsOpen (Sequence cs) =
+    (c : ℕ) × (body : List ℕ) × (cs ≡ c ∷ body) × (is_opening c ≡ true)
+    × ((k : ℕ) → k ≤ length body → ends c (take k body) ≡ false)
+
+-- each unit is whole, but the last may be a sequence without an end
+abbrev pub AreUnits : List TextUnit → Type 0
+AreUnits [] = ⊤
+AreUnits (u ∷ []) = IsWhole u ⊎ IsOpen u
+AreUnits (u ∷ v ∷ us) = IsWhole u × AreUnits (v ∷ us)
+
+-- the characters are those of these units
+abbrev pub IsInUnits : List ℕ → List TextUnit → Type 0
+IsInUnits cs us = (flat_map characters us ≡ cs) × AreUnits us
+
+-- ---- the units, computed
+
+-- how many characters belong to the part, where this one is before them
+abbrev pub part_len : Part → ℕ → List ℕ → ℕ
+part_len part before [] = 0
+part_len part before (c ∷ cs) = if ends_in part before c then 1 else suc (part_len part c cs)
+
+abbrev pub len_behind : Option Part → ℕ → List ℕ → ℕ
+len_behind None before cs = 0
+len_behind (Some part) before cs = part_len part before cs
+
+-- how many belong to a sequence after its ESC
+abbrev pub escape_len : List ℕ → ℕ
+escape_len [] = 0
+escape_len (c ∷ cs) = suc (len_behind (escape_part c) c cs)
+
+-- and after what opens it
+abbrev pub sequence_len : ℕ → List ℕ → ℕ
+sequence_len opening cs =
+    if opening == escape then escape_len cs else len_behind (control_part opening) opening cs
+
+-- the unit that begins with c, and how many of the characters after c it takes
+abbrev pub unit_at : ℕ → List ℕ → TextUnit
+unit_at c cs = if is_opening c then Sequence (c ∷ take (sequence_len c cs) cs) else Visible c
+
+abbrev pub taken_at : ℕ → List ℕ → ℕ
+taken_at c cs = if is_opening c then sequence_len c cs else 0
+
+-- the units after the first n characters
+abbrev pub units_past : ℕ → List ℕ → List TextUnit
+units_past n [] = []
+units_past zero (c ∷ cs) = unit_at c cs ∷ units_past (taken_at c cs) cs
+units_past (suc n) (c ∷ cs) = units_past n cs
+
+abbrev pub terminal_units : List ℕ → List TextUnit
+terminal_units cs = units_past 0 cs
+
+-- ---- width
+
+-- the columns that a text, given by its bytes, takes on a terminal
+abbrev pub terminal_width : List ℕ → ℕ
+terminal_width bytes = units_width (terminal_units (chars bytes))
+
+-- ---- the text for the library
+
+-- a sequence with these characters begins with ESC and `[` or ESC and `]`, and the library ends it
+-- with the last of them
+abbrev pub is_common : List ℕ → Bool
+is_common [] = false
+is_common (c ∷ []) = false
+is_common (c ∷ d ∷ cs) =
+    (c == escape) && (is_control_start d || is_command_start d) && library.ends (d ∷ cs)
+
+-- a visible character, or such a sequence
+abbrev pub is_kept : TextUnit → Bool
+is_kept (Visible c) = true
+is_kept (Sequence cs) = is_common cs
+
+-- the characters of those units that are kept
+abbrev pub kept : List ℕ → List ℕ
+kept cs = flat_map characters (filter is_kept (terminal_units cs))
+
+-- a text, given by its bytes, without the sequences that the library does not take as such
+abbrev pub without_other_sequences : List ℕ → List ℕ
+without_other_sequences bytes = encode_utf8_all (kept (chars bytes))
+
+-- there are none of them
+abbrev pub has_no_other : List ℕ → Bool
+has_no_other bytes = list_all is_kept (terminal_units (chars bytes))

@@ -1,10 +1,10 @@
 -- The reader of characters: its states, what they take of a text, and the columns of that.
-use Rattle.textwrap_text.proofs.Common.{[], ap, arith, cases_Bool, columns, cond, encode_utf8, escape, false}
+use Rattle.textwrap_text.proofs.Common.{[], ap, arith, cases_Bool, columns, cond, escape, false}
 use Rattle.textwrap_text.proofs.Common.{IsUtf8, length, List, None, nat_tests, refl, Some, suc, sum_by-cons, sym}
-use Rattle.textwrap_text.proofs.Common.{TextUnit, true, units_width, zero, zero-add, ℕ, ◌+◌, ◌++◌, ◌==◌, ◌∙◌}
+use Rattle.textwrap_text.proofs.Common.{TextUnit, true, unit_width, units_width, zero, zero-add, ℕ, ◌+◌, ◌++◌, ◌==◌, ◌∙◌}
 use Rattle.textwrap_text.proofs.Common.{◌∷◌, ◌≡◌, ◌≢◌, ◌≤◌, inl, inr}
-use Rattle.std.specs.Prelude.{chars}
-use Rattle.textwrap_text.proofs.Units.Reading.{columns-le, IsRead, read-ahead, read-next, read-start}
+use Rattle.std.specs.Prelude.{chars, encode_utf8}
+use Rattle.textwrap_text.proofs.Units.Reading.{columns-le, IsRead, read-ahead, read-next, read-none, read-start}
 use Rattle.textwrap_terminal.specs.States.{entered, next_of, shows}
 use Rattle.textwrap_terminal.specs.TerminalUnits.{control_part, ends_in, escape_len, escape_part, is_opening}
 use Rattle.textwrap_terminal.specs.TerminalUnits.{part_len, taken_at, terminal_width, unit_at, units_past}
@@ -48,3 +48,67 @@ taken-opening c cs = grind (arith, cases_Bool, no_part)
 pub units_in-text : (c : ℕ) (cs : List ℕ)
     → units_in Text (c ∷ cs) ≡ unit_at c cs ∷ units_in (next_of Text c) cs
 units_in-text c cs = ap (λ n. unit_at c cs ∷ units_past n cs) (taken-opening c cs)
+
+-- ---- columns
+
+-- the columns of the characters to come
+abbrev pub columns_in : State → List ℕ → ℕ
+columns_in s cs = units_width (units_in s cs)
+
+-- those that a character adds
+abbrev pub added : State → ℕ → ℕ
+added s c = cond (shows s c) (columns c) 0
+
+added-inside : (s : State) (c : ℕ) → s ≢ Text → added s c ≡ 0
+added-inside Text c inside = absurd (inside refl)
+added-inside Escape c inside = refl
+added-inside (Inside part last) c inside = refl
+
+unit_width-at : (c : ℕ) (cs : List ℕ) → unit_width (unit_at c cs) ≡ added Text c
+unit_width-at c cs = elim (cases_Bool (is_opening c)) [ inl t ↦ rw t refl | inr f ↦ rw f refl ]
+
+inside-step : (s : State) (c : ℕ) (cs : List ℕ) → s ≢ Text
+    → columns_in s (c ∷ cs) ≡ added s c + columns_in (next_of s c) cs
+inside-step s c cs inside = ap units_width (units_in-inside s c cs inside)
+    ∙ sym (ap (λ n. n + columns_in (next_of s c) cs) (added-inside s c inside)
+    ∙ zero-add (columns_in (next_of s c) cs))
+
+-- one step over a character
+columns_in-step : (s : State) (c : ℕ) (cs : List ℕ)
+    → columns_in s (c ∷ cs) ≡ added s c + columns_in (next_of s c) cs
+columns_in-step Text c cs = ap units_width (units_in-text c cs)
+    ∙ sum_by-cons unit_width (unit_at c cs) (units_in (next_of Text c) cs)
+    ∙ ap (λ n. n + columns_in (next_of Text c) cs) (unit_width-at c cs)
+columns_in-step Escape c cs = inside-step Escape c cs (λ e. cc)
+columns_in-step (Inside part last) c cs = inside-step (Inside part last) c cs (λ e. cc)
+
+added-le : (s : State) (c : ℕ) → added s c ≤ length (encode_utf8 c)
+added-le s c = grind (arith, cases_Bool, columns-le c)
+
+-- the reader has read up to the place, and the rest is left
+pub record IsMeasured (text : List ℕ) (place : ℕ) (rest : List ℕ) (state : State) (width : ℕ) :
+    Type 0 where
+  pub read : IsRead text place rest
+  pub columns : terminal_width text ≡ width + columns_in state (chars rest)
+  pub within : width ≤ place
+
+pub measured-start : (text : List ℕ) → IsUtf8 text → IsMeasured text 0 text Text 0
+measured-start text utf8 =
+    record { read = read-start text utf8; columns = omega arith; within = omega arith }
+
+-- it goes over a character
+pub measured-step : (text : List ℕ) (place end c : ℕ) (rest after : List ℕ) (state : State) (width : ℕ)
+    → IsMeasured text place rest state width → rest ≡ encode_utf8 c ++ after
+    → end ≡ place + length (encode_utf8 c)
+    → IsMeasured text end after (next_of state c) (width + added state c)
+measured-step text place end c rest after state width h is past = record {
+  read = read-next h.read c after is end past;
+  columns = h.columns ∙ (let step = ap (columns_in state) (read-ahead h.read c after is)
+      ∙ columns_in-step state c (chars after) in omega (arith, step));
+  within = omega (arith, h.within, past, added-le state c);
+}
+
+pub measured-end : (text : List ℕ) (place : ℕ) (rest : List ℕ) (state : State) (width : ℕ)
+    → IsMeasured text place rest state width → length rest ≡ 0 → width ≡ terminal_width text
+measured-end text place rest state width h none =
+    let nothing = ap (columns_in state) (read-none h.read none) in omega (arith, h.columns, nothing)

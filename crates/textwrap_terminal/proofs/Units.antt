@@ -31,7 +31,7 @@ units_past-end (suc n) (c ∷ cs) short = units_past-end n cs (omega arith)
 
 -- ---- how far a sequence goes
 
-last_but_one-cons : (b c d : ℕ) (cs : List ℕ)
+pub last_but_one-cons : (b c d : ℕ) (cs : List ℕ)
     → last_but_one (b ∷ c ∷ d ∷ cs) ≡ last_but_one (c ∷ d ∷ cs)
 last_but_one-cons b c d cs = grind arith
 

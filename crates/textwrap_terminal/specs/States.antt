@@ -1,6 +1,6 @@
 -- The states of the code that reads a text as a terminal does, by what they say of the characters
 -- to come.
-use Rattle.std.specs.Prelude.{ℕ, Bool, false, not, ◌==◌, List, if◌then◌else◌, Option, None, Some}
+use Rattle.std.specs.Prelude.{ℕ, Bool, false, not, ◌==◌, List, if◌then◌else◌, Option, None, Some, ◌||◌, ◌&&◌}
 use Rattle.textwrap_terminal.specs.TerminalUnits.{control_part, escape_part, ends_in, is_opening}
 use Rattle.textwrap_terminal.specs.declared.states.{Part.Part, State.State}
 use Rattle.textwrap_terminal.specs.declared.states.State.TheVariants.{Text, Escape, Inside}
@@ -32,3 +32,7 @@ ends_common_part _ before c = false
 abbrev pub ends_common : State → ℕ → Bool
 ends_common (Inside part last) c = ends_common_part part last c
 ends_common _ c = false
+
+-- a unit stays that begins with this character, by what is told of its last character
+abbrev pub stays : ℕ → Bool → Bool
+stays first is = shows Text first || ((first == escape) && is)

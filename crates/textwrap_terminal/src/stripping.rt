@@ -1,6 +1,7 @@
 //! A text without those sequences that only a terminal takes as such.
 ghost use Rattle.std.specs.Prelude.{◌≡◌, ◌<◌, ◌&&◌, ◌++◌, length, take, drop, [], not, if◌then◌else◌};
 ghost use Rattle.std.specs.Prelude.{IfOk, IsCharBoundary, string_bytes};
+ghost use Rattle.textwrap_terminal.specs.States.{stays};
 ghost use Rattle.textwrap_terminal.specs.Stripped.{cow_bytes, is_borrowed};
 ghost use Rattle.textwrap_terminal.specs.TerminalUnits.{without_other_sequences, has_no_other};
 
@@ -81,14 +82,23 @@ fn first_unit(text: &str) -> (usize, bool)
     let Some((_, first)) = chars.next() else {
         unreachable!();
     };
-    let (mut state, is_visible) = State::Text.step(first);
+    let (mut state, _) = State::Text.step(first);
     let mut is_common = false;
     for (at, ch) in chars {
         if matches!(state, State::Text) {
-            return (at, is_visible || first == '\x1b' && is_common);
+            return (at, stays(first, is_common));
         }
         is_common = state.ends_common(ch);
         state = state.step(ch).0;
     }
-    (text.len(), is_visible || first == '\x1b' && is_common)
+    (text.len(), stays(first, is_common))
+}
+
+/// Whether a unit stays that begins with this character, where it is told whether the library, too,
+/// ends a sequence with its last character.
+fn stays(first: char, is_common: bool) -> bool
+    ensures { result ≡ stays first is_common }
+{
+    let (_, is_visible) = State::Text.step(first);
+    is_visible || first == '\x1b' && is_common
 }

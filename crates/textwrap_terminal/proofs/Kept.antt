@@ -1,6 +1,6 @@
 -- The first unit of a text, and whether it stays: the reader tells which sequences the library takes
 -- as such.
-use Rattle.textwrap_text.proofs.Common.{[], ap, ap₂, arith, Bool, cases_Bool, characters, cond, drop}
+use Rattle.textwrap_text.proofs.Common.{[], and_parts, ap, ap₂, arith, chars-nil, nil_from_length, Bool, cases_Bool, characters, cond, drop}
 use Rattle.textwrap_text.proofs.Common.{encode_utf8_all, encodes-append, encodes-chars, eqb-true, escape, false}
 use Rattle.textwrap_text.proofs.Common.{filter, flat_map, inl, inr, IsCharBoundary, IsUtf8, length, length-append}
 use Rattle.textwrap_text.proofs.Common.{length-drop, length-encode, List, nat_tests, None, Option, ne_eqb, refl, Some, suc, sym}
@@ -224,3 +224,24 @@ first-end {text} {place} {rest} {state} {first} {is} h utf8 over =
       other = ap (list_all is_kept) all ∙ ap (λ b. b && list_all is_kept others) told;
     } in
     subst (IsFirst text place (stays first is)) (sym h.read.place) here
+
+-- ---- where nothing is left, or all stays
+
+pub kept-none : (rest : List ℕ) → length rest ≡ 0 → without_other_sequences rest ≡ []
+kept-none rest none =
+    ap (λ cs. encode_utf8_all (specs.kept cs)) (ap chars (nil_from_length rest none) ∙ chars-nil)
+
+pub other-none : (rest : List ℕ) → length rest ≡ 0 → has_no_other rest ≡ true
+other-none rest none =
+    ap (λ cs. list_all is_kept (terminal_units cs)) (ap chars (nil_from_length rest none) ∙ chars-nil)
+
+filter-all : (us : List TextUnit) → list_all is_kept us ≡ true → filter is_kept us ≡ us
+filter-all [] all = refl
+filter-all (u ∷ us) all =
+    let (here, rest) = and_parts (is_kept u) (list_all is_kept us) all in
+    rw here (ap (λ l. u ∷ l) (filter-all us rest))
+
+pub all-kept : (text : List ℕ) → IsUtf8 text → has_no_other text ≡ true
+    → without_other_sequences text ≡ text
+all-kept text utf8 all = ap encode_utf8_all (ap (flat_map characters)
+    (filter-all (terminal_units (chars text)) all) ∙ units-tile (chars text)) ∙ encodes-chars text utf8

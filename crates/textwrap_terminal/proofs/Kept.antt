@@ -45,7 +45,7 @@ common-text [] is = refl
 common-text (c ∷ cs) is = refl
 
 -- what ends a sequence for the library ends it
-common-ends : (part : Part) (b c : ℕ) → ends_in part b c ≡ false → ends_common_part part b c ≡ false
+pub common-ends : (part : Part) (b c : ℕ) → ends_in part b c ≡ false → ends_common_part part b c ≡ false
 common-ends Control b c on = on
 common-ends Command b c on = grind (arith, cases_Bool, nat_tests)
 common-ends Other b c on = refl

@@ -1,3 +1,4 @@
 pub mod Units
 pub mod Reading
 pub mod Kept
+pub mod Measured

@@ -84,8 +84,7 @@ sequence-whole cs c body shape before is =
     let others : body ≡ rest = ap (drop 1) same in
     let early : (k : ℕ) → k < length rest → ends escape (take k rest) ≡ false = λ k below.
     sym (ap₂ (λ x l. ends x (take k l)) first others)
-    ∙ before k (subst (λ l. k < length l) (sym others) below) in
-    (
+    ∙ before k (subst (λ l. k < length l) (sym others) below) in (
       (escape, rest, h.shape, refl, library-ends h.start h.rest h.starts h.ends, early),
       (rest, h.shape, h.ends, λ k below. library-before h.start h.rest k h.starts (early k below)),
     )

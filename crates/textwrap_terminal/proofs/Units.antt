@@ -177,7 +177,7 @@ units-of (Sequence cs ∷ us) are =
       h.shape,
       h.opens,
       StopsAt-whole (ends h.opening) h.body others _ (sequence-stops h.opening (h.body ++ others))
-      h.before h.stop,
+          h.before h.stop,
       take_at h.body others (length h.body) refl,
       units_past-skip h.body others,
       units-of us h.rest,

@@ -8,4 +8,6 @@ pub use widths::terminal_width;
 pub mod laws;
 mod states;
 mod stripping;
+#[cfg(test)]
+mod tests;
 mod widths;

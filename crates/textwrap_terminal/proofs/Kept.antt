@@ -2,10 +2,10 @@
 -- as such.
 use Rattle.textwrap_text.proofs.Common.{[], and_parts, ap, ap₂, arith, chars-nil, nil_from_length, Bool, cases_Bool, characters, cond, drop}
 use Rattle.textwrap_text.proofs.Common.{encode_utf8_all, encodes-append, encodes-chars, eqb-true, escape, false}
-use Rattle.textwrap_text.proofs.Common.{filter, flat_map, inl, inr, IsCharBoundary, IsUtf8, length, length-append}
-use Rattle.textwrap_text.proofs.Common.{length-drop, length-encode, List, nat_tests, None, Option, ne_eqb, refl, Some, suc, sym}
-use Rattle.textwrap_text.proofs.Common.{take, take_at, TextUnit, true, zero, ℕ, ◌&&◌, ◌++◌, ◌+◌, ◌<◌, ◌==◌, ◌∙◌}
-use Rattle.textwrap_text.proofs.Common.{◌||◌, ◌∷◌, ◌≡◌, ◌≢◌, ◌≤◌, ◌⊎◌, list_all, subst, cases_eq, eqb-false, rules}
+use Rattle.textwrap_text.proofs.Common.{filter, flat_map, inl, inr, IsUtf8, length, length-append}
+use Rattle.textwrap_text.proofs.Common.{length-drop, length-encode, List, nat_tests, None, Option, ne_eqb, refl, Some, sym}
+use Rattle.textwrap_text.proofs.Common.{take, TextUnit, true, ℕ, ◌&&◌, ◌++◌, ◌+◌, ◌<◌, ◌==◌, ◌∙◌}
+use Rattle.textwrap_text.proofs.Common.{◌∷◌, ◌≡◌, ◌≢◌, ◌⊎◌, list_all, subst, cases_eq}
 use Rattle.std.specs.Prelude.{chars, encode_utf8}
 use Rattle.std.proofs.lemmas.Str.{len_utf8_bounds}
 use Rattle.textwrap_text.proofs.{Lists.Parts.last-cons, Texts.cut_text}
@@ -13,11 +13,11 @@ use Rattle.textwrap_text.proofs.Units.Reading.{IsRead, read-ahead, read-next, re
 use Rattle.textwrap_text.specs.Units as library
 use Rattle.textwrap_text.specs.Units.{is_control_end, is_command_end}
 use Rattle.textwrap_terminal.proofs.Reading.{units_in, units_in-inside, units_in-text}
-use Rattle.textwrap_terminal.proofs.Units.{last_but_one-cons, last_passes-cons, units-tile}
-use Rattle.textwrap_terminal.specs.States.{ends_common, ends_common_part, entered, next_of, shows, stays}
+use Rattle.textwrap_terminal.proofs.Units.{last_but_one-cons, last_passes-cons, part-len, units-tile}
+use Rattle.textwrap_terminal.specs.States.{ends_common, ends_common_part, entered, next_of, stays}
 use Rattle.textwrap_terminal.specs.TerminalUnits.{ends_in, escape_part, has_no_other, is_common, is_kept}
 use Rattle.textwrap_terminal.specs.TerminalUnits as specs
-use Rattle.textwrap_terminal.specs.TerminalUnits.{is_opening, last_passes, part_len, sequence_len}
+use Rattle.textwrap_terminal.specs.TerminalUnits.{ends, first_len, is_opening, last_passes}
 use Rattle.textwrap_terminal.specs.TerminalUnits.{terminal_units, unit_at, without_other_sequences}
 use Rattle.textwrap_terminal.specs.declared.states.Part.{Part}
 use Rattle.textwrap_terminal.specs.declared.states.Part.TheVariants.{Command, Control, Intermediates, Other}
@@ -52,13 +52,14 @@ common-ends Other b c on = refl
 common-ends Intermediates b c on = refl
 
 common-part : (part : Part) (b : ℕ) (cs : List ℕ) → common_in cs (Inside part b) false
-    ≡ last_passes (ends_common_part part) b (take (part_len part b cs) cs)
+    ≡ last_passes (ends_common_part part) b (take (first_len cs (last_passes (ends_in part) b)) cs)
 common-part part b [] = refl
 common-part part b (c ∷ cs) = elim (cases_Bool (ends_in part b c)) [
-  | inl here ↦ rw here (common-text cs (ends_common_part part b c))
-  | inr on ↦ rw (on, common-ends part b c on) (common-part part c cs
-      ∙ sym (last_passes-cons (ends_common_part part) b c (common-ends part b c on)
-      (take (part_len part c cs) cs)))
+  | inl here ↦ rw (part-len (ends_in part) b c cs, here)
+      (common-text cs (ends_common_part part b c))
+  | inr on ↦ rw (part-len (ends_in part) b c cs, on, common-ends part b c on)
+      (common-part part c cs ∙ sym (last_passes-cons (ends_common_part part) b c
+      (common-ends part b c on) (take (first_len cs (last_passes (ends_in part) c)) cs)))
 ]
 
 -- ---- what the library says of it
@@ -85,9 +86,9 @@ not-common None c cs control command = common-text cs false
 not-common (Some Control) c cs control command = absurd (control refl)
 not-common (Some Command) c cs control command = absurd (command refl)
 not-common (Some Other) c cs control command = common-part Other c cs
-    ∙ passes-never c (take (part_len Other c cs) cs)
+    ∙ passes-never c (take (first_len cs (last_passes (ends_in Other) c)) cs)
 not-common (Some Intermediates) c cs control command = common-part Intermediates c cs
-    ∙ passes-never c (take (part_len Intermediates c cs) cs)
+    ∙ passes-never c (take (first_len cs (last_passes (ends_in Intermediates) c)) cs)
 
 no-control : (d : ℕ) → d ≢ 91 → escape_part d ≢ Some Control
 no-control d other is = grind (arith, cases_Bool, nat_tests)
@@ -97,13 +98,13 @@ no-command d other is = grind (arith, cases_Bool, nat_tests)
 
 -- whether a sequence stays that begins with ESC and this character
 pub escape-common : (d : ℕ) (cs : List ℕ)
-    → is_common (escape ∷ take (sequence_len escape (d ∷ cs)) (d ∷ cs))
+    → is_common (escape ∷ take (first_len (d ∷ cs) (ends escape)) (d ∷ cs))
     ≡ common_in (d ∷ cs) Escape false
 escape-common d cs = elim (cases_eq d 91) [
-  | inl control ↦ rw control (library-control (take (part_len Control 91 cs) cs)
+  | inl control ↦ rw control (library-control (take (first_len cs (last_passes (ends_in Control) 91)) cs)
       ∙ sym (common-part Control 91 cs))
   | inr other ↦ elim (cases_eq d 93) [
-    | inl command ↦ rw command (library-command (take (part_len Command 93 cs) cs)
+    | inl command ↦ rw command (library-command (take (first_len cs (last_passes (ends_in Command) 93)) cs)
         ∙ sym (common-part Command 93 cs))
     | inr neither ↦ rw (ne_eqb d 91 other, ne_eqb d 93 neither)
         (sym (not-common (escape_part d) d cs (no-control d other) (no-command d neither)))
@@ -127,7 +128,7 @@ first-stays c cs = elim (cases_Bool (is_opening c)) [
 ]
   where
     after-escape : (cs : List ℕ)
-        → is_common (escape ∷ take (sequence_len escape cs) cs) ≡ common_in cs Escape false
+        → is_common (escape ∷ take (first_len cs (ends escape)) cs) ≡ common_in cs Escape false
     after-escape [] = refl
     after-escape (d ∷ cs) = escape-common d cs
 

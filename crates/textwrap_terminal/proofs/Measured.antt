@@ -2,10 +2,10 @@
 -- terminal does, and all of it stays again.
 use Rattle.textwrap_text.proofs.Common.{[], and_parts, ap, ap₂, cases_Bool, characters, chars_from_encodes, columns}
 use Rattle.textwrap_text.proofs.Common.{drop, encode_utf8_all, encodes-append, encodes-chars, eqb-true, escape, false}
-use Rattle.textwrap_text.proofs.Common.{filter, flat_map, get_or, inl, inr, IsUtf8, IsUtf8-append, length, List, nat_tests}
+use Rattle.textwrap_text.proofs.Common.{filter, flat_map, get_or, inl, inr, IsUtf8, IsUtf8-append, length, List}
 use Rattle.textwrap_text.proofs.Common.{or_cases, refl, Sequence, subst, suc, sum_by, sum_by-cons, sym, take, text_width}
 use Rattle.textwrap_text.proofs.Common.{TextUnit, true, true≢false, unit_width, units_width, Visible, visible_of, zero, zero-add}
-use Rattle.textwrap_text.proofs.Common.{ℕ, ⊎_elim, ◌+◌, ◌<◌, ◌==◌, ◌&&◌, ◌||◌, ◌∙◌, ◌∷◌, ◌≡◌, ◌≢◌, ◌≤◌, ◌⊎◌, arith, false≢true}
+use Rattle.textwrap_text.proofs.Common.{ℕ, ⊎_elim, ◌+◌, ◌<◌, ◌==◌, ◌&&◌, ◌||◌, ◌∙◌, ◌∷◌, ◌≡◌, ◌⊎◌, arith, false≢true}
 use Rattle.std.specs.Prelude.{chars}
 use Rattle.textwrap_text.proofs.{Texts.utf8-back, Texts.utf8-front, Units.Texts.units_unique, Units.Texts.units_width-is}
 use Rattle.textwrap_text.specs.Units as library

@@ -1,14 +1,16 @@
 -- The reader of characters: its states, what they take of a text, and the columns of that.
-use Rattle.textwrap_text.proofs.Common.{[], ap, arith, cases_Bool, columns, cond, escape, false}
+use Rattle.textwrap_text.proofs.Common.{[], cases_eq, ne_eqb, Option, ap, arith, cases_Bool, columns, cond, escape, false}
 use Rattle.textwrap_text.proofs.Common.{IsUtf8, length, List, None, nat_tests, refl, Some, suc, sum_by-cons, sym}
-use Rattle.textwrap_text.proofs.Common.{TextUnit, true, unit_width, units_width, zero, zero-add, ℕ, ◌+◌, ◌++◌, ◌==◌, ◌∙◌}
+use Rattle.textwrap_text.proofs.Common.{TextUnit, unit_width, units_width, zero-add, ℕ, ◌+◌, ◌++◌, ◌∙◌}
 use Rattle.textwrap_text.proofs.Common.{◌∷◌, ◌≡◌, ◌≢◌, ◌≤◌, inl, inr}
 use Rattle.std.specs.Prelude.{chars, encode_utf8}
 use Rattle.textwrap_text.proofs.Units.Reading.{columns-le, IsRead, read-ahead, read-next, read-none, read-start}
+use Rattle.textwrap_terminal.proofs.Units.{first-same, part-len}
 use Rattle.textwrap_terminal.specs.States.{entered, next_of, shows}
-use Rattle.textwrap_terminal.specs.TerminalUnits.{control_part, ends_in, escape_len, escape_part, is_opening}
-use Rattle.textwrap_terminal.specs.TerminalUnits.{part_len, taken_at, terminal_width, unit_at, units_past}
-use Rattle.textwrap_terminal.specs.TerminalUnits.{is_control, len_behind}
+use Rattle.textwrap_terminal.specs.TerminalUnits.{control_part, ends, ends_behind, ends_escape, ends_in}
+use Rattle.textwrap_terminal.specs.TerminalUnits.{escape_part, first_len, is_control, is_opening, last_passes}
+use Rattle.textwrap_terminal.specs.TerminalUnits.{taken_at, terminal_width, unit_at, units_past}
+use Rattle.textwrap_terminal.specs.declared.states.Part.{Part}
 use Rattle.textwrap_terminal.specs.declared.states.State.{State}
 use Rattle.textwrap_terminal.specs.declared.states.State.TheVariants.{Escape, Inside, Text}
 
@@ -17,19 +19,22 @@ use Rattle.textwrap_terminal.specs.declared.states.State.TheVariants.{Escape, In
 -- how many of the characters to come belong to the sequence that is being read
 abbrev pub taken_in : State → List ℕ → ℕ
 taken_in Text cs = 0
-taken_in Escape cs = escape_len cs
-taken_in (Inside part last) cs = part_len part last cs
+taken_in Escape cs = first_len cs ends_escape
+taken_in (Inside part last) cs = first_len cs (last_passes (ends_in part) last)
+
+taken-entered : (part : Option Part) (c : ℕ) (cs : List ℕ)
+    → first_len cs (ends_behind part c) ≡ taken_in (entered part c) cs
+taken-entered None c [] = refl
+taken-entered None c (d ∷ cs) = refl
+taken-entered (Some part) c cs = refl
 
 -- a character inside a sequence is taken from it
 taken-step : (s : State) (c : ℕ) (cs : List ℕ) → s ≢ Text
     → taken_in s (c ∷ cs) ≡ suc (taken_in (next_of s c) cs)
 taken-step Text c cs inside = absurd (inside refl)
-taken-step Escape c cs inside = elim (escape_part c) as (λ part. suc (len_behind part c cs)
-    ≡ suc (taken_in (entered part c) cs)) [ None ↦ refl | Some part ↦ refl ]
-taken-step (Inside part last) c cs inside = elim (cases_Bool (ends_in part last c)) [
-  | inl t ↦ rw t refl
-  | inr f ↦ rw f refl
-]
+taken-step Escape c cs inside = ap suc (taken-entered (escape_part c) c cs)
+taken-step (Inside part last) c cs inside = ap suc (part-len (ends_in part) last c cs)
+    ∙ elim (cases_Bool (ends_in part last c)) [ inl t ↦ rw t refl | inr f ↦ rw f refl ]
 
 -- the units that begin in the characters to come
 abbrev pub units_in : State → List ℕ → List TextUnit
@@ -43,7 +48,15 @@ no_part : (c : ℕ) → is_control c ≡ false → control_part c ≡ None
 no_part c other = grind (arith, nat_tests)
 
 taken-opening : (c : ℕ) (cs : List ℕ) → taken_at c cs ≡ taken_in (next_of Text c) cs
-taken-opening c cs = grind (arith, cases_Bool, no_part)
+taken-opening c cs = elim (cases_eq c escape) [
+  | inl is ↦ rw is refl
+  | inr other ↦ elim (cases_Bool (is_control c)) [
+    | inl control ↦ rw (ne_eqb c escape other, control)
+        (first-same cs (ends c) (ends_behind (control_part c) c) (λ l. rw (ne_eqb c escape other) refl)
+        ∙ taken-entered (control_part c) c cs)
+    | inr visible ↦ rw (ne_eqb c escape other, visible, no_part c visible) refl
+  ]
+]
 
 pub units_in-text : (c : ℕ) (cs : List ℕ)
     → units_in Text (c ∷ cs) ≡ unit_at c cs ∷ units_in (next_of Text c) cs

@@ -1,6 +1,6 @@
 -- What the wrong bodies of must-fail/ answer on worked rows, and that no contract allows it: each
 -- theorem bears the name of its edit.
-use Rattle.textwrap_text.proofs.Common.{[], ap, arith, columns, ℕ, ◌+◌, ◌∙◌, ◌∷◌, ◌≡◌, refl, sym}
+use Rattle.textwrap_text.proofs.Common.{[], arith, columns, ◌+◌, ◌∷◌, ◌≡◌, refl}
 use Rattle.std.specs.Str.{chars}
 use Rattle.textwrap_text.proofs.Units.Reading.{columns-printable}
 use Rattle.textwrap_terminal.specs.TerminalUnits.{terminal_width}

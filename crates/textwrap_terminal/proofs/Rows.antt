@@ -1,6 +1,6 @@
 -- Worked rows: the units of a text, and what is left of it.
 use Rattle.std.specs.Str.{chars}
-use Rattle.textwrap_text.proofs.Common.{[], List, map, refl, Sequence, TextUnit, Visible, ℕ, ◌∷◌, ◌≡◌}
+use Rattle.textwrap_text.proofs.Common.{[], List, map, refl, Sequence, Visible, ℕ, ◌∷◌, ◌≡◌}
 use Rattle.textwrap_terminal.specs.TerminalUnits.{kept, terminal_units}
 
 -- `ESC ( B`, and a text that it begins

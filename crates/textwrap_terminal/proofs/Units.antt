@@ -1,24 +1,21 @@
 -- The units of a text on a terminal: there is one list of them, and it is computed.
-use Rattle.textwrap_text.proofs.Common.{[], ap, ap₂, append-nil, arith, Bool, cases_Bool, cases_lt, characters}
-use Rattle.textwrap_text.proofs.Common.{cond, drop, drop_all, eqb-true, escape, false, flat_map, inl, inr}
-use Rattle.textwrap_text.proofs.Common.{length, length-append, length-take-le, List, ne_eqb, None, not}
-use Rattle.textwrap_text.proofs.Common.{Option, refl, rules, Sequence, Some, subst, suc, sym, take, take_all}
+use Rattle.textwrap_text.proofs.Common.{[], ap, ap₂, arith, Bool, cases_Bool, cases_lt, characters}
+use Rattle.textwrap_text.proofs.Common.{cond, drop, drop_all, false, flat_map, inl, inr}
+use Rattle.textwrap_text.proofs.Common.{length, length-append, length-take-le, List}
+use Rattle.textwrap_text.proofs.Common.{refl, Sequence, subst, suc, sym, take, take_all}
 use Rattle.textwrap_text.proofs.Common.{take_at, take-append-drop, take-append-le, take-take, TextUnit, true}
-use Rattle.textwrap_text.proofs.Common.{Visible, zero, ℕ, ⊎_elim, ◌++◌, ◌<◌, ◌==◌, ◌↔◌, ◌∙◌, ◌∷◌, ◌≡◌, ◌≤◌, ◌⊎◌}
+use Rattle.textwrap_text.proofs.Common.{Visible, zero, ℕ, ⊎_elim, ◌++◌, ◌<◌, ◌↔◌, ◌∙◌, ◌∷◌, ◌≡◌, ◌≤◌, ◌⊎◌}
 use Rattle.textwrap_text.proofs.Lists.Parts.{last-cons}
-use Rattle.textwrap_terminal.specs.TerminalUnits.{AreUnits, control_part, ends, ends_behind, ends_escape}
-use Rattle.textwrap_terminal.specs.TerminalUnits.{ends_in, escape_len, escape_part, is_opening, IsInUnits}
-use Rattle.textwrap_terminal.specs.TerminalUnits.{IsOpen, IsWhole, last_but_one, last_passes, len_behind}
-use Rattle.textwrap_terminal.specs.TerminalUnits.{part_len, sequence_len, taken_at, terminal_units, unit_at}
-use Rattle.textwrap_terminal.specs.TerminalUnits.{units_past}
-use Rattle.textwrap_terminal.specs.declared.states.Part.{Part}
+use Rattle.textwrap_terminal.specs.TerminalUnits.{AreUnits, ends, first_len, is_opening, IsInUnits}
+use Rattle.textwrap_terminal.specs.TerminalUnits.{IsOpen, IsWhole, last_but_one, last_passes, taken_at}
+use Rattle.textwrap_terminal.specs.TerminalUnits.{terminal_units, units_past}
 
 -- ---- the units tile the characters
 
 units_past-tile : (n : ℕ) (cs : List ℕ) → flat_map characters (units_past n cs) ≡ drop n cs
 units_past-tile n [] = sym (drop_all n [] (omega arith))
 units_past-tile zero (c ∷ cs) =
-    grind (arith, take-append-drop, units_past-tile (sequence_len c cs) cs, units_past-tile 0 cs)
+    grind (arith, take-append-drop, units_past-tile (first_len cs (ends c)) cs, units_past-tile 0 cs)
 units_past-tile (suc n) (c ∷ cs) = units_past-tile n cs
 
 pub units-tile : (cs : List ℕ) → flat_map characters (terminal_units cs) ≡ cs
@@ -41,54 +38,47 @@ last_passes-cons test b c fails [] = fails
 last_passes-cons test b c fails (d ∷ cs) =
     ap₂ test (last_but_one-cons b c d cs) (last-cons b c (d ∷ cs))
 
+first-none : (cs : List ℕ) (passes : List ℕ → Bool) → passes [] ≡ true → first_len cs passes ≡ 0
+first-none [] passes here = refl
+first-none (c ∷ cs) passes here = rw here refl
+
+pub first-same : (cs : List ℕ) (p q : List ℕ → Bool) → ((l : List ℕ) → p l ≡ q l)
+    → first_len cs p ≡ first_len cs q
+first-same [] p q same = refl
+first-same (c ∷ cs) p q same = rw (same []) (ap (λ n. cond (q []) 0 (suc n))
+    (first-same cs (λ l. p (c ∷ l)) (λ l. q (c ∷ l)) (λ l. same (c ∷ l))))
+
+-- a part goes on behind a character that does not end it
+pub part-len : (test : ℕ → ℕ → Bool) (b c : ℕ) (cs : List ℕ)
+    → first_len cs (λ l. last_passes test b (c ∷ l))
+    ≡ cond (test b c) 0 (first_len cs (last_passes test c))
+part-len test b c cs = elim (cases_Bool (test b c)) [
+  | inl ended ↦ rw ended (first-none cs (λ l. last_passes test b (c ∷ l)) ended)
+  | inr on ↦ rw on (first-same cs (λ l. last_passes test b (c ∷ l)) (last_passes test c)
+      (last_passes-cons test b c on))
+]
+
 -- n of the characters are the fewest that pass, or all where no prefix passes
 record StopsAt (passes : List ℕ → Bool) (cs : List ℕ) (n : ℕ) : Type 0 where
   within : n ≤ length cs
   before : (k : ℕ) → k < n → passes (take k cs) ≡ false
   stop : (passes (take n cs) ≡ true) ⊎ ((n ≡ length cs) × (passes (take n cs) ≡ false))
 
-StopsAt-cons : (whole tail : List ℕ → Bool) (c : ℕ) (cs : List ℕ) (n : ℕ) → whole [] ≡ false
-    → ((l : List ℕ) → whole (c ∷ l) ≡ tail l) → StopsAt tail cs n → StopsAt whole (c ∷ cs) (suc n)
-StopsAt-cons whole tail c cs n none along stops = grind arith
+StopsAt-cons : (passes : List ℕ → Bool) (c : ℕ) (cs : List ℕ) (n : ℕ) → passes [] ≡ false
+    → StopsAt (λ front. passes (c ∷ front)) cs n → StopsAt passes (c ∷ cs) (suc n)
+StopsAt-cons passes c cs n none stops = grind arith
   where
-    before : (k : ℕ) → k < suc n → whole (take k (c ∷ cs)) ≡ false
+    before : (k : ℕ) → k < suc n → passes (take k (c ∷ cs)) ≡ false
     before zero below = none
-    before (suc k) below = along (take k cs) ∙ stops.before k (omega arith)
+    before (suc k) below = stops.before k (omega arith)
 
-StopsAt-one : (passes : List ℕ → Bool) (c : ℕ) (cs : List ℕ) → passes [] ≡ false
-    → passes (c ∷ []) ≡ true → StopsAt passes (c ∷ cs) 1
-StopsAt-one passes c cs none here = record { within = omega arith; before = before; stop = inl here }
-  where
-    before : (k : ℕ) → k < 1 → passes (take k (c ∷ cs)) ≡ false
-    before zero below = none
-    before (suc k) below = absurd (omega arith)
-
-part-stops : (part : Part) (b : ℕ) (cs : List ℕ)
-    → StopsAt (last_passes (ends_in part) b) cs (part_len part b cs)
-part-stops part b [] = grind arith
-part-stops part b (c ∷ cs) = elim (cases_Bool (ends_in part b c)) [
-  | inl here ↦ rw here (StopsAt-one (last_passes (ends_in part) b) c cs refl here)
-  | inr on ↦ rw on (StopsAt-cons (last_passes (ends_in part) b) (last_passes (ends_in part) c) c cs
-      (part_len part c cs) refl (last_passes-cons (ends_in part) b c on) (part-stops part c cs))
+first-stops : (cs : List ℕ) (passes : List ℕ → Bool) → StopsAt passes cs (first_len cs passes)
+first-stops [] passes = grind (arith, cases_Bool (passes []))
+first-stops (c ∷ cs) passes = elim (cases_Bool (passes [])) [
+  | inl here ↦ rw here (grind arith)
+  | inr on ↦ rw on (StopsAt-cons passes c cs (first_len cs (λ front. passes (c ∷ front))) on
+      (first-stops cs (λ front. passes (c ∷ front))))
 ]
-
-behind-stops : (part : Option Part) (b : ℕ) (cs : List ℕ)
-    → StopsAt (ends_behind part b) cs (len_behind part b cs)
-behind-stops None b cs = grind arith
-behind-stops (Some part) b cs = part-stops part b cs
-
-escape-stops : (cs : List ℕ) → StopsAt ends_escape cs (escape_len cs)
-escape-stops [] = grind arith
-escape-stops (c ∷ cs) = StopsAt-cons ends_escape (ends_behind (escape_part c) c) c cs
-    (len_behind (escape_part c) c cs) refl (λ l. refl) (behind-stops (escape_part c) c cs)
-
-sequence-stops : (c : ℕ) (cs : List ℕ) → StopsAt (ends c) cs (sequence_len c cs)
-sequence-stops c cs = by (c == escape)
-  where
-    by : (b : Bool) → StopsAt (λ l. cond b (ends_escape l) (ends_behind (control_part c) c l)) cs
-        (cond b (escape_len cs) (len_behind (control_part c) c cs))
-    by true = escape-stops cs
-    by false = behind-stops (control_part c) c cs
 
 -- ---- the units of a text are units
 
@@ -107,11 +97,11 @@ sequence-units c cs n opens stops rest =
     (grind (arith, take_all, units_past-end)) stops.stop
 
 AreUnits-at : (c : ℕ) (cs : List ℕ) (b : Bool) → is_opening c ≡ b
-    → AreUnits (units_past (cond b (sequence_len c cs) 0) cs)
-    → AreUnits (cond b (Sequence (c ∷ take (sequence_len c cs) cs)) (Visible c) ∷ units_past
-    (cond b (sequence_len c cs) 0) cs)
+    → AreUnits (units_past (cond b (first_len cs (ends c)) 0) cs)
+    → AreUnits (cond b (Sequence (c ∷ take (first_len cs (ends c)) cs)) (Visible c) ∷ units_past
+    (cond b (first_len cs (ends c)) 0) cs)
 AreUnits-at c cs true is rest =
-    sequence-units c cs (sequence_len c cs) is (sequence-stops c cs) rest
+    sequence-units c cs (first_len cs (ends c)) is (first-stops cs (ends c)) rest
 AreUnits-at c cs false is rest =
     AreUnits-cons (Visible c) (units_past 0 cs) is rest
 
@@ -176,7 +166,7 @@ units-of (Sequence cs ∷ us) are =
     rw (
       h.shape,
       h.opens,
-      StopsAt-whole (ends h.opening) h.body others _ (sequence-stops h.opening (h.body ++ others))
+      StopsAt-whole (ends h.opening) h.body others _ (first-stops (h.body ++ others) (ends h.opening))
           h.before h.stop,
       take_at h.body others (length h.body) refl,
       units_past-skip h.body others,

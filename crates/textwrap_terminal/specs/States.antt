@@ -1,6 +1,6 @@
 -- The states of the code that reads a text as a terminal does, by what they say of the characters
 -- to come.
-use Rattle.std.specs.Prelude.{ℕ, Bool, false, not, ◌==◌, List, if◌then◌else◌, Option, None, Some, ◌||◌, ◌&&◌}
+use Rattle.std.specs.Prelude.{ℕ, Bool, false, not, ◌==◌, if◌then◌else◌, Option, None, Some, ◌||◌, ◌&&◌}
 use Rattle.textwrap_terminal.specs.TerminalUnits.{control_part, escape_part, ends_in, is_opening}
 use Rattle.textwrap_terminal.specs.declared.states.{Part.Part, State.State}
 use Rattle.textwrap_terminal.specs.declared.states.State.TheVariants.{Text, Escape, Inside}

@@ -106,31 +106,18 @@ IsInUnits cs us = (flat_map characters us ≡ cs) × AreUnits us
 
 -- ---- the units, computed
 
--- how many characters belong to the part, where this one is before them
-abbrev pub part_len : Part → ℕ → List ℕ → ℕ
-part_len part before [] = 0
-part_len part before (c ∷ cs) = if ends_in part before c then 1 else suc (part_len part c cs)
-
-abbrev pub len_behind : Option Part → ℕ → List ℕ → ℕ
-len_behind None before cs = 0
-len_behind (Some part) before cs = part_len part before cs
-
--- how many belong to a sequence after its ESC
-abbrev pub escape_len : List ℕ → ℕ
-escape_len [] = 0
-escape_len (c ∷ cs) = suc (len_behind (escape_part c) c cs)
-
--- and after what opens it
-abbrev pub sequence_len : ℕ → List ℕ → ℕ
-sequence_len opening cs =
-    if opening == escape then escape_len cs else len_behind (control_part opening) opening cs
+-- how many of these characters are the fewest that pass, or all where no beginning of them does
+abbrev pub first_len : List ℕ → (List ℕ → Bool) → ℕ
+first_len [] passes = 0
+first_len (c ∷ cs) passes =
+    if passes [] then 0 else suc (first_len cs (λ front. passes (c ∷ front)))
 
 -- the unit that begins with c, and how many of the characters after c it takes
 abbrev pub unit_at : ℕ → List ℕ → TextUnit
-unit_at c cs = if is_opening c then Sequence (c ∷ take (sequence_len c cs) cs) else Visible c
+unit_at c cs = if is_opening c then Sequence (c ∷ take (first_len cs (ends c)) cs) else Visible c
 
 abbrev pub taken_at : ℕ → List ℕ → ℕ
-taken_at c cs = if is_opening c then sequence_len c cs else 0
+taken_at c cs = if is_opening c then first_len cs (ends c) else 0
 
 -- the units after the first n characters
 abbrev pub units_past : ℕ → List ℕ → List TextUnit

@@ -8,6 +8,4 @@ pub use widths::terminal_width;
 pub mod laws;
 mod states;
 mod stripping;
-#[cfg(test)]
-mod tests;
 mod widths;

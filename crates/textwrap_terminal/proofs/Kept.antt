@@ -1,41 +1,48 @@
 -- The first unit of a text, and whether it stays: the reader tells which sequences the library takes
 -- as such.
-use Rattle.textwrap_text.proofs.Common.{[], and_parts, ap, ap₂, arith, chars-nil, nil_from_length, Bool, cases_Bool, characters, cond, drop}
-use Rattle.textwrap_text.proofs.Common.{encode_utf8_all, encodes-append, encodes-chars, eqb-true, escape, false}
-use Rattle.textwrap_text.proofs.Common.{filter, flat_map, inl, inr, IsUtf8, length, length-append}
-use Rattle.textwrap_text.proofs.Common.{length-drop, length-encode, List, nat_tests, None, Option, ne_eqb, refl, Some, sym}
-use Rattle.textwrap_text.proofs.Common.{take, TextUnit, true, ℕ, ◌&&◌, ◌++◌, ◌+◌, ◌<◌, ◌==◌, ◌∙◌}
-use Rattle.textwrap_text.proofs.Common.{◌∷◌, ◌≡◌, ◌≢◌, ◌⊎◌, list_all, subst, cases_eq}
-use Rattle.std.specs.Prelude.{chars, encode_utf8}
 use Rattle.std.proofs.lemmas.Str.{len_utf8_bounds}
-use Rattle.textwrap_text.proofs.{Lists.Parts.last-cons, Texts.cut_text}
+use Rattle.std.specs.Prelude.{chars, encode_utf8}
+use Rattle.textwrap_terminal.proofs.Reading.{units_in, units_in-inside, units_in-text}
+use Rattle.textwrap_terminal.proofs.Units.{last_but_one-cons, last_passes-cons, part-len}
+use Rattle.textwrap_terminal.proofs.Units.{units-tile}
+use Rattle.textwrap_terminal.specs.States.{ends_common, ends_common_part, entered, next_state}
+use Rattle.textwrap_terminal.specs.States.{stays}
+use Rattle.textwrap_terminal.specs.TerminalUnits as specs
+use Rattle.textwrap_terminal.specs.TerminalUnits.{ends_in, ends_sequence, escape_part, first_len}
+use Rattle.textwrap_terminal.specs.TerminalUnits.{first_unit_of, has_no_other, is_common, is_kept}
+use Rattle.textwrap_terminal.specs.TerminalUnits.{last_passes, opens_sequence, terminal_units}
+use Rattle.textwrap_terminal.specs.TerminalUnits.{without_other_sequences}
+use Rattle.textwrap_terminal.specs.declared.states.Part.TheVariants.{Command, Control}
+use Rattle.textwrap_terminal.specs.declared.states.Part.TheVariants.{Intermediates, Other}
+use Rattle.textwrap_terminal.specs.declared.states.Part.{Part}
+use Rattle.textwrap_terminal.specs.declared.states.TerminalState.TheVariants.{Escape, Inside, Text}
+use Rattle.textwrap_terminal.specs.declared.states.TerminalState.{TerminalState}
+use Rattle.textwrap_text.proofs.Common.{and_parts, ap, ap₂, arith, Bool, cases_Bool, cases_eq}
+use Rattle.textwrap_text.proofs.Common.{characters, chars-nil, cond, drop, encode_utf8_all}
+use Rattle.textwrap_text.proofs.Common.{encodes-append, encodes-chars, eqb-true, escape, false}
+use Rattle.textwrap_text.proofs.Common.{filter, flat_map, inl, inr, IsUtf8, length, length-append}
+use Rattle.textwrap_text.proofs.Common.{length-drop, length-encode, List, list_all, nat_tests}
+use Rattle.textwrap_text.proofs.Common.{ne_eqb, nil_from_length, None, Option, refl, Some, subst}
+use Rattle.textwrap_text.proofs.Common.{sym, take, TextUnit, true, ℕ, [], ◌&&◌, ◌++◌, ◌+◌, ◌<◌}
+use Rattle.textwrap_text.proofs.Common.{◌==◌, ◌∙◌, ◌∷◌, ◌≡◌, ◌≢◌, ◌⊎◌}
+use Rattle.textwrap_text.proofs.Lists.Parts.{last-cons}
+use Rattle.textwrap_text.proofs.Texts.{cut_text}
 use Rattle.textwrap_text.proofs.Units.Reading.{IsRead, read-ahead, read-next, read-none, read-start}
 use Rattle.textwrap_text.specs.Units as library
-use Rattle.textwrap_text.specs.Units.{is_control_end, is_command_end}
-use Rattle.textwrap_terminal.proofs.Reading.{units_in, units_in-inside, units_in-text}
-use Rattle.textwrap_terminal.proofs.Units.{last_but_one-cons, last_passes-cons, part-len, units-tile}
-use Rattle.textwrap_terminal.specs.States.{ends_common, ends_common_part, entered, next_of, stays}
-use Rattle.textwrap_terminal.specs.TerminalUnits.{ends_in, escape_part, has_no_other, is_common, is_kept}
-use Rattle.textwrap_terminal.specs.TerminalUnits as specs
-use Rattle.textwrap_terminal.specs.TerminalUnits.{ends, first_len, is_opening, last_passes}
-use Rattle.textwrap_terminal.specs.TerminalUnits.{terminal_units, unit_at, without_other_sequences}
-use Rattle.textwrap_terminal.specs.declared.states.Part.{Part}
-use Rattle.textwrap_terminal.specs.declared.states.Part.TheVariants.{Command, Control, Intermediates, Other}
-use Rattle.textwrap_terminal.specs.declared.states.State.{State}
-use Rattle.textwrap_terminal.specs.declared.states.State.TheVariants.{Escape, Inside, Text}
+use Rattle.textwrap_text.specs.Units.{is_command_end, is_control_end}
 
 -- ---- what the reader tells of the sequence that is being read
 
 -- whether the library takes it as such, where this is what the last character read told
-abbrev pub common_in : List ℕ → State → Bool → Bool
+abbrev pub common_in : List ℕ → TerminalState → Bool → Bool
 common_in [] s is = is
 common_in (c ∷ cs) Text is = is
-common_in (c ∷ cs) Escape is = common_in cs (next_of Escape c) false
+common_in (c ∷ cs) Escape is = common_in cs (next_state Escape c) false
 common_in (c ∷ cs) (Inside part last) is =
-    common_in cs (next_of (Inside part last) c) (ends_common_part part last c)
+    common_in cs (next_state (Inside part last) c) (ends_common_part part last c)
 
-common-step : (s : State) (c : ℕ) (cs : List ℕ) (is : Bool) → s ≢ Text
-    → common_in (c ∷ cs) s is ≡ common_in cs (next_of s c) (ends_common s c)
+common-step : (s : TerminalState) (c : ℕ) (cs : List ℕ) (is : Bool) → s ≢ Text
+    → common_in (c ∷ cs) s is ≡ common_in cs (next_state s c) (ends_common s c)
 common-step Text c cs is inside = absurd (inside refl)
 common-step Escape c cs is inside = refl
 common-step (Inside part last) c cs is inside = refl
@@ -98,7 +105,7 @@ no-command d other is = grind (arith, cases_Bool, nat_tests)
 
 -- whether a sequence stays that begins with ESC and this character
 pub escape-common : (d : ℕ) (cs : List ℕ)
-    → is_common (escape ∷ take (first_len (d ∷ cs) (ends escape)) (d ∷ cs))
+    → is_common (escape ∷ take (first_len (d ∷ cs) (ends_sequence escape)) (d ∷ cs))
     ≡ common_in (d ∷ cs) Escape false
 escape-common d cs = elim (cases_eq d 91) [
   | inl control ↦ rw control (library-control (take (first_len cs (last_passes (ends_in Control) 91)) cs)
@@ -118,8 +125,8 @@ not-escape c [] other = refl
 not-escape c (d ∷ cs) other = rw other refl
 
 first-stays : (c : ℕ) (cs : List ℕ)
-    → is_kept (unit_at c cs) ≡ stays c (common_in cs (next_of Text c) false)
-first-stays c cs = elim (cases_Bool (is_opening c)) [
+    → is_kept (first_unit_of c cs) ≡ stays c (common_in cs (next_state Text c) false)
+first-stays c cs = elim (cases_Bool (opens_sequence c)) [
   | inr visible ↦ rw visible refl
   | inl opens ↦ elim (cases_Bool (c == escape)) [
     | inr other ↦ rw (opens, other) (not-escape c _ other)
@@ -128,14 +135,14 @@ first-stays c cs = elim (cases_Bool (is_opening c)) [
 ]
   where
     after-escape : (cs : List ℕ)
-        → is_common (escape ∷ take (first_len cs (ends escape)) cs) ≡ common_in cs Escape false
+        → is_common (escape ∷ take (first_len cs (ends_sequence escape)) cs) ≡ common_in cs Escape false
     after-escape [] = refl
     after-escape (d ∷ cs) = escape-common d cs
 
 -- ---- the first unit of a text, of which a part was read
 
 -- the reader has read the text up to this place, which is in its first unit or at the end of that
-pub record IsInFirst (text : List ℕ) (place : ℕ) (rest : List ℕ) (state : State) (first : ℕ)
+pub record IsInFirst (text : List ℕ) (place : ℕ) (rest : List ℕ) (state : TerminalState) (first : ℕ)
     (is : Bool) : Type 0 where
   pub read : IsRead text place rest
   pub some : 0 < place
@@ -144,22 +151,22 @@ pub record IsInFirst (text : List ℕ) (place : ℕ) (rest : List ℕ) (state : 
   pub kept : is_kept unit ≡ stays first (common_in (chars rest) state is)
 
 pub first-start : (text after : List ℕ) (c end : ℕ) → IsUtf8 text → text ≡ encode_utf8 c ++ after
-    → end ≡ 0 + length (encode_utf8 c) → IsInFirst text end after (next_of Text c) c false
+    → end ≡ 0 + length (encode_utf8 c) → IsInFirst text end after (next_state Text c) c false
 first-start text after c end utf8 is past =
     let start = read-start text utf8 in
     record {
       read = read-next start c after is end past;
       some = omega (arith, past, length-encode c, (len_utf8_bounds c).0);
-      unit = unit_at c (chars after);
+      unit = first_unit_of c (chars after);
       units = ap (units_in Text) (read-ahead start c after is) ∙ units_in-text c (chars after);
       kept = first-stays c (chars after);
     }
 
-module _ {text : List ℕ} {place : ℕ} {rest : List ℕ} {state : State} {first : ℕ} {is : Bool}
+module _ {text : List ℕ} {place : ℕ} {rest : List ℕ} {state : TerminalState} {first : ℕ} {is : Bool}
     (h : IsInFirst text place rest state first is) where
   pub first-step : (c end : ℕ) (after : List ℕ) → state ≢ Text → rest ≡ encode_utf8 c ++ after
       → end ≡ place + length (encode_utf8 c)
-      → IsInFirst text end after (next_of state c) first (ends_common state c)
+      → IsInFirst text end after (next_state state c) first (ends_common state c)
   first-step c end after inside next past =
       let ahead = read-ahead h.read c after next in
       record {
@@ -211,7 +218,7 @@ first-kept unit front others true is bytes =
     rw is (encodes-append (characters unit) rest ∙ ap (λ l. l ++ encode_utf8_all rest) (sym bytes))
 first-kept unit front others false is bytes = rw is refl
 
-pub first-end : {text : List ℕ} {place : ℕ} {rest : List ℕ} {state : State} {first : ℕ} {is : Bool}
+pub first-end : {text : List ℕ} {place : ℕ} {rest : List ℕ} {state : TerminalState} {first : ℕ} {is : Bool}
     → IsInFirst text place rest state first is → IsUtf8 text → (state ≡ Text) ⊎ (length rest ≡ 0)
     → IsFirst text place (stays first is) (drop place text)
 first-end {text} {place} {rest} {state} {first} {is} h utf8 over =

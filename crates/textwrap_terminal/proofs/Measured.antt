@@ -1,25 +1,31 @@
 -- What stays of a text: its units are whole for the library too, so the library measures it as a
 -- terminal does, and all of it stays again.
-use Rattle.textwrap_text.proofs.Common.{[], and_parts, ap, ap₂, cases_Bool, characters, chars_from_encodes, columns}
-use Rattle.textwrap_text.proofs.Common.{drop, encode_utf8_all, encodes-append, encodes-chars, eqb-true, escape, false}
-use Rattle.textwrap_text.proofs.Common.{filter, flat_map, get_or, inl, inr, IsUtf8, IsUtf8-append, length, List}
-use Rattle.textwrap_text.proofs.Common.{or_cases, refl, Sequence, subst, suc, sum_by, sum_by-cons, sym, take, text_width}
-use Rattle.textwrap_text.proofs.Common.{TextUnit, true, true≢false, unit_width, units_width, Visible, visible_of, zero, zero-add}
-use Rattle.textwrap_text.proofs.Common.{ℕ, ⊎_elim, ◌+◌, ◌<◌, ◌==◌, ◌&&◌, ◌||◌, ◌∙◌, ◌∷◌, ◌≡◌, ◌⊎◌, arith, false≢true}
 use Rattle.std.specs.Prelude.{chars}
-use Rattle.textwrap_text.proofs.{Texts.utf8-back, Texts.utf8-front, Units.Texts.units_unique, Units.Texts.units_width-is}
-use Rattle.textwrap_text.specs.Units as library
-use Rattle.textwrap_text.specs.Units.{is_command_start, is_control_start}
 use Rattle.textwrap_terminal.proofs.Kept.{common-ends, library-command, library-control}
-use Rattle.textwrap_terminal.proofs.Units.{AreUnits-cons, AreUnits-head, are_units, units-of, units-tile}
+use Rattle.textwrap_terminal.proofs.Units.{are_units, AreTerminalUnits-cons, AreTerminalUnits-head}
+use Rattle.textwrap_terminal.proofs.Units.{units-of, units-tile}
 use Rattle.textwrap_terminal.specs.States.{ends_common_part}
 use Rattle.textwrap_terminal.specs.TerminalUnits as specs
-use Rattle.textwrap_terminal.specs.TerminalUnits.{AreUnits, ends, ends_in, is_common, is_kept, IsOpen, IsWhole}
-use Rattle.textwrap_terminal.specs.TerminalUnits.{last_but_one, last_passes, terminal_units, terminal_width}
-use Rattle.textwrap_terminal.specs.TerminalUnits.{without_other_sequences}
-use Rattle.textwrap_terminal.specs.declared.states.Part.{Part}
+use Rattle.textwrap_terminal.specs.TerminalUnits.{AreTerminalUnits, ends_in, ends_sequence}
+use Rattle.textwrap_terminal.specs.TerminalUnits.{is_common, is_kept, IsOpenUnit, IsWholeUnit}
+use Rattle.textwrap_terminal.specs.TerminalUnits.{last_but_one, last_passes, terminal_units}
+use Rattle.textwrap_terminal.specs.TerminalUnits.{terminal_width, without_other_sequences}
 use Rattle.textwrap_terminal.specs.declared.states.Part.TheVariants.{Command}
+use Rattle.textwrap_terminal.specs.declared.states.Part.{Part}
+use Rattle.textwrap_text.proofs.Common.{IsUtf8-append, length, List, or_cases, refl, Sequence}
+use Rattle.textwrap_text.proofs.Common.{TextUnit, true, true≢false, unit_width, units_width}
+use Rattle.textwrap_text.proofs.Common.{Visible, visible_of, zero, zero-add, ℕ, [], ⊎_elim, ◌&&◌}
+use Rattle.textwrap_text.proofs.Common.{and_parts, ap, ap₂, arith, cases_Bool, characters}
+use Rattle.textwrap_text.proofs.Common.{chars_from_encodes, columns, drop, encode_utf8_all}
+use Rattle.textwrap_text.proofs.Common.{encodes-append, encodes-chars, eqb-true, escape, false}
+use Rattle.textwrap_text.proofs.Common.{false≢true, filter, flat_map, get_or, inl, inr, IsUtf8}
+use Rattle.textwrap_text.proofs.Common.{subst, suc, sum_by, sum_by-cons, sym, take, text_width}
+use Rattle.textwrap_text.proofs.Common.{◌+◌, ◌<◌, ◌==◌, ◌||◌, ◌∙◌, ◌∷◌, ◌≡◌, ◌⊎◌}
+use Rattle.textwrap_text.proofs.Texts.{utf8-back, utf8-front}
+use Rattle.textwrap_text.proofs.Units.Texts.{units_unique, units_width-is}
 use Rattle.textwrap_text.specs.Lists.{last}
+use Rattle.textwrap_text.specs.Units as library
+use Rattle.textwrap_text.specs.Units.{is_command_start, is_control_start}
 
 -- ---- a sequence that stays is whole, and whole for the library
 
@@ -58,14 +64,14 @@ common-passes part b (c ∷ cs) passes =
     ]
 
 library-ends : (start : ℕ) (cs : List ℕ) → (start ≡ 91) ⊎ (start ≡ 93)
-    → library.ends (start ∷ cs) ≡ true → ends escape (start ∷ cs) ≡ true
+    → library.ends (start ∷ cs) ≡ true → ends_sequence escape (start ∷ cs) ≡ true
 library-ends start cs (inl control) passes =
     rw control (sym (library-control cs) ∙ (rw control at passes))
 library-ends start cs (inr command) passes =
     rw command (common-passes Command 93 cs (sym (library-command cs) ∙ (rw command at passes)))
 
 library-before : (start : ℕ) (cs : List ℕ) (k : ℕ) → (start ≡ 91) ⊎ (start ≡ 93)
-    → ends escape (take k (start ∷ cs)) ≡ false → library.ends (take k (start ∷ cs)) ≡ false
+    → ends_sequence escape (take k (start ∷ cs)) ≡ false → library.ends (take k (start ∷ cs)) ≡ false
 library-before start cs zero starts on = refl
 library-before start cs (suc k) starts on =
     elim (cases_Bool (library.ends (start ∷ take k cs))) [
@@ -74,22 +80,22 @@ library-before start cs (suc k) starts on =
     ]
 
 sequence-whole : (cs : List ℕ) (c : ℕ) (body : List ℕ) → cs ≡ c ∷ body
-    → ((k : ℕ) → k < length body → ends c (take k body) ≡ false) → is_common cs ≡ true
-    → IsWhole (Sequence cs) × library.IsWhole (Sequence cs)
+    → ((k : ℕ) → k < length body → ends_sequence c (take k body) ≡ false) → is_common cs ≡ true
+    → IsWholeUnit (Sequence cs) × library.IsWhole (Sequence cs)
 sequence-whole cs c body shape before is =
     let h = IsCommon-from cs is in
     let rest = h.start ∷ h.rest in
     let same : c ∷ body ≡ escape ∷ rest = sym shape ∙ h.shape in
     let first : c ≡ escape = ap (λ l. get_or l 0 0) same in
     let others : body ≡ rest = ap (drop 1) same in
-    let early : (k : ℕ) → k < length rest → ends escape (take k rest) ≡ false = λ k below.
-    sym (ap₂ (λ x l. ends x (take k l)) first others)
+    let early : (k : ℕ) → k < length rest → ends_sequence escape (take k rest) ≡ false = λ k below.
+    sym (ap₂ (λ x l. ends_sequence x (take k l)) first others)
     ∙ before k (subst (λ l. k < length l) (sym others) below) in (
       (escape, rest, h.shape, refl, library-ends h.start h.rest h.starts h.ends, early),
       (rest, h.shape, h.ends, λ k below. library-before h.start h.rest k h.starts (early k below)),
     )
 
-kept-whole : (u : TextUnit) → IsWhole u ⊎ IsOpen u → is_kept u ≡ true → IsWhole u × library.IsWhole u
+kept-whole : (u : TextUnit) → IsWholeUnit u ⊎ IsOpenUnit u → is_kept u ≡ true → IsWholeUnit u × library.IsWhole u
 kept-whole (Visible c) (inl whole) is = (whole, λ e. true≢false (rw e at whole))
 kept-whole (Visible c) (inr open_last) is = absurd open_last
 kept-whole (Sequence cs) (inl (c, body, shape, opens, stop, before)) is =
@@ -104,15 +110,15 @@ library-cons : (u : TextUnit) (us : List TextUnit) → library.IsWhole u → lib
 library-cons u [] whole rest = inl whole
 library-cons u (v ∷ us) whole rest = (whole, rest)
 
-kept-are : (us : List TextUnit) → AreUnits us
-    → AreUnits (filter is_kept us) × library.AreUnits (filter is_kept us)
+kept-are : (us : List TextUnit) → AreTerminalUnits us
+    → AreTerminalUnits (filter is_kept us) × library.AreUnits (filter is_kept us)
 kept-are [] are = (tt, tt)
 kept-are (u ∷ us) are =
-    let (one, rest) = AreUnits-head u us are in
+    let (one, rest) = AreTerminalUnits-head u us are in
     let (terminal, common) = kept-are us rest in
     elim (cases_Bool (is_kept u)) [
       | inl stays ↦ let whole = kept-whole u one stays in rw stays (
-        AreUnits-cons u (filter is_kept us) whole.0 terminal,
+        AreTerminalUnits-cons u (filter is_kept us) whole.0 terminal,
         library-cons u (filter is_kept us) whole.1 common,
       )
       | inr dropped ↦ rw dropped (terminal, common)

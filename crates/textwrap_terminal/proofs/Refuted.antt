@@ -1,9 +1,9 @@
 -- What the wrong bodies of must-fail/ answer on worked rows, and that no contract allows it: each
 -- theorem bears the name of its edit.
-use Rattle.textwrap_text.proofs.Common.{[], arith, columns, ◌+◌, ◌∷◌, ◌≡◌, refl}
 use Rattle.std.specs.Str.{chars}
-use Rattle.textwrap_text.proofs.Units.Reading.{columns-printable}
 use Rattle.textwrap_terminal.specs.TerminalUnits.{terminal_width}
+use Rattle.textwrap_text.proofs.Common.{arith, columns, refl, [], ◌+◌, ◌∷◌, ◌≡◌}
+use Rattle.textwrap_text.proofs.Units.Reading.{columns-printable}
 
 -- DCS `a` BEL `b`: all of it is a sequence without an end, but `b` is visible where BEL ends it.
 pub device_string_ended_by_a_bell : 1 ≡ terminal_width (27 ∷ 80 ∷ 97 ∷ 7 ∷ 98 ∷ []) → ⊥

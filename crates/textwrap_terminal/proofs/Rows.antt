@@ -1,7 +1,7 @@
 -- Worked rows: the units of a text, and what is left of it.
 use Rattle.std.specs.Str.{chars}
-use Rattle.textwrap_text.proofs.Common.{[], List, map, refl, Sequence, Visible, ℕ, ◌∷◌, ◌≡◌}
 use Rattle.textwrap_terminal.specs.TerminalUnits.{kept, terminal_units}
+use Rattle.textwrap_text.proofs.Common.{List, map, refl, Sequence, Visible, ℕ, [], ◌∷◌, ◌≡◌}
 
 -- `ESC ( B`, and a text that it begins
 designation : terminal_units (27 ∷ 40 ∷ 66 ∷ 97 ∷ [])

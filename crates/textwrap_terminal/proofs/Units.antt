@@ -1,27 +1,28 @@
 -- The units of a text on a terminal: there is one list of them, and it is computed.
-use Rattle.textwrap_text.proofs.Common.{[], ap, ap₂, arith, Bool, cases_Bool, cases_lt, characters}
-use Rattle.textwrap_text.proofs.Common.{cond, drop, drop_all, false, flat_map, inl, inr}
-use Rattle.textwrap_text.proofs.Common.{length, length-append, length-take-le, List}
-use Rattle.textwrap_text.proofs.Common.{refl, Sequence, subst, suc, sym, take, take_all}
-use Rattle.textwrap_text.proofs.Common.{take_at, take-append-drop, take-append-le, take-take, TextUnit, true}
-use Rattle.textwrap_text.proofs.Common.{Visible, zero, ℕ, ⊎_elim, ◌++◌, ◌<◌, ◌↔◌, ◌∙◌, ◌∷◌, ◌≡◌, ◌≤◌, ◌⊎◌}
+use Rattle.textwrap_terminal.specs.TerminalUnits.{AreTerminalUnits, ends_sequence, first_len}
+use Rattle.textwrap_terminal.specs.TerminalUnits.{IsInTerminalUnits, IsOpenUnit, IsWholeUnit}
+use Rattle.textwrap_terminal.specs.TerminalUnits.{last_but_one, last_passes, opens_sequence}
+use Rattle.textwrap_terminal.specs.TerminalUnits.{taken_by, terminal_units, terminal_units_past}
+use Rattle.textwrap_text.proofs.Common.{ap, ap₂, arith, Bool, cases_Bool, cases_lt, characters}
+use Rattle.textwrap_text.proofs.Common.{cond, drop, drop_all, false, flat_map, inl, inr, length}
+use Rattle.textwrap_text.proofs.Common.{length-append, length-take-le, List, refl, Sequence, subst}
+use Rattle.textwrap_text.proofs.Common.{suc, sym, take, take-append-drop, take-append-le, take-take}
+use Rattle.textwrap_text.proofs.Common.{take_all, take_at, TextUnit, true, Visible, zero, ℕ, []}
+use Rattle.textwrap_text.proofs.Common.{⊎_elim, ◌++◌, ◌<◌, ◌↔◌, ◌∙◌, ◌∷◌, ◌≡◌, ◌≤◌, ◌⊎◌}
 use Rattle.textwrap_text.proofs.Lists.Parts.{last-cons}
-use Rattle.textwrap_terminal.specs.TerminalUnits.{AreUnits, ends, first_len, is_opening, IsInUnits}
-use Rattle.textwrap_terminal.specs.TerminalUnits.{IsOpen, IsWhole, last_but_one, last_passes, taken_at}
-use Rattle.textwrap_terminal.specs.TerminalUnits.{terminal_units, units_past}
 
 -- ---- the units tile the characters
 
-units_past-tile : (n : ℕ) (cs : List ℕ) → flat_map characters (units_past n cs) ≡ drop n cs
+units_past-tile : (n : ℕ) (cs : List ℕ) → flat_map characters (terminal_units_past n cs) ≡ drop n cs
 units_past-tile n [] = sym (drop_all n [] (omega arith))
 units_past-tile zero (c ∷ cs) =
-    grind (arith, take-append-drop, units_past-tile (first_len cs (ends c)) cs, units_past-tile 0 cs)
+    grind (arith, take-append-drop, units_past-tile (first_len cs (ends_sequence c)) cs, units_past-tile 0 cs)
 units_past-tile (suc n) (c ∷ cs) = units_past-tile n cs
 
 pub units-tile : (cs : List ℕ) → flat_map characters (terminal_units cs) ≡ cs
 units-tile cs = units_past-tile 0 cs
 
-units_past-end : (n : ℕ) (cs : List ℕ) → length cs ≤ n → units_past n cs ≡ []
+units_past-end : (n : ℕ) (cs : List ℕ) → length cs ≤ n → terminal_units_past n cs ≡ []
 units_past-end n [] short = refl
 units_past-end zero (c ∷ cs) short = absurd (omega arith)
 units_past-end (suc n) (c ∷ cs) short = units_past-end n cs (omega arith)
@@ -82,37 +83,37 @@ first-stops (c ∷ cs) passes = elim (cases_Bool (passes [])) [
 
 -- ---- the units of a text are units
 
-pub AreUnits-cons : (u : TextUnit) (us : List TextUnit) → IsWhole u → AreUnits us → AreUnits (u ∷ us)
-AreUnits-cons u [] whole rest = inl whole
-AreUnits-cons u (v ∷ us) whole rest = (whole, rest)
+pub AreTerminalUnits-cons : (u : TextUnit) (us : List TextUnit) → IsWholeUnit u → AreTerminalUnits us → AreTerminalUnits (u ∷ us)
+AreTerminalUnits-cons u [] whole rest = inl whole
+AreTerminalUnits-cons u (v ∷ us) whole rest = (whole, rest)
 
-sequence-units : (c : ℕ) (cs : List ℕ) (n : ℕ) → is_opening c ≡ true → StopsAt (ends c) cs n
-    → AreUnits (units_past n cs) → AreUnits (Sequence (c ∷ take n cs) ∷ units_past n cs)
+sequence-units : (c : ℕ) (cs : List ℕ) (n : ℕ) → opens_sequence c ≡ true → StopsAt (ends_sequence c) cs n
+    → AreTerminalUnits (terminal_units_past n cs) → AreTerminalUnits (Sequence (c ∷ take n cs) ∷ terminal_units_past n cs)
 sequence-units c cs n opens stops rest =
     let len : length (take n cs) ≡ n = length-take-le n cs stops.within in
-    let before : (k : ℕ) → k < n → ends c (take k (take n cs)) ≡ false = grind (arith, take-take) in
+    let before : (k : ℕ) → k < n → ends_sequence c (take k (take n cs)) ≡ false = grind (arith, take-take) in
     ⊎_elim
-    (λ (passed : ends c (take n cs) ≡ true). AreUnits-cons (Sequence (c ∷ take n cs))
-    (units_past n cs) (c, take n cs, refl, opens, passed, λ k below. before k (omega arith)) rest)
+    (λ (passed : ends_sequence c (take n cs) ≡ true). AreTerminalUnits-cons (Sequence (c ∷ take n cs))
+    (terminal_units_past n cs) (c, take n cs, refl, opens, passed, λ k below. before k (omega arith)) rest)
     (grind (arith, take_all, units_past-end)) stops.stop
 
-AreUnits-at : (c : ℕ) (cs : List ℕ) (b : Bool) → is_opening c ≡ b
-    → AreUnits (units_past (cond b (first_len cs (ends c)) 0) cs)
-    → AreUnits (cond b (Sequence (c ∷ take (first_len cs (ends c)) cs)) (Visible c) ∷ units_past
-    (cond b (first_len cs (ends c)) 0) cs)
-AreUnits-at c cs true is rest =
-    sequence-units c cs (first_len cs (ends c)) is (first-stops cs (ends c)) rest
-AreUnits-at c cs false is rest =
-    AreUnits-cons (Visible c) (units_past 0 cs) is rest
+AreTerminalUnits-at : (c : ℕ) (cs : List ℕ) (b : Bool) → opens_sequence c ≡ b
+    → AreTerminalUnits (terminal_units_past (cond b (first_len cs (ends_sequence c)) 0) cs)
+    → AreTerminalUnits (cond b (Sequence (c ∷ take (first_len cs (ends_sequence c)) cs)) (Visible c) ∷ terminal_units_past
+    (cond b (first_len cs (ends_sequence c)) 0) cs)
+AreTerminalUnits-at c cs true is rest =
+    sequence-units c cs (first_len cs (ends_sequence c)) is (first-stops cs (ends_sequence c)) rest
+AreTerminalUnits-at c cs false is rest =
+    AreTerminalUnits-cons (Visible c) (terminal_units_past 0 cs) is rest
 
-AreUnits-units_past : (cs : List ℕ) (n : ℕ) → AreUnits (units_past n cs)
-AreUnits-units_past [] n = tt
-AreUnits-units_past (c ∷ cs) zero =
-    AreUnits-at c cs (is_opening c) refl (AreUnits-units_past cs (taken_at c cs))
-AreUnits-units_past (c ∷ cs) (suc n) = AreUnits-units_past cs n
+AreTerminalUnits-units_past : (cs : List ℕ) (n : ℕ) → AreTerminalUnits (terminal_units_past n cs)
+AreTerminalUnits-units_past [] n = tt
+AreTerminalUnits-units_past (c ∷ cs) zero =
+    AreTerminalUnits-at c cs (opens_sequence c) refl (AreTerminalUnits-units_past cs (taken_by c cs))
+AreTerminalUnits-units_past (c ∷ cs) (suc n) = AreTerminalUnits-units_past cs n
 
-pub are_units : (cs : List ℕ) → AreUnits (terminal_units cs)
-are_units cs = AreUnits-units_past cs 0
+pub are_units : (cs : List ℕ) → AreTerminalUnits (terminal_units cs)
+are_units cs = AreTerminalUnits-units_past cs 0
 
 -- ---- and no other list is
 
@@ -121,27 +122,27 @@ record Begins (cs : List ℕ) (us : List TextUnit) : Type 0 where
   opening : ℕ
   body : List ℕ
   shape : cs ≡ opening ∷ body
-  opens : is_opening opening ≡ true
-  before : (k : ℕ) → k < length body → ends opening (take k body) ≡ false
-  stop : (ends opening body ≡ true) ⊎ (flat_map characters us ≡ [])
-  rest : AreUnits us
+  opens : opens_sequence opening ≡ true
+  before : (k : ℕ) → k < length body → ends_sequence opening (take k body) ≡ false
+  stop : (ends_sequence opening body ≡ true) ⊎ (flat_map characters us ≡ [])
+  rest : AreTerminalUnits us
 
-Begins-from : (cs : List ℕ) (us : List TextUnit) → AreUnits (Sequence cs ∷ us) → Begins cs us
+Begins-from : (cs : List ℕ) (us : List TextUnit) → AreTerminalUnits (Sequence cs ∷ us) → Begins cs us
 Begins-from cs [] (inl whole) = grind arith
 Begins-from cs [] (inr open_last) = grind arith
 Begins-from cs (v ∷ us) (whole, rest) = grind arith
 
 -- the first unit is whole, or the last and open
-pub AreUnits-head : (u : TextUnit) (us : List TextUnit) → AreUnits (u ∷ us)
-    → (IsWhole u ⊎ IsOpen u) × AreUnits us
-AreUnits-head u [] are = (are, tt)
-AreUnits-head u (v ∷ us) (whole, rest) = (inl whole, rest)
+pub AreTerminalUnits-head : (u : TextUnit) (us : List TextUnit) → AreTerminalUnits (u ∷ us)
+    → (IsWholeUnit u ⊎ IsOpenUnit u) × AreTerminalUnits us
+AreTerminalUnits-head u [] are = (are, tt)
+AreTerminalUnits-head u (v ∷ us) (whole, rest) = (inl whole, rest)
 
-AreUnits-visible : (c : ℕ) (us : List TextUnit) → AreUnits (Visible c ∷ us)
-    → (is_opening c ≡ false) × AreUnits us
-AreUnits-visible c [] (inl whole) = (whole, tt)
-AreUnits-visible c [] (inr open_last) = absurd open_last
-AreUnits-visible c (v ∷ us) (whole, rest) = (whole, rest)
+AreTerminalUnits-visible : (c : ℕ) (us : List TextUnit) → AreTerminalUnits (Visible c ∷ us)
+    → (opens_sequence c ≡ false) × AreTerminalUnits us
+AreTerminalUnits-visible c [] (inl whole) = (whole, tt)
+AreTerminalUnits-visible c [] (inr open_last) = absurd open_last
+AreTerminalUnits-visible c (v ∷ us) (whole, rest) = (whole, rest)
 
 -- what passes, or is all, but has no beginning that passes, is where it stops
 StopsAt-whole : (passes : List ℕ → Bool) (body rest : List ℕ) (n : ℕ)
@@ -151,14 +152,14 @@ StopsAt-whole passes body rest n stops before stop =
     let first : take (length body) (body ++ rest) ≡ body = take_at body rest (length body) refl in
     grind (arith, cases_lt, take-append-le, length-append)
 
-units_past-skip : (xs ys : List ℕ) → units_past (length xs) (xs ++ ys) ≡ terminal_units ys
+units_past-skip : (xs ys : List ℕ) → terminal_units_past (length xs) (xs ++ ys) ≡ terminal_units ys
 units_past-skip [] ys = refl
 units_past-skip (x ∷ xs) ys = units_past-skip xs ys
 
-pub units-of : (us : List TextUnit) → AreUnits us → terminal_units (flat_map characters us) ≡ us
+pub units-of : (us : List TextUnit) → AreTerminalUnits us → terminal_units (flat_map characters us) ≡ us
 units-of [] are = refl
 units-of (Visible c ∷ us) are =
-    let (other, rest) = AreUnits-visible c us are in
+    let (other, rest) = AreTerminalUnits-visible c us are in
     rw other (ap (λ l. Visible c ∷ l) (units-of us rest))
 units-of (Sequence cs ∷ us) are =
     let h = Begins-from cs us are in
@@ -166,15 +167,15 @@ units-of (Sequence cs ∷ us) are =
     rw (
       h.shape,
       h.opens,
-      StopsAt-whole (ends h.opening) h.body others _ (first-stops (h.body ++ others) (ends h.opening))
+      StopsAt-whole (ends_sequence h.opening) h.body others _ (first-stops (h.body ++ others) (ends_sequence h.opening))
           h.before h.stop,
       take_at h.body others (length h.body) refl,
       units_past-skip h.body others,
       units-of us h.rest,
     ) refl
 
-pub units_unique : (cs : List ℕ) (us : List TextUnit) → IsInUnits cs us ↔ (us ≡ terminal_units cs)
+pub units_unique : (cs : List ℕ) (us : List TextUnit) → IsInTerminalUnits cs us ↔ (us ≡ terminal_units cs)
 units_unique cs us = (
   λ is. sym (units-of us is.1) ∙ ap terminal_units is.0,
-  λ is. subst (IsInUnits cs) (sym is) (units-tile cs, are_units cs),
+  λ is. subst (IsInTerminalUnits cs) (sym is) (units-tile cs, are_units cs),
 )

@@ -20,8 +20,8 @@ abbrev pub is_control : ℕ → Bool
 is_control = is_in_range 0x80 0x9F
 
 -- a sequence begins with ESC, or with such a character
-abbrev pub is_opening : ℕ → Bool
-is_opening c = (c == escape) || is_control c
+abbrev pub opens_sequence : ℕ → Bool
+opens_sequence c = (c == escape) || is_control c
 
 -- what a control character of C1 has behind it: CSI the rest of a control sequence (5.4), OSC that
 -- of a command, and DCS, SOS, PM and APC that of another control string (5.6)
@@ -32,12 +32,12 @@ control_part c =
     else if (c == 0x90) || (c == 0x98) || (c == 0x9E) || (c == 0x9F) then Some Other
     else None
 
--- a character that stands between ESC and the last character of its sequence
+-- a character that stands between ESC and the last character of its sequence (ECMA-35)
 abbrev pub is_intermediate : ℕ → Bool
 is_intermediate = is_in_range 0x20 0x2F
 
--- what is behind ESC and this character, which together are the 7-bit form of the control character
--- that stands 64 places later (5.3)
+-- what is behind ESC and this character: more intermediates (ECMA-35), or what the control character
+-- has that stands 64 places later, since ESC and a character from `@` to `_` are its 7-bit form (5.3)
 abbrev pub escape_part : ℕ → Option Part
 escape_part c = if is_intermediate c then Some Intermediates else control_part (c + 64)
 
@@ -74,35 +74,36 @@ ends_escape (c ∷ cs) = ends_behind (escape_part c) c cs
 
 -- the last of these characters, which follow what opens a sequence, ends it, unless one before it
 -- did, or the opening alone is whole
-abbrev pub ends : ℕ → List ℕ → Bool
-ends opening cs =
+abbrev pub ends_sequence : ℕ → List ℕ → Bool
+ends_sequence opening cs =
     if opening == escape then ends_escape cs else ends_behind (control_part opening) opening cs
 
 -- ---- what a unit is
 
 -- a visible character, or what opens a sequence and all characters up to the first that ends it
-abbrev pub IsWhole : TextUnit → Type 0
-IsWhole (Visible c) = is_opening c ≡ false
-IsWhole (Sequence cs) =
-    (c : ℕ) × (body : List ℕ) × (cs ≡ c ∷ body) × (is_opening c ≡ true) × (ends c body ≡ true)
-    × ((k : ℕ) → k < length body → ends c (take k body) ≡ false)
+abbrev pub IsWholeUnit : TextUnit → Type 0
+IsWholeUnit (Visible c) = opens_sequence c ≡ false
+IsWholeUnit (Sequence cs) =
+    (c : ℕ) × (body : List ℕ) × (cs ≡ c ∷ body) × (opens_sequence c ≡ true)
+    × (ends_sequence c body ≡ true)
+    × ((k : ℕ) → k < length body → ends_sequence c (take k body) ≡ false)
 
 -- what opens a sequence, and characters of which none ends it
-abbrev pub IsOpen : TextUnit → Type 0
-IsOpen (Visible c) = ⊥
-IsOpen (Sequence cs) =
-    (c : ℕ) × (body : List ℕ) × (cs ≡ c ∷ body) × (is_opening c ≡ true)
-    × ((k : ℕ) → k ≤ length body → ends c (take k body) ≡ false)
+abbrev pub IsOpenUnit : TextUnit → Type 0
+IsOpenUnit (Visible c) = ⊥
+IsOpenUnit (Sequence cs) =
+    (c : ℕ) × (body : List ℕ) × (cs ≡ c ∷ body) × (opens_sequence c ≡ true)
+    × ((k : ℕ) → k ≤ length body → ends_sequence c (take k body) ≡ false)
 
 -- each unit is whole, but the last may be a sequence without an end
-abbrev pub AreUnits : List TextUnit → Type 0
-AreUnits [] = ⊤
-AreUnits (u ∷ []) = IsWhole u ⊎ IsOpen u
-AreUnits (u ∷ v ∷ us) = IsWhole u × AreUnits (v ∷ us)
+abbrev pub AreTerminalUnits : List TextUnit → Type 0
+AreTerminalUnits [] = ⊤
+AreTerminalUnits (u ∷ []) = IsWholeUnit u ⊎ IsOpenUnit u
+AreTerminalUnits (u ∷ v ∷ us) = IsWholeUnit u × AreTerminalUnits (v ∷ us)
 
 -- the characters are those of these units
-abbrev pub IsInUnits : List ℕ → List TextUnit → Type 0
-IsInUnits cs us = (flat_map characters us ≡ cs) × AreUnits us
+abbrev pub IsInTerminalUnits : List ℕ → List TextUnit → Type 0
+IsInTerminalUnits cs us = (flat_map characters us ≡ cs) × AreTerminalUnits us
 
 -- ---- the units, computed
 
@@ -113,20 +114,21 @@ first_len (c ∷ cs) passes =
     if passes [] then 0 else suc (first_len cs (λ front. passes (c ∷ front)))
 
 -- the unit that begins with c, and how many of the characters after c it takes
-abbrev pub unit_at : ℕ → List ℕ → TextUnit
-unit_at c cs = if is_opening c then Sequence (c ∷ take (first_len cs (ends c)) cs) else Visible c
+abbrev pub first_unit_of : ℕ → List ℕ → TextUnit
+first_unit_of c cs =
+    if opens_sequence c then Sequence (c ∷ take (first_len cs (ends_sequence c)) cs) else Visible c
 
-abbrev pub taken_at : ℕ → List ℕ → ℕ
-taken_at c cs = if is_opening c then first_len cs (ends c) else 0
+abbrev pub taken_by : ℕ → List ℕ → ℕ
+taken_by c cs = if opens_sequence c then first_len cs (ends_sequence c) else 0
 
 -- the units after the first n characters
-abbrev pub units_past : ℕ → List ℕ → List TextUnit
-units_past n [] = []
-units_past zero (c ∷ cs) = unit_at c cs ∷ units_past (taken_at c cs) cs
-units_past (suc n) (c ∷ cs) = units_past n cs
+abbrev pub terminal_units_past : ℕ → List ℕ → List TextUnit
+terminal_units_past n [] = []
+terminal_units_past zero (c ∷ cs) = first_unit_of c cs ∷ terminal_units_past (taken_by c cs) cs
+terminal_units_past (suc n) (c ∷ cs) = terminal_units_past n cs
 
 abbrev pub terminal_units : List ℕ → List TextUnit
-terminal_units cs = units_past 0 cs
+terminal_units cs = terminal_units_past 0 cs
 
 -- ---- width
 

@@ -56,7 +56,7 @@ impl Part {
 
 /// What the next character of a text belongs to. After `"\x1b["` it is in `Part::Control`.
 #[derive(Clone, Copy, Debug, PartialEq, Eq)]
-pub enum State {
+pub enum TerminalState {
     /// No sequence: it is visible unless it opens one.
     Text,
     /// The sequence of the ESC that was just read.
@@ -65,32 +65,38 @@ pub enum State {
     Inside(Part, char),
 }
 
-impl State {
-    ghost use Rattle.textwrap_terminal.specs.States.{ends_common, entered, next_of, shows};
+impl TerminalState {
+    ghost use Rattle.textwrap_terminal.specs.States.{ends_common, entered, next_state, is_shown};
 
     /// The state before a part of a sequence, behind this character.
-    fn entered(part: Option<Part>, ch: char) -> State
+    fn entered(part: Option<Part>, ch: char) -> TerminalState
         ensures { result ≡ entered part ch }
     {
         match part {
-            Some(part) => State::Inside(part, ch),
-            None => State::Text,
+            Some(part) => TerminalState::Inside(part, ch),
+            None => TerminalState::Text,
         }
     }
 
     /// The state after a character, and whether the character is visible.
-    pub fn step(self, ch: char) -> (State, bool)
-        ensures { result ≡ (next_of self ch, shows self ch) }
+    pub fn step(self, ch: char) -> (TerminalState, bool)
+        ensures { result ≡ (next_state self ch, is_shown self ch) }
     {
         match self {
-            State::Text if ch == '\x1b' => (State::Escape, false),
-            State::Text => {
+            TerminalState::Text if ch == '\x1b' => (TerminalState::Escape, false),
+            TerminalState::Text => {
                 let is_visible = !matches!(ch, '\u{80}'..='\u{9f}');
-                (State::entered(Part::of_control(ch as u32), ch), is_visible)
+                (
+                    TerminalState::entered(Part::of_control(ch as u32), ch),
+                    is_visible,
+                )
             }
-            State::Escape => (State::entered(Part::of_escape(ch), ch), false),
-            State::Inside(part, before) if part.is_ended(before, ch) => (State::Text, false),
-            State::Inside(part, _) => (State::Inside(part, ch), false),
+            TerminalState::Escape => (TerminalState::entered(Part::of_escape(ch), ch), false),
+            TerminalState::Inside(part, before) if part.is_ended(before, ch) => (
+                TerminalState::Text,
+                false,
+            ),
+            TerminalState::Inside(part, _) => (TerminalState::Inside(part, ch), false),
         }
     }
 
@@ -99,8 +105,8 @@ impl State {
         ensures { result ≡ ends_common self ch }
     {
         match self {
-            State::Inside(Part::Control, _) => matches!(ch, '@'..='~'),
-            State::Inside(Part::Command, before) => {
+            TerminalState::Inside(Part::Control, _) => matches!(ch, '@'..='~'),
+            TerminalState::Inside(Part::Command, before) => {
                 ch == '\x07' || before == '\x1b' && ch == '\\'
             }
             _ => false,

@@ -5,7 +5,7 @@ ghost use Rattle.textwrap_terminal.specs.States.{stays};
 ghost use Rattle.textwrap_terminal.specs.Stripped.{cow_bytes, is_borrowed};
 ghost use Rattle.textwrap_terminal.specs.TerminalUnits.{without_other_sequences, has_no_other};
 
-use crate::states::State;
+use crate::states::TerminalState;
 use std::alloc::{AllocError, Allocator};
 use std::borrow::CowStr;
 
@@ -82,10 +82,10 @@ fn first_unit(text: &str) -> (usize, bool)
     let Some((_, first)) = chars.next() else {
         unreachable!();
     };
-    let (mut state, _) = State::Text.step(first);
+    let (mut state, _) = TerminalState::Text.step(first);
     let mut is_common = false;
     for (at, ch) in chars {
-        if matches!(state, State::Text) {
+        if matches!(state, TerminalState::Text) {
             return (at, stays(first, is_common));
         }
         is_common = state.ends_common(ch);
@@ -99,6 +99,6 @@ fn first_unit(text: &str) -> (usize, bool)
 fn stays(first: char, is_common: bool) -> bool
     ensures { result ≡ stays first is_common }
 {
-    let (_, is_visible) = State::Text.step(first);
+    let (_, is_visible) = TerminalState::Text.step(first);
     is_visible || first == '\x1b' && is_common
 }

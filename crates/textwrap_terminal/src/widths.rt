@@ -2,7 +2,7 @@
 ghost use Rattle.std.specs.Prelude.{◌≡◌, ◌≤◌, length};
 ghost use Rattle.textwrap_terminal.specs.TerminalUnits.{terminal_width};
 
-use crate::states::State;
+use crate::states::TerminalState;
 use textwrap_text::characters::columns;
 
 /// The width of a text in terminal columns, where its sequences are read by the whole grammar of
@@ -22,7 +22,7 @@ pub fn terminal_width(text: &str) -> usize
     ensures width { result ≡ terminal_width text.now }
     ensures bound { result ≤ length text.now }
 {
-    let mut state = State::Text;
+    let mut state = TerminalState::Text;
     let mut width = 0;
     for (_, ch) in text.char_indices() {
         let (next, is_visible) = state.step(ch);

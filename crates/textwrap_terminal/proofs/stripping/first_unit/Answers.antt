@@ -1,12 +1,12 @@
-use Rattle.textwrap_terminal.proofs.stripping.first_unit.Goals as goal
 use Rattle.std.specs.Prelude.{encode_utf8}
-use Rattle.textwrap_text.proofs.Units.Reading.{read-all}
-use Rattle.textwrap_terminal.specs.States.{stays}
-use Rattle.textwrap_text.proofs.Common.{ap, drop, inl, inr, length, subst, sym, true≢false}
-use Rattle.textwrap_text.proofs.Common.{◌+◌, ◌∙◌, ◌≡◌, ◌≢◌}
 use Rattle.textwrap_terminal.proofs.Kept.{first-end, first-start, first-step, IsFirst}
+use Rattle.textwrap_terminal.proofs.stripping.first_unit.Goals as goal
 use Rattle.textwrap_terminal.proofs.stripping.first_unit.Goals.{After-stays, After-stays-2}
-use Rattle.textwrap_terminal.specs.declared.states.State.TheVariants.{Text}
+use Rattle.textwrap_terminal.specs.States.{stays}
+use Rattle.textwrap_terminal.specs.declared.states.TerminalState.TheVariants.{Text}
+use Rattle.textwrap_text.proofs.Common.{ap, drop, inl, inr, length, subst, sym, true≢false, ◌+◌}
+use Rattle.textwrap_text.proofs.Common.{◌∙◌, ◌≡◌, ◌≢◌}
+use Rattle.textwrap_text.proofs.Units.Reading.{read-all}
 
 pub loop-at-init : goal.loop-at-init
 loop-at-init c =

@@ -1,6 +1,6 @@
+use Rattle.textwrap_terminal.proofs.Kept.{IsInFirst}
 use Rattle.textwrap_terminal.proofs.stripping.first_unit.Given as goal
 use Rattle.textwrap_text.proofs.Common.{char_indices_offset, char_indices_rest}
-use Rattle.textwrap_terminal.proofs.Kept.{IsInFirst}
 
 -- the iterator has left what the reader has not read
 abbrev pub invariant-loop-at : goal.invariant-loop-at

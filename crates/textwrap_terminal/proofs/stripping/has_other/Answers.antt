@@ -1,6 +1,6 @@
+use Rattle.textwrap_terminal.proofs.Kept.{other-none}
 use Rattle.textwrap_terminal.proofs.stripping.has_other.Goals as goal
 use Rattle.textwrap_text.proofs.Common.{ap, eqb-true, length, not, sym, ◌∙◌}
-use Rattle.textwrap_terminal.proofs.Kept.{other-none}
 
 pub returns : goal.returns
 returns c = sym (ap not (c.loop-rest.invariant.same ∙ other-none c.loop-rest.rest.now

@@ -1,6 +1,7 @@
-use Rattle.textwrap_terminal.proofs.stripping.push_kept.Goals as goal
-use Rattle.textwrap_text.proofs.Common.{ap, append-nil, eqb-true, length, string_bytes, sym, ◌++◌, ◌∙◌}
 use Rattle.textwrap_terminal.proofs.Kept.{kept-none}
+use Rattle.textwrap_terminal.proofs.stripping.push_kept.Goals as goal
+use Rattle.textwrap_text.proofs.Common.{ap, append-nil, eqb-true, length, string_bytes, sym, ◌++◌}
+use Rattle.textwrap_text.proofs.Common.{◌∙◌}
 
 pub returns : goal.returns
 returns g c = sym (c.loop-rest.invariant.whole ∙ ap (λ l. string_bytes c.loop-rest.plain ++ l)

@@ -1,7 +1,9 @@
+use Rattle.textwrap_terminal.proofs.Reading.{added, IsMeasured, measured-end, measured-start}
+use Rattle.textwrap_terminal.proofs.Reading.{measured-step}
 use Rattle.textwrap_terminal.proofs.widths.terminal_width.Goals as goal
-use Rattle.textwrap_terminal.proofs.Reading.{added, IsMeasured, measured-end, measured-start, measured-step}
 use Rattle.textwrap_terminal.proofs.widths.terminal_width.Goals.{Joined-is_visible}
-use Rattle.textwrap_text.proofs.Common.{arith, char_indices_offset, char_indices_rest, sym, ◌+◌, ◌∙◌, ◌≡◌}
+use Rattle.textwrap_text.proofs.Common.{arith, char_indices_offset, char_indices_rest, sym, ◌+◌}
+use Rattle.textwrap_text.proofs.Common.{◌∙◌, ◌≡◌}
 
 pub loop-ch-init : goal.loop-ch-init
 loop-ch-init c = grind (arith, measured-start)

@@ -1,0 +1,4 @@
+pub mod TerminalUnits
+pub mod States
+pub mod Laws
+pub mod Stripped

@@ -60,6 +60,8 @@ PROVED(ends_at);
 PROVED(lines_at);
 PROVED(table);
 PROVED(table_of_lines);
+PROVED(terminal_width);
+PROVED(strip_other_sequences);
 PROVED(wrap_at);
 PROVED(fill_at);
 
@@ -497,6 +499,15 @@ textwrap_status textwrap_table_of_lines(const textwrap_cell *cells, size_t cells
     textwrap_gaps around = some_gaps(gaps);
     return proved_table_of_lines(ARRAY(cells, cells_len), ARRAY(columns, columns_len), &around,
                                  ARRAY(rows, rows_len), count, ARRAY(room, room_len), len);
+}
+
+textwrap_status textwrap_terminal_width(const uint8_t *text, size_t text_len, size_t *columns) {
+    return proved_terminal_width(ARRAY(text, text_len), columns);
+}
+
+textwrap_status textwrap_strip_other_sequences(const uint8_t *text, size_t text_len, uint8_t *room,
+                                               size_t room_len, size_t *len) {
+    return proved_strip_other_sequences(ARRAY(text, text_len), ARRAY(room, room_len), len);
 }
 
 textwrap_status textwrap_wrap_at(const uint8_t *text, size_t text_len, const textwrap_steps *steps,

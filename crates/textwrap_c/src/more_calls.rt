@@ -44,6 +44,7 @@ ghost use Rattle.textwrap_more_calls.specs.Tables.{shape_of_column};
 ghost use Rattle.textwrap_more_calls.specs.TextSteps.{AreStepsOf, filled_at, text_step_cuts};
 ghost use Rattle.textwrap_plain.specs.Options.{split_by_points, words_by};
 ghost use Rattle.textwrap_plain.specs.Tables.{IsPlainTable};
+ghost use Rattle.textwrap_terminal.specs.TerminalUnits.{terminal_width, without_other_sequences};
 ghost use Rattle.textwrap_text.specs.LineEnding.{ending_bytes, paragraphs_of};
 ghost use Rattle.textwrap_text.specs.Units.{stripped};
 ghost use Rattle.textwrap_unicode.specs.Cuts.{unicode_cuts};
@@ -67,7 +68,7 @@ use textwrap_more_calls::steps::TextwrapSteps;
 use textwrap_more_calls::tables::{TextwrapCell, TextwrapColumn};
 use textwrap_more_calls::{
     attributes, balancing, breaks, fitting, fragments, justified_steps, paragraphs, pieces, steps,
-    tables, text_steps,
+    tables, terminal, text_steps,
 };
 
 /// Exports [`textwrap_more_calls::attributes::textwrap_carry_attributes`].
@@ -583,6 +584,33 @@ pub extern "C" fn textwrap_table_of_lines(
     ensures statuses { result ≤ unknown_options }
 {
     tables::textwrap_table_of_lines(alloc, cells, columns, gaps, rows, count, room, len)
+}
+
+/// Exports [`textwrap_more_calls::terminal::textwrap_terminal_width`].
+#[unsafe(no_mangle)]
+pub extern "C" fn textwrap_terminal_width(text: &[u8], columns: &mut usize) -> u32
+    ensures written { result ≡ done → columns.new ≡ terminal_width text.now }
+    ensures done { result ≡ done ↔ IsUtf8 text.now }
+    ensures not_utf8 { result ≢ done → result ≡ not_utf8 }
+    ensures kept { result ≢ done → columns.new ≡ columns.old }
+{
+    terminal::textwrap_terminal_width(text, columns)
+}
+
+/// Exports [`textwrap_more_calls::terminal::textwrap_strip_other_sequences`].
+#[unsafe(no_mangle)]
+pub extern "C" fn textwrap_strip_other_sequences(
+    alloc: Global,
+    text: &[u8],
+    room: &mut [u8],
+    len: &mut usize,
+) -> u32
+    ensures stripped { WritesText (λ answer. answer ≡ without_other_sequences text.now)
+        result room.old room.new len.old len.new }
+    ensures not_utf8 { result ≡ not_utf8 ↔ ¬ IsUtf8 text.now }
+    ensures statuses { result ≤ too_small }
+{
+    terminal::textwrap_strip_other_sequences(alloc, text, room, len)
 }
 
 /// Exports [`textwrap_more_calls::text_steps::textwrap_wrap_at`].

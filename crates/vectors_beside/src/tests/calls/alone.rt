@@ -33,7 +33,12 @@ fn told_terminal_width(text: &[u8]) -> (u32, usize) {
 
 #[test]
 fn columns_are_counted_as_by_a_terminal(rt: HostRuntime) {
-    assert_told(&rt, 0, told_terminal_width(b"\x1b(BCaf\xc3\xa9\x1b[m\x1bP1q\x1b\\"), (DONE, 4));
+    assert_told(
+        &rt,
+        0,
+        told_terminal_width(b"\x1b(BCaf\xc3\xa9\x1b[m\x1bP1q\x1b\\"),
+        (DONE, 4),
+    );
     assert_told(&rt, 1, told_terminal_width(b"Caf\xe9"), (NOT_UTF8, BEFORE));
 }
 

@@ -1,12 +1,12 @@
 //! Texts, wrapped and filled by options without functions.
-ghost use Rattle.std.specs.Prelude.{◌≡◌, ℕ, List, length, None, Some, IfErr, IfOk, IsOk, map};
+ghost use Rattle.std.specs.Prelude.{◌≡◌, ℕ, List, length, Some, IfErr, IfOk, IsOk, map};
 ghost use Rattle.std.specs.Prelude.{string_bytes, true};
 ghost use Rattle.textwrap.specs.Filling.{IsFilled};
 ghost use Rattle.textwrap.specs.Paragraph.{line_view};
 ghost use Rattle.textwrap.specs.Text.{ArePrintedWithin, CanKeepToWidth, IsWrapped, LinesKeepToWidth};
 ghost use Rattle.textwrap.specs.WrapAlgorithms.{ByFirstFit};
 ghost use Rattle.textwrap_plain.specs.Options.{plain_algorithm, DividesPlainly, plain_settings};
-ghost use Rattle.textwrap_plain.specs.Options.{AreDirect, HasRoomForHyphen, adds_as, plain_splitter};
+ghost use Rattle.textwrap_plain.specs.Options.{AreDirect, HasRoomForHyphen, adds_as};
 ghost use Rattle.textwrap_plain.specs.Hyphenated.{AddOnlyHyphens, AreTheText, LinesKeepButHyphens};
 ghost use Rattle.textwrap_text.specs.LentText.{as_len, written_over};
 ghost use Rattle.textwrap_base.specs.Errors.{OnlyMemoryRunsOut};

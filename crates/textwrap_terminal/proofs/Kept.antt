@@ -1,5 +1,5 @@
--- The first unit of a text, and whether it stays: the reader tells which sequences the library takes
--- as such.
+-- The first unit of a text, and whether it stays: the reader tells which sequences the library
+-- takes as such.
 use Rattle.std.proofs.lemmas.Str.{len_utf8_bounds}
 use Rattle.std.specs.Prelude.{chars, encode_utf8}
 use Rattle.textwrap_terminal.proofs.Reading.{units_in, units_in-inside, units_in-text}
@@ -52,7 +52,8 @@ common-text [] is = refl
 common-text (c ∷ cs) is = refl
 
 -- what ends a sequence for the library ends it
-pub common-ends : (part : Part) (b c : ℕ) → ends_in part b c ≡ false → ends_common_part part b c ≡ false
+pub common-ends : (part : Part) (b c : ℕ) → ends_in part b c ≡ false
+    → ends_common_part part b c ≡ false
 common-ends Control b c on = on
 common-ends Command b c on = grind (arith, cases_Bool, nat_tests)
 common-ends Other b c on = refl
@@ -108,10 +109,12 @@ pub escape-common : (d : ℕ) (cs : List ℕ)
     → is_common (escape ∷ take (first_len (d ∷ cs) (ends_sequence escape)) (d ∷ cs))
     ≡ common_in (d ∷ cs) Escape false
 escape-common d cs = elim (cases_eq d 91) [
-  | inl control ↦ rw control (library-control (take (first_len cs (last_passes (ends_in Control) 91)) cs)
+  | inl control ↦ rw control
+      (library-control (take (first_len cs (last_passes (ends_in Control) 91)) cs)
       ∙ sym (common-part Control 91 cs))
   | inr other ↦ elim (cases_eq d 93) [
-    | inl command ↦ rw command (library-command (take (first_len cs (last_passes (ends_in Command) 93)) cs)
+    | inl command ↦ rw command
+        (library-command (take (first_len cs (last_passes (ends_in Command) 93)) cs)
         ∙ sym (common-part Command 93 cs))
     | inr neither ↦ rw (ne_eqb d 91 other, ne_eqb d 93 neither)
         (sym (not-common (escape_part d) d cs (no-control d other) (no-command d neither)))
@@ -135,7 +138,8 @@ first-stays c cs = elim (cases_Bool (opens_sequence c)) [
 ]
   where
     after-escape : (cs : List ℕ)
-        → is_common (escape ∷ take (first_len cs (ends_sequence escape)) cs) ≡ common_in cs Escape false
+        → is_common (escape ∷ take (first_len cs (ends_sequence escape)) cs)
+        ≡ common_in cs Escape false
     after-escape [] = refl
     after-escape (d ∷ cs) = escape-common d cs
 
@@ -180,7 +184,8 @@ module _ {text : List ℕ} {place : ℕ} {rest : List ℕ} {state : TerminalStat
       }
 
   first-over : (state ≡ Text) ⊎ (length rest ≡ 0)
-      → (units_in state (chars rest) ≡ terminal_units (chars rest)) × (common_in (chars rest) state is ≡ is)
+      → (units_in state (chars rest) ≡ terminal_units (chars rest))
+      × (common_in (chars rest) state is ≡ is)
   first-over (inl over) = rw over (refl, common-text (chars rest) is)
   first-over (inr none) = rw (read-none h.read none) (refl, refl)
 
@@ -190,7 +195,8 @@ module _ {text : List ℕ} {place : ℕ} {rest : List ℕ} {state : TerminalStat
   first-bytes utf8 units =
       let unit = encode_utf8_all (characters h.unit) in
       let tiles : chars text ≡ characters h.unit ++ chars rest = sym (units-tile (chars text))
-      ∙ ap (flat_map characters) units ∙ ap (λ l. characters h.unit ++ l) (units-tile (chars rest)) in
+      ∙ ap (flat_map characters) units
+      ∙ ap (λ l. characters h.unit ++ l) (units-tile (chars rest)) in
       let cut = cut_text text (characters h.unit) (chars rest) utf8 tiles in
       let len : length unit ≡ place = omega (
         arith,
@@ -203,7 +209,7 @@ module _ {text : List ℕ} {place : ℕ} {rest : List ℕ} {state : TerminalStat
       ) in
       subst (λ n. take n text ≡ unit) len cut.front
 
--- what a text is where it begins with a unit of so many bytes, which stays or not, before what is left
+-- a text begins with a unit of so many bytes, which stays or not, before what is left
 pub record IsFirst (text : List ℕ) (len : ℕ) (stays : Bool) (left : List ℕ) : Type 0 where
   pub kept : without_other_sequences text
       ≡ cond stays (take len text) [] ++ without_other_sequences left
@@ -218,7 +224,8 @@ first-kept unit front others true is bytes =
     rw is (encodes-append (characters unit) rest ∙ ap (λ l. l ++ encode_utf8_all rest) (sym bytes))
 first-kept unit front others false is bytes = rw is refl
 
-pub first-end : {text : List ℕ} {place : ℕ} {rest : List ℕ} {state : TerminalState} {first : ℕ} {is : Bool}
+pub first-end : {text : List ℕ} {place : ℕ} {rest : List ℕ} {state : TerminalState} {first : ℕ}
+    {is : Bool}
     → IsInFirst text place rest state first is → IsUtf8 text → (state ≡ Text) ⊎ (length rest ≡ 0)
     → IsFirst text place (stays first is) (drop place text)
 first-end {text} {place} {rest} {state} {first} {is} h utf8 over =
@@ -228,7 +235,8 @@ first-end {text} {place} {rest} {state} {first} {is} h utf8 over =
     let others = terminal_units (chars rest) in
     let here : IsFirst text place (stays first is) rest = record {
       kept = ap (λ us. encode_utf8_all (flat_map characters (filter is_kept us))) all
-          ∙ first-kept h.unit (take place text) others (stays first is) told (first-bytes h utf8 all);
+          ∙ first-kept h.unit (take place text) others (stays first is) told
+          (first-bytes h utf8 all);
       other = ap (list_all is_kept) all ∙ ap (λ b. b && list_all is_kept others) told;
     } in
     subst (IsFirst text place (stays first is)) (sym h.read.place) here
@@ -241,7 +249,8 @@ kept-none rest none =
 
 pub other-none : (rest : List ℕ) → length rest ≡ 0 → has_no_other rest ≡ true
 other-none rest none =
-    ap (λ cs. list_all is_kept (terminal_units cs)) (ap chars (nil_from_length rest none) ∙ chars-nil)
+    ap (λ cs. list_all is_kept (terminal_units cs))
+    (ap chars (nil_from_length rest none) ∙ chars-nil)
 
 filter-all : (us : List TextUnit) → list_all is_kept us ≡ true → filter is_kept us ≡ us
 filter-all [] all = refl
@@ -252,4 +261,5 @@ filter-all (u ∷ us) all =
 pub all-kept : (text : List ℕ) → IsUtf8 text → has_no_other text ≡ true
     → without_other_sequences text ≡ text
 all-kept text utf8 all = ap encode_utf8_all (ap (flat_map characters)
-    (filter-all (terminal_units (chars text)) all) ∙ units-tile (chars text)) ∙ encodes-chars text utf8
+    (filter-all (terminal_units (chars text)) all) ∙ units-tile (chars text))
+    ∙ encodes-chars text utf8

@@ -71,7 +71,8 @@ library-ends start cs (inr command) passes =
     rw command (common-passes Command 93 cs (sym (library-command cs) ∙ (rw command at passes)))
 
 library-before : (start : ℕ) (cs : List ℕ) (k : ℕ) → (start ≡ 91) ⊎ (start ≡ 93)
-    → ends_sequence escape (take k (start ∷ cs)) ≡ false → library.ends (take k (start ∷ cs)) ≡ false
+    → ends_sequence escape (take k (start ∷ cs)) ≡ false
+    → library.ends (take k (start ∷ cs)) ≡ false
 library-before start cs zero starts on = refl
 library-before start cs (suc k) starts on =
     elim (cases_Bool (library.ends (start ∷ take k cs))) [
@@ -95,7 +96,8 @@ sequence-whole cs c body shape before is =
       (rest, h.shape, h.ends, λ k below. library-before h.start h.rest k h.starts (early k below)),
     )
 
-kept-whole : (u : TextUnit) → IsWholeUnit u ⊎ IsOpenUnit u → is_kept u ≡ true → IsWholeUnit u × library.IsWhole u
+kept-whole : (u : TextUnit) → IsWholeUnit u ⊎ IsOpenUnit u → is_kept u ≡ true
+    → IsWholeUnit u × library.IsWhole u
 kept-whole (Visible c) (inl whole) is = (whole, λ e. true≢false (rw e at whole))
 kept-whole (Visible c) (inr open_last) is = absurd open_last
 kept-whole (Sequence cs) (inl (c, body, shape, opens, stop, before)) is =
@@ -160,7 +162,8 @@ kept-utf8 (u ∷ us) utf8 =
       | inr dropped ↦ rw dropped rest
     ]
 
-kept-chars : (text : List ℕ) → IsUtf8 text → chars (without_other_sequences text) ≡ specs.kept (chars text)
+kept-chars : (text : List ℕ) → IsUtf8 text
+    → chars (without_other_sequences text) ≡ specs.kept (chars text)
 kept-chars text utf8 =
     let whole = encodes-chars text utf8 in
     let tiled = subst IsUtf8 (sym (ap encode_utf8_all (units-tile (chars text)) ∙ whole)) utf8 in
@@ -176,7 +179,8 @@ measured text utf8 =
     let same : stay ≡ library.units (specs.kept (chars text)) =
     (units_unique (specs.kept (chars text)) stay).0 (refl, common) in
     ap (λ cs. sum_by columns (library.visible cs)) (kept-chars text utf8)
-    ∙ ap (λ l. sum_by columns (flat_map visible_of l)) (sym same) ∙ units_width-is stay ∙ kept-width us
+    ∙ ap (λ l. sum_by columns (flat_map visible_of l)) (sym same)
+    ∙ units_width-is stay ∙ kept-width us
 
 pub stay : (text : List ℕ) → IsUtf8 text
     → without_other_sequences (without_other_sequences text) ≡ without_other_sequences text
@@ -184,5 +188,6 @@ stay text utf8 =
     let us = terminal_units (chars text) in
     let (terminal, common) = kept-are us (are_units (chars text)) in
     ap (λ cs. encode_utf8_all (specs.kept cs)) (kept-chars text utf8)
-    ∙ ap (λ l. encode_utf8_all (flat_map characters (filter is_kept l))) (units-of (filter is_kept us) terminal)
+    ∙ ap (λ l. encode_utf8_all (flat_map characters (filter is_kept l)))
+    (units-of (filter is_kept us) terminal)
     ∙ ap (λ l. encode_utf8_all (flat_map characters l)) (kept-twice us)

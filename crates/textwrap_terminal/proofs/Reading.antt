@@ -56,7 +56,8 @@ taken-opening c cs = elim (cases_eq c escape) [
   | inl is ↦ rw is refl
   | inr other ↦ elim (cases_Bool (is_control c)) [
     | inl control ↦ rw (ne_eqb c escape other, control)
-        (first-same cs (ends_sequence c) (ends_behind (control_part c) c) (λ l. rw (ne_eqb c escape other) refl)
+        (first-same cs (ends_sequence c) (ends_behind (control_part c) c)
+        (λ l. rw (ne_eqb c escape other) refl)
         ∙ taken-entered (control_part c) c cs)
     | inr visible ↦ rw (ne_eqb c escape other, visible, no_part c visible) refl
   ]
@@ -103,8 +104,8 @@ added-le : (s : TerminalState) (c : ℕ) → added s c ≤ length (encode_utf8 c
 added-le s c = grind (arith, cases_Bool, columns-le c)
 
 -- the reader has read up to the place, and the rest is left
-pub record IsMeasured (text : List ℕ) (place : ℕ) (rest : List ℕ) (state : TerminalState) (width : ℕ) :
-    Type 0 where
+pub record IsMeasured (text : List ℕ) (place : ℕ) (rest : List ℕ) (state : TerminalState)
+    (width : ℕ) : Type 0 where
   pub read : IsRead text place rest
   pub columns : terminal_width text ≡ width + columns_in state (chars rest)
   pub within : width ≤ place
@@ -114,7 +115,8 @@ measured-start text utf8 =
     record { read = read-start text utf8; columns = omega arith; within = omega arith }
 
 -- it goes over a character
-pub measured-step : (text : List ℕ) (place end c : ℕ) (rest after : List ℕ) (state : TerminalState) (width : ℕ)
+pub measured-step : (text : List ℕ) (place end c : ℕ) (rest after : List ℕ) (state : TerminalState)
+    (width : ℕ)
     → IsMeasured text place rest state width → rest ≡ encode_utf8 c ++ after
     → end ≡ place + length (encode_utf8 c)
     → IsMeasured text end after (next_state state c) (width + added state c)

@@ -9,7 +9,8 @@ use Rattle.textwrap_text.proofs.Units.Reading.{columns-printable}
 pub device_string_ended_by_a_bell : 1 ≡ terminal_width (27 ∷ 80 ∷ 97 ∷ 7 ∷ 98 ∷ []) → ⊥
 unfolding chars
 device_string_ended_by_a_bell wrong =
-    let right : terminal_width (27 ∷ 80 ∷ 97 ∷ 7 ∷ 98 ∷ []) ≡ 0 = refl in absurd (omega (arith, wrong, right))
+    let right : terminal_width (27 ∷ 80 ∷ 97 ∷ 7 ∷ 98 ∷ []) ≡ 0 = refl in
+    absurd (omega (arith, wrong, right))
 
 -- `ESC ( B a`: one column, but two where `ESC (` is whole.
 pub intermediates_not_taken : 2 ≡ terminal_width (27 ∷ 40 ∷ 66 ∷ 97 ∷ []) → ⊥

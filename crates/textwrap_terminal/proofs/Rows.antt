@@ -27,12 +27,14 @@ short_control = refl
 abbrev command : List ℕ → List ℕ
 command end = 27 ∷ 93 ∷ 97 ∷ end
 
-commands : map kept (command (7 ∷ 98 ∷ []) ∷ command (27 ∷ 92 ∷ 98 ∷ []) ∷ command (0x9C ∷ 98 ∷ []) ∷ [])
+commands : map kept (command (7 ∷ 98 ∷ []) ∷ command (27 ∷ 92 ∷ 98 ∷ [])
+    ∷ command (0x9C ∷ 98 ∷ []) ∷ [])
     ≡ command (7 ∷ 98 ∷ []) ∷ command (27 ∷ 92 ∷ 98 ∷ []) ∷ (98 ∷ []) ∷ []
 commands = refl
 
 -- DCS and OSC without an end
-open_ends : map kept ((97 ∷ 27 ∷ 80 ∷ 98 ∷ []) ∷ (97 ∷ 27 ∷ 93 ∷ 98 ∷ []) ∷ []) ≡ (97 ∷ []) ∷ (97 ∷ []) ∷ []
+open_ends : map kept ((97 ∷ 27 ∷ 80 ∷ 98 ∷ []) ∷ (97 ∷ 27 ∷ 93 ∷ 98 ∷ []) ∷ [])
+    ≡ (97 ∷ []) ∷ (97 ∷ []) ∷ []
 open_ends = refl
 
 -- ESC twice is a sequence, and `[ m` behind it is text

@@ -2,7 +2,7 @@
 use Rattle.textwrap_terminal.specs.TerminalUnits.{AreTerminalUnits, ends_sequence, first_len}
 use Rattle.textwrap_terminal.specs.TerminalUnits.{IsInTerminalUnits, IsOpenUnit, IsWholeUnit}
 use Rattle.textwrap_terminal.specs.TerminalUnits.{last_but_one, last_passes, opens_sequence}
-use Rattle.textwrap_terminal.specs.TerminalUnits.{taken_by, terminal_units, terminal_units_past}
+use Rattle.textwrap_terminal.specs.TerminalUnits.{terminal_units, terminal_units_past}
 use Rattle.textwrap_text.proofs.Common.{ap, ap₂, arith, Bool, cases_Bool, cases_lt, characters}
 use Rattle.textwrap_text.proofs.Common.{cond, drop, drop_all, false, flat_map, inl, inr, length}
 use Rattle.textwrap_text.proofs.Common.{length-append, length-take-le, List, refl, Sequence, subst}
@@ -16,7 +16,12 @@ use Rattle.textwrap_text.proofs.Lists.Parts.{last-cons}
 units_past-tile : (n : ℕ) (cs : List ℕ) → flat_map characters (terminal_units_past n cs) ≡ drop n cs
 units_past-tile n [] = sym (drop_all n [] (omega arith))
 units_past-tile zero (c ∷ cs) =
-    grind (arith, take-append-drop, units_past-tile (first_len cs (ends_sequence c)) cs, units_past-tile 0 cs)
+    grind (
+      arith,
+      take-append-drop,
+      units_past-tile (first_len cs (ends_sequence c)) cs,
+      units_past-tile 0 cs,
+    )
 units_past-tile (suc n) (c ∷ cs) = units_past-tile n cs
 
 pub units-tile : (cs : List ℕ) → flat_map characters (terminal_units cs) ≡ cs
@@ -83,37 +88,40 @@ first-stops (c ∷ cs) passes = elim (cases_Bool (passes [])) [
 
 -- ---- the units of a text are units
 
-pub AreTerminalUnits-cons : (u : TextUnit) (us : List TextUnit) → IsWholeUnit u → AreTerminalUnits us → AreTerminalUnits (u ∷ us)
+pub AreTerminalUnits-cons : (u : TextUnit) (us : List TextUnit) → IsWholeUnit u
+    → AreTerminalUnits us → AreTerminalUnits (u ∷ us)
 AreTerminalUnits-cons u [] whole rest = inl whole
 AreTerminalUnits-cons u (v ∷ us) whole rest = (whole, rest)
 
-sequence-units : (c : ℕ) (cs : List ℕ) (n : ℕ) → opens_sequence c ≡ true → StopsAt (ends_sequence c) cs n
-    → AreTerminalUnits (terminal_units_past n cs) → AreTerminalUnits (Sequence (c ∷ take n cs) ∷ terminal_units_past n cs)
+sequence-units : (c : ℕ) (cs : List ℕ) (n : ℕ) → opens_sequence c ≡ true
+    → StopsAt (ends_sequence c) cs n → AreTerminalUnits (terminal_units_past n cs)
+    → AreTerminalUnits (Sequence (c ∷ take n cs) ∷ terminal_units_past n cs)
 sequence-units c cs n opens stops rest =
     let len : length (take n cs) ≡ n = length-take-le n cs stops.within in
-    let before : (k : ℕ) → k < n → ends_sequence c (take k (take n cs)) ≡ false = grind (arith, take-take) in
+    let before : (k : ℕ) → k < n → ends_sequence c (take k (take n cs)) ≡ false =
+    grind (arith, take-take) in
     ⊎_elim
-    (λ (passed : ends_sequence c (take n cs) ≡ true). AreTerminalUnits-cons (Sequence (c ∷ take n cs))
-    (terminal_units_past n cs) (c, take n cs, refl, opens, passed, λ k below. before k (omega arith)) rest)
+    (λ (passed : ends_sequence c (take n cs) ≡ true).
+    AreTerminalUnits-cons (Sequence (c ∷ take n cs)) (terminal_units_past n cs)
+    (c, take n cs, refl, opens, passed, λ k below. before k (omega arith)) rest)
     (grind (arith, take_all, units_past-end)) stops.stop
 
-AreTerminalUnits-at : (c : ℕ) (cs : List ℕ) (b : Bool) → opens_sequence c ≡ b
-    → AreTerminalUnits (terminal_units_past (cond b (first_len cs (ends_sequence c)) 0) cs)
-    → AreTerminalUnits (cond b (Sequence (c ∷ take (first_len cs (ends_sequence c)) cs)) (Visible c) ∷ terminal_units_past
-    (cond b (first_len cs (ends_sequence c)) 0) cs)
-AreTerminalUnits-at c cs true is rest =
-    sequence-units c cs (first_len cs (ends_sequence c)) is (first-stops cs (ends_sequence c)) rest
-AreTerminalUnits-at c cs false is rest =
-    AreTerminalUnits-cons (Visible c) (terminal_units_past 0 cs) is rest
+are-at : (c : ℕ) (cs : List ℕ) (b : Bool) → opens_sequence c ≡ b
+    → ((n : ℕ) → AreTerminalUnits (terminal_units_past n cs))
+    → AreTerminalUnits (cond b (Sequence (c ∷ take (first_len cs (ends_sequence c)) cs)) (Visible c)
+    ∷ terminal_units_past (cond b (first_len cs (ends_sequence c)) 0) cs)
+are-at c cs true is past =
+    let len = first_len cs (ends_sequence c) in
+    sequence-units c cs len is (first-stops cs (ends_sequence c)) (past len)
+are-at c cs false is past = AreTerminalUnits-cons (Visible c) (terminal_units cs) is (past 0)
 
-AreTerminalUnits-units_past : (cs : List ℕ) (n : ℕ) → AreTerminalUnits (terminal_units_past n cs)
-AreTerminalUnits-units_past [] n = tt
-AreTerminalUnits-units_past (c ∷ cs) zero =
-    AreTerminalUnits-at c cs (opens_sequence c) refl (AreTerminalUnits-units_past cs (taken_by c cs))
-AreTerminalUnits-units_past (c ∷ cs) (suc n) = AreTerminalUnits-units_past cs n
+are-past : (cs : List ℕ) (n : ℕ) → AreTerminalUnits (terminal_units_past n cs)
+are-past [] n = tt
+are-past (c ∷ cs) zero = are-at c cs (opens_sequence c) refl (are-past cs)
+are-past (c ∷ cs) (suc n) = are-past cs n
 
 pub are_units : (cs : List ℕ) → AreTerminalUnits (terminal_units cs)
-are_units cs = AreTerminalUnits-units_past cs 0
+are_units cs = are-past cs 0
 
 -- ---- and no other list is
 
@@ -127,7 +135,8 @@ record Begins (cs : List ℕ) (us : List TextUnit) : Type 0 where
   stop : (ends_sequence opening body ≡ true) ⊎ (flat_map characters us ≡ [])
   rest : AreTerminalUnits us
 
-Begins-from : (cs : List ℕ) (us : List TextUnit) → AreTerminalUnits (Sequence cs ∷ us) → Begins cs us
+Begins-from : (cs : List ℕ) (us : List TextUnit) → AreTerminalUnits (Sequence cs ∷ us)
+    → Begins cs us
 Begins-from cs [] (inl whole) = grind arith
 Begins-from cs [] (inr open_last) = grind arith
 Begins-from cs (v ∷ us) (whole, rest) = grind arith
@@ -156,7 +165,8 @@ units_past-skip : (xs ys : List ℕ) → terminal_units_past (length xs) (xs ++ 
 units_past-skip [] ys = refl
 units_past-skip (x ∷ xs) ys = units_past-skip xs ys
 
-pub units-of : (us : List TextUnit) → AreTerminalUnits us → terminal_units (flat_map characters us) ≡ us
+pub units-of : (us : List TextUnit) → AreTerminalUnits us
+    → terminal_units (flat_map characters us) ≡ us
 units-of [] are = refl
 units-of (Visible c ∷ us) are =
     let (other, rest) = AreTerminalUnits-visible c us are in
@@ -167,14 +177,16 @@ units-of (Sequence cs ∷ us) are =
     rw (
       h.shape,
       h.opens,
-      StopsAt-whole (ends_sequence h.opening) h.body others _ (first-stops (h.body ++ others) (ends_sequence h.opening))
+      StopsAt-whole (ends_sequence h.opening) h.body others _
+          (first-stops (h.body ++ others) (ends_sequence h.opening))
           h.before h.stop,
       take_at h.body others (length h.body) refl,
       units_past-skip h.body others,
       units-of us h.rest,
     ) refl
 
-pub units_unique : (cs : List ℕ) (us : List TextUnit) → IsInTerminalUnits cs us ↔ (us ≡ terminal_units cs)
+pub units_unique : (cs : List ℕ) (us : List TextUnit)
+    → IsInTerminalUnits cs us ↔ (us ≡ terminal_units cs)
 units_unique cs us = (
   λ is. sym (units-of us is.1) ∙ ap terminal_units is.0,
   λ is. subst (IsInTerminalUnits cs) (sym is) (units-tile cs, are_units cs),

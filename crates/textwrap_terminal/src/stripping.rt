@@ -9,15 +9,14 @@ use crate::states::TerminalState;
 use std::alloc::{AllocError, Allocator};
 use std::borrow::CowStr;
 
-/// The text without those sequences that a terminal takes as such by the grammar of ECMA-48, as
-/// `terminal_width` tells, but the crate `textwrap` does not.
+/// The text without those sequences that a terminal takes as such by the grammar of ECMA-48 (see
+/// `terminal_width`) but the crate `textwrap` does not.
 ///
 /// What is visible on a terminal stays, and so do the sequences that begin with ESC and `[` and those
 /// that begin with ESC and `]`, if they have an end that `textwrap` takes as such, too: a command
 /// that U+009C ends is left out, as is a sequence without an end. `"\x1b(Ba\x1b[1mb"` becomes
-/// `"a\x1b[1mb"`. Each call of `textwrap` then measures what is left as a terminal does.
-///
-/// Where nothing is left out, the result is the text itself, and nothing is copied.
+/// `"a\x1b[1mb"`. What is left has for `display_width` of `textwrap` the columns that the text takes
+/// on a terminal. Where nothing is left out, the result is borrowed from the text.
 ///
 /// # Errors
 /// [`AllocError`] where memory runs out.

@@ -26,13 +26,15 @@ loop-at-preserved c =
     rw (c.step-state-in-loop-at.ensures, c.ends_common-is_common.ensures)
     (first-step c.loop-at.invariant c.in-Some-2.ch _ _ inside s.1 s.2)
 
-here : (c : After-stays) → IsFirst c.args.text.now c.in-Some-2.at c.stays.result (drop c.in-Some-2.at c.args.text.now)
+here : (c : After-stays) → IsFirst c.args.text.now c.in-Some-2.at c.stays.result
+    (drop c.in-Some-2.at c.args.text.now)
 here c =
     let over : c.loop-at.state ≡ Text = elim c.match-matches.branch [
       | goal.in-Text w ↦ w.in-Text.is
       | goal.in_default-matches w ↦ absurd (true≢false (sym c.if-matches.true ∙ w.matches-is))
     ] in
-    rw (c.stays.ensures, c.in-Some-2.ensures.steps.0) (first-end c.loop-at.invariant c.utf8.text (inl over))
+    rw (c.stays.ensures, c.in-Some-2.ensures.steps.0)
+    (first-end c.loop-at.invariant c.utf8.text (inl over))
 
 pub returns-then-matches-clause-kept : goal.returns-then-matches-clause-kept
 returns-then-matches-clause-kept c = (here c).kept
@@ -45,7 +47,8 @@ end : (c : After-stays-2) → IsFirst c.args.text.now (length c.args.text.now) c
 end c =
     let none = c.in-None.ensures.steps.0 in
     let at = read-all c.loop-at.invariant.read none in
-    rw c.stays-2.ensures (subst (λ n. IsFirst c.args.text.now n (stays c.in-Some.first c.loop-at.is_common)
+    rw c.stays-2.ensures
+    (subst (λ n. IsFirst c.args.text.now n (stays c.in-Some.first c.loop-at.is_common)
     (drop n c.args.text.now)) at (first-end c.loop-at.invariant c.utf8.text (inr none)))
 
 pub returns-clause-kept : goal.returns-clause-kept

@@ -5,5 +5,6 @@ use Rattle.textwrap_text.proofs.Common.{◌∙◌}
 
 pub returns : goal.returns
 returns g c = sym (c.loop-rest.invariant.whole ∙ ap (λ l. string_bytes c.loop-rest.plain ++ l)
-    (kept-none c.loop-rest.rest.now (eqb-true (length c.loop-rest.rest.now) 0 (sym c.loop-rest-test.ensures)))
+    (kept-none c.loop-rest.rest.now
+    (eqb-true (length c.loop-rest.rest.now) 0 (sym c.loop-rest-test.ensures)))
     ∙ append-nil (string_bytes c.loop-rest.plain))

@@ -31,4 +31,5 @@ pub loop-ch-preserved : goal.loop-ch-preserved
 loop-ch-preserved c = past (goal.at.loop-ch-preserved c).Joined-is_visible
 
 pub returns-clause-width : goal.returns-clause-width
-returns-clause-width c = measured-end c.args.text.now _ _ _ _ c.loop-ch.invariant c.in-None.ensures.steps.0
+returns-clause-width c =
+    measured-end c.args.text.now _ _ _ _ c.loop-ch.invariant c.in-None.ensures.steps.0

@@ -179,8 +179,9 @@ pub fn terminal_width(text: &str) -> usize {
 
 /// The text without those sequences that a terminal takes as such and the other calls do not.
 ///
-/// Colours and links stay. Call this before a text from a terminal is filled or aligned: of what is left
-/// each call counts the columns as a terminal does.
+/// Colours and links stay. Call this before a text from a terminal is filled or aligned: by
+/// [`display_width`](crate::core::display_width()) what is left has the columns that [`terminal_width`]
+/// counts.
 ///
 /// # Examples
 ///

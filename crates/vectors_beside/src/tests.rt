@@ -9,4 +9,5 @@ mod marked;
 mod plain;
 mod programs;
 mod refusals;
+mod terminal;
 mod uses;

@@ -271,12 +271,6 @@ const FILLED: &[TextRow<'_>] = &[
     ((TextCall::Fill(AT_11), b"the hy\xc2\xadphenation"), (DONE, 19, b"the hy\xc2\xadphen-\nation__")),
     ((TextCall::Fill(TextwrapOptions { dictionary: SOFT, ..AT_11 }), b"the hy\xc2\xadphenation"), (DONE, 19, b"the hy\xc2\xad-\nphenation__")),
     ((TextCall::Fill(TextwrapOptions { split_at_hyphens: 0, ..AT_11 }), b"the re-hyphenation"), (DONE, 19, b"the re-\nhyphenation__")),
-    // A line without room, one with a blank in front, and one that is wider than the later ones.
-    ((TextCall::Fill(AT_4), b"aaaa hyphenation"), (DONE, 22, b"aaaa\nhy-\nphe\nn-\natio\nn__")),
-    ((TextCall::Fill(TextwrapOptions { width: 5, ..AT_11 }), b"aa bb hyphenation cc"), (DONE, 24, b"aa bb\nhy-\nphen-\nation\ncc__")),
-    ((TextCall::Fill(TextwrapOptions { width: 8, ..AT_11 }), b"  hyphenation"), (DONE, 17, b"  hy-\nphen-\nation__")),
-    ((TextCall::Fill(TextwrapOptions { width: 8, subsequent_indent: b"    ", ..AT_11 }), b"a hyphenation"),
-        (DONE, 29, b"a hyphe\n    n-\n    atio\n    n__")),
     // No line ends within the address of a link, unless any hyphen is a point.
     ((TextCall::Fill(AT_4), LINK), (DONE, 23, OUTSIDE)),
     ((TextCall::Fill(TextwrapOptions { split_at_hyphens: 2, dictionary: NO_DICTIONARY, ..AT_4 }), LINK), (DONE, 23, OUTSIDE)),
@@ -287,6 +281,16 @@ const FILLED: &[TextRow<'_>] = &[
     ((TextCall::Fill(TextwrapOptions { optimal_fit: 1, ..AT_11 }), b"the hyphenation"), (DONE, 17, b"the hyphen-\nation__")),
     ((TextCall::Fill(TextwrapOptions { optimal_fit: 1, hyphen_penalty: 1_000_000, ..AT_11 }), b"the hyphenation"), (DONE, 15, b"the\nhyphenation__")),
     ((TextCall::FillJustified(TextwrapOptions { width: 13, ..AT_11 }), b"a b hyphenation"), (DONE, 19, b"a  b  hyphen-\nation__")),
+];
+
+/// A line without room, one with blanks in front, and one that is wider than the later ones.
+#[rattlefmt::skip]
+const NARROW_LINES: &[TextRow<'_>] = &[
+    ((TextCall::Fill(AT_4), b"aaaa hyphenation"), (DONE, 22, b"aaaa\nhy-\nphe\nn-\natio\nn__")),
+    ((TextCall::Fill(TextwrapOptions { width: 5, ..AT_11 }), b"aa bb hyphenation cc"), (DONE, 24, b"aa bb\nhy-\nphen-\nation\ncc__")),
+    ((TextCall::Fill(TextwrapOptions { width: 8, ..AT_11 }), b"  hyphenation"), (DONE, 17, b"  hy-\nphen-\nation__")),
+    ((TextCall::Fill(TextwrapOptions { width: 8, subsequent_indent: b"    ", ..AT_11 }), b"a hyphenation"),
+        (DONE, 29, b"a hyphe\n    n-\n    atio\n    n__")),
 ];
 
 /// Words that end nobody knows where.
@@ -359,6 +363,7 @@ const REFUSED_LINES: &[RefusedLines] = &[
 #[test]
 fn texts_are_filled_with_hyphens(rt: HostRuntime) {
     assert_texts(&rt, FILLED);
+    assert_texts(&rt, NARROW_LINES);
     assert_no_texts(&rt, REFUSED_TEXTS);
     assert_no_texts(&rt, REFUSED_REFILLS);
     assert_beginnings(&rt, FILLED);

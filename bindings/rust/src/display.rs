@@ -17,6 +17,7 @@
 //! If memory runs out, a call [ends the program](crate#memory), and its twin in [`fallible`] returns
 //! [`OutOfMemory`](crate::OutOfMemory).
 use crate::out_of_memory::or_abort;
+use crate::room::value_by;
 use crate::sys;
 use crate::Options;
 use alloc::borrow::Cow;

@@ -2,7 +2,7 @@
 mod drawn;
 
 use drawn::Random;
-use textwrap_proved::core::Word;
+use textwrap_proved::core::{display_width, Word};
 use textwrap_proved::display::{
     align, balanced_width, carry_attributes, carry_styles, expand_tabs, fallible, fill_justified,
     fitting_widths, justify, shorten, shorten_by, shorten_lines, shorten_lines_by,

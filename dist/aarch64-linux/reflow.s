@@ -4,7 +4,7 @@
 # proved and compiled with: rattle-kit-13f logic dac8208d650f15bf
 # proved for: aarch64-unknown-linux-gnu
 # crates: textwrap_text textwrap_base textwrap_words textwrap_layout textwrap_lines textwrap textwrap_unicode textwrap_styles textwrap_display textwrap_patterns textwrap_dictionaries textwrap_hyphens textwrap_marks textwrap_marked_lines textwrap_marked textwrap_plain textwrap_program text_files text_filters filter_programs reflow
-# sum of their sources: df9973961f8a5627ba63e3d5cc2e534dbbf5b3a0289d648914f29edf47c5e62a
+# sum of their sources: a9f7e722236166bdd5d82a063ee0773fe76db04998d0e932b2e8c48633a5f71b
 # sum of the lines below: dacb5a05a876706890f8be6fea3f2f94b99fadd08385825aec9084c4b4bbb839
 	.section	".text.unlikely.std_alloc::vec::Vec::grow_amortized::<#553c9850ab767779>","ax",@progbits
 	.p2align	2

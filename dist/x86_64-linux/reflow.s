@@ -4,7 +4,7 @@
 # proved and compiled with: rattle-kit-13f logic dac8208d650f15bf
 # proved for: x86_64-unknown-linux-gnu
 # crates: textwrap_text textwrap_base textwrap_words textwrap_layout textwrap_lines textwrap textwrap_unicode textwrap_styles textwrap_display textwrap_patterns textwrap_dictionaries textwrap_hyphens textwrap_marks textwrap_marked_lines textwrap_marked textwrap_plain textwrap_program text_files text_filters filter_programs reflow
-# sum of their sources: df9973961f8a5627ba63e3d5cc2e534dbbf5b3a0289d648914f29edf47c5e62a
+# sum of their sources: a9f7e722236166bdd5d82a063ee0773fe76db04998d0e932b2e8c48633a5f71b
 # sum of the lines below: 4d3a2df741d237e9d7141a3d5d24df39aad7d9219b2359bef6113a7d78a6dd43
 	.section	.rodata.cst16,"aM",@progbits,16
 	.p2align	4, 0x0

@@ -9,5 +9,4 @@ mod marked;
 mod plain;
 mod programs;
 mod refusals;
-mod terminal;
 mod uses;

@@ -434,8 +434,9 @@ TEXTWRAP_CHECKED
 textwrap_status textwrap_terminal_width(const uint8_t *text, size_t text_len, size_t *columns);
 
 /* Writes the text without the sequences that a terminal takes as such and the other calls do not: charsets,
- * control strings but commands (OSC), and the controls from U+0080 to U+009F. Colours and links stay. By
- * textwrap_display_width what is left has the columns that the text takes on a terminal. */
+ * control strings but commands (OSC), and the controls from U+0080 to U+009F; also a command that U+009C ends,
+ * and a sequence without an end. Colours and links stay. By textwrap_display_width what is left has the columns
+ * that the text takes on a terminal. */
 TEXTWRAP_CHECKED
 textwrap_status textwrap_strip_other_sequences(const uint8_t *text, size_t text_len, uint8_t *room,
                                                size_t room_len, size_t *len);

@@ -180,7 +180,8 @@ pub fn terminal_width(text: &str) -> usize {
 
 /// The text without those sequences that a terminal takes as such and the other calls do not.
 ///
-/// Colours and links stay. Call this before a text from a terminal is filled or aligned: by
+/// Left out, too, are a command (OSC) that U+009C ends and a sequence without an end. Colours and links
+/// stay. Call this before a text from a terminal is filled or aligned: by
 /// [`display_width`](crate::core::display_width()) what is left has the columns that [`terminal_width`]
 /// counts.
 ///
